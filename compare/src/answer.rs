@@ -1,0 +1,115 @@
+//! What the two calls answer, with the numbers and places of the requirements.
+
+use std::fmt;
+
+/// Why an input is turned away. A refusal changes no lent octet.
+#[derive(Clone, Copy, Debug, PartialEq, Eq)]
+pub enum Refusal {
+    RequestTooLong,
+    /// The request is empty (`name` is 0) or this name breaks a rule.
+    BadRequestedName {
+        name: usize,
+    },
+    /// Octets remain behind the last name allowed; that many names were read.
+    TooManyNames {
+        read: usize,
+    },
+    BadIssuer,
+    BookTooLong,
+    BadRecord {
+        record: usize,
+    },
+    /// Octets remain behind the last record allowed; that many records were read.
+    TooManyRecords {
+        read: usize,
+    },
+    BufferTooShort {
+        needed: usize,
+    },
+}
+
+impl Refusal {
+    pub fn number(self) -> u8 {
+        match self {
+            Refusal::RequestTooLong => 1,
+            Refusal::BadRequestedName { .. } => 2,
+            Refusal::TooManyNames { .. } => 3,
+            Refusal::BadIssuer => 4,
+            Refusal::BookTooLong => 5,
+            Refusal::BadRecord { .. } => 6,
+            Refusal::TooManyRecords { .. } => 7,
+            Refusal::BufferTooShort { .. } => 8,
+        }
+    }
+
+    pub fn place(self) -> usize {
+        match self {
+            Refusal::RequestTooLong | Refusal::BadIssuer | Refusal::BookTooLong => 0,
+            Refusal::BadRequestedName { name } => name,
+            Refusal::TooManyNames { read } | Refusal::TooManyRecords { read } => read,
+            Refusal::BadRecord { record } => record,
+            Refusal::BufferTooShort { needed } => needed,
+        }
+    }
+}
+
+impl fmt::Display for Refusal {
+    fn fmt(&self, f: &mut fmt::Formatter<'_>) -> fmt::Result {
+        write!(f, "refused {} at {}", self.number(), self.place())
+    }
+}
+
+/// The answer of [`judge`](crate::judge()): a verdict, or a refusal.
+#[derive(Clone, Copy, Debug, PartialEq, Eq)]
+pub enum Answer {
+    /// Verdict 0.
+    Permitted,
+    /// Verdict 20: the lowest name not permitted, and the first unknown critical record of its set.
+    UnknownCritical {
+        name: usize,
+        record: usize,
+    },
+    /// Verdict 21: the lowest name not permitted, and the first record that governs it.
+    NotGranted {
+        name: usize,
+        record: usize,
+    },
+    Refused(Refusal),
+}
+
+impl fmt::Display for Answer {
+    fn fmt(&self, f: &mut fmt::Formatter<'_>) -> fmt::Result {
+        match self {
+            Answer::Permitted => write!(f, "verdict 0"),
+            Answer::UnknownCritical { name, record } => {
+                write!(f, "verdict 20 name {name} record {record}")
+            }
+            Answer::NotGranted { name, record } => {
+                write!(f, "verdict 21 name {name} record {record}")
+            }
+            Answer::Refused(refusal) => refusal.fmt(f),
+        }
+    }
+}
+
+/// The answer of [`permitted_issuers`](crate::permitted_issuers). The list itself is in the buffer.
+#[derive(Clone, Copy, Debug, PartialEq, Eq)]
+pub enum Permitted {
+    Anyone,
+    /// `count` names in `octets` octets at the front of the buffer.
+    List {
+        count: usize,
+        octets: usize,
+    },
+    Refused(Refusal),
+}
+
+impl fmt::Display for Permitted {
+    fn fmt(&self, f: &mut fmt::Formatter<'_>) -> fmt::Result {
+        match self {
+            Permitted::Anyone => write!(f, "anyone"),
+            Permitted::List { count, octets } => write!(f, "list of {count} in {octets} octets"),
+            Permitted::Refused(refusal) => refusal.fmt(f),
+        }
+    }
+}

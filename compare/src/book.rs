@@ -1,0 +1,187 @@
+//! The book: resource records in the form of RFC 1035 section 4.1.3, without compression, end to
+//! end. Every record has a number, its place in the book from 0 on, CAA or not.
+
+use crate::answer::Refusal;
+use crate::limits::{BOOK_OCTETS, BOOK_RECORDS};
+use crate::name::{read_name, Name};
+
+const CLASS_IN: u16 = 1;
+const TYPE_CAA: u16 = 257;
+
+/// The flag bit worth 128, "bit 0" in RFC 8659 section 4.1. The other seven mean nothing.
+const CRITICAL: u8 = 128;
+
+#[derive(Clone, Debug)]
+pub struct Record {
+    pub owner: Name,
+    pub data: RecordData,
+}
+
+/// Records other than CAA keep no data: they are counted and passed over.
+#[derive(Clone, Debug)]
+pub enum RecordData {
+    Caa(Property),
+    Other,
+}
+
+/// What one CAA record says (RFC 8659 section 4.1).
+#[derive(Clone, Debug, PartialEq, Eq)]
+pub struct Property {
+    pub flags: u8,
+    pub tag: Vec<u8>,
+    pub value: Vec<u8>,
+}
+
+impl Property {
+    pub fn is_critical(&self) -> bool {
+        self.flags & CRITICAL != 0
+    }
+
+    /// Property tags match whatever their letter case.
+    pub fn has_tag(&self, tag: &str) -> bool {
+        self.tag.eq_ignore_ascii_case(tag.as_bytes())
+    }
+}
+
+pub fn read_book(octets: &[u8]) -> Result<Vec<Record>, Refusal> {
+    if octets.len() > BOOK_OCTETS {
+        return Err(Refusal::BookTooLong);
+    }
+    let mut records = Vec::new();
+    let mut rest = octets;
+    while !rest.is_empty() {
+        let read = records.len();
+        if read == BOOK_RECORDS {
+            return Err(Refusal::TooManyRecords { read });
+        }
+        let (record, behind) = read_record(rest).ok_or(Refusal::BadRecord { record: read })?;
+        records.push(record);
+        rest = behind;
+    }
+    Ok(records)
+}
+
+fn read_record(octets: &[u8]) -> Option<(Record, &[u8])> {
+    let (owner, rest) = read_name(octets)?;
+    let (rtype, rest) = read_number(rest)?;
+    let (class, rest) = read_number(rest)?;
+    let (_time_to_live, rest) = rest.split_first_chunk::<4>()?;
+    let (length, rest) = read_number(rest)?;
+    let (rdata, rest) = rest.split_at_checked(usize::from(length))?;
+    let data = if class == CLASS_IN && rtype == TYPE_CAA {
+        RecordData::Caa(read_property(rdata)?)
+    } else {
+        RecordData::Other
+    };
+    Some((Record { owner, data }, rest))
+}
+
+fn read_number(octets: &[u8]) -> Option<(u16, &[u8])> {
+    let (number, rest) = octets.split_first_chunk()?;
+    Some((u16::from_be_bytes(*number), rest))
+}
+
+fn read_property(rdata: &[u8]) -> Option<Property> {
+    let (&[flags, tag_length], rest) = rdata.split_first_chunk()?;
+    let (tag, value) = rest.split_at_checked(usize::from(tag_length))?;
+    if tag.is_empty() {
+        return None;
+    }
+    Some(Property {
+        flags,
+        tag: tag.to_vec(),
+        value: value.to_vec(),
+    })
+}
+
+#[cfg(test)]
+mod tests {
+    use super::*;
+
+    /// A record of owner `a` with time to live 1.
+    fn record(rtype: u16, class: u16, rdata: &[u8]) -> Vec<u8> {
+        let mut octets = b"\x01a\x00".to_vec();
+        octets.extend(rtype.to_be_bytes());
+        octets.extend(class.to_be_bytes());
+        octets.extend([0, 0, 0, 1]);
+        octets.extend((rdata.len() as u16).to_be_bytes());
+        octets.extend(rdata);
+        octets
+    }
+
+    fn only_property(octets: &[u8]) -> Property {
+        match &read_book(octets).unwrap()[..] {
+            [Record {
+                data: RecordData::Caa(property),
+                ..
+            }] => property.clone(),
+            other => panic!("not one CAA record: {other:?}"),
+        }
+    }
+
+    #[test]
+    fn caa_data_is_flags_tag_and_value() {
+        let property = only_property(&record(257, 1, b"\x80\x05Issueca.net"));
+        assert_eq!(
+            property,
+            Property {
+                flags: 128,
+                tag: b"Issue".to_vec(),
+                value: b"ca.net".to_vec(),
+            }
+        );
+        assert!(property.is_critical());
+        assert!(property.has_tag("issue"));
+        assert!(!property.has_tag("issuewild"));
+    }
+
+    #[test]
+    fn a_value_may_be_empty_but_a_tag_may_not() {
+        assert_eq!(only_property(&record(257, 1, b"\x7F\x01x")).value, b"");
+        for rdata in [&b""[..], b"\x00", b"\x00\x00", b"\x00\x00x", b"\x00\x02x"] {
+            let octets = record(257, 1, rdata);
+            assert_eq!(
+                read_book(&octets).unwrap_err(),
+                Refusal::BadRecord { record: 0 }
+            );
+        }
+    }
+
+    #[test]
+    fn only_class_1_with_type_257_is_caa() {
+        for (rtype, class) in [(257, 3), (1, 1), (1, 257), (256, 1), (258, 1)] {
+            let octets = record(rtype, class, b"");
+            let records = read_book(&octets).unwrap();
+            assert!(matches!(records[0].data, RecordData::Other));
+        }
+    }
+
+    #[test]
+    fn a_record_cut_anywhere_is_refused_under_its_number() {
+        let whole = record(257, 1, b"\x00\x05issueca.net");
+        for cut in 1..whole.len() {
+            let octets = [whole.as_slice(), &whole[..cut]].concat();
+            assert_eq!(
+                read_book(&octets).unwrap_err(),
+                Refusal::BadRecord { record: 1 }
+            );
+        }
+    }
+
+    #[test]
+    fn the_length_is_looked_at_before_the_records() {
+        assert_eq!(
+            read_book(&[0xFF; 32_769]).unwrap_err(),
+            Refusal::BookTooLong
+        );
+        assert_eq!(
+            read_book(&[0xFF; 32_768]).unwrap_err(),
+            Refusal::BadRecord { record: 0 }
+        );
+    }
+
+    #[test]
+    fn an_empty_book_is_good() {
+        assert!(read_book(b"").unwrap().is_empty());
+    }
+}

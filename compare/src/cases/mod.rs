@@ -1,0 +1,30 @@
+//! Stored cases: inputs in a readable notation, and the answers worked out by hand for them. The
+//! notation is described in `cases/README.md`.
+
+mod notation;
+mod reader;
+mod runner;
+
+pub use reader::{read_cases, Case};
+pub use runner::{run, Desk, Report};
+
+/// Every stored case file, by name.
+pub const FILES: [(&str, &str); 8] = [
+    ("whole-case.txt", include_str!("../../cases/whole-case.txt")),
+    ("rfc8659.txt", include_str!("../../cases/rfc8659.txt")),
+    ("values.txt", include_str!("../../cases/values.txt")),
+    ("rule.txt", include_str!("../../cases/rule.txt")),
+    ("permitted.txt", include_str!("../../cases/permitted.txt")),
+    ("request.txt", include_str!("../../cases/request.txt")),
+    ("issuer.txt", include_str!("../../cases/issuer.txt")),
+    ("book.txt", include_str!("../../cases/book.txt")),
+];
+
+/// The cases of all files.
+pub fn stored() -> Result<Vec<Case>, String> {
+    let mut cases = Vec::new();
+    for (file, text) in FILES {
+        cases.extend(read_cases(file, text)?);
+    }
+    Ok(cases)
+}

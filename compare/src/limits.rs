@@ -1,0 +1,16 @@
+//! The limits of the requirements, each under one name.
+
+/// Octets of a request.
+pub const REQUEST_OCTETS: usize = 8_192;
+/// Names in a request.
+pub const REQUEST_NAMES: usize = 100;
+/// Octets of a book.
+pub const BOOK_OCTETS: usize = 32_768;
+/// Records in a book.
+pub const BOOK_RECORDS: usize = 256;
+/// Octets of a name in wire form, its closing zero octet included (RFC 1035 section 2.3.4).
+pub const NAME_OCTETS: usize = 255;
+/// Octets of a label (RFC 1035 section 2.3.4).
+pub const LABEL_OCTETS: usize = 63;
+/// Octets of an issuer domain name as text.
+pub const ISSUER_OCTETS: usize = 253;

@@ -1,0 +1,87 @@
+//! Who may sign this request?
+
+use crate::answer::{Permitted, Refusal};
+use crate::book::read_book;
+use crate::issuer::IssuerName;
+use crate::request::read_request;
+use crate::rule::{standing, Standing};
+
+/// Writes the permitted issuer names to the front of `buffer`, each as a length octet and the name
+/// in small letters. Nothing else of the buffer changes; on a refusal and on "anyone" nothing does.
+pub fn permitted_issuers(request: &[u8], book: &[u8], buffer: &mut [u8]) -> Permitted {
+    list(request, book, buffer).unwrap_or_else(Permitted::Refused)
+}
+
+fn list(request: &[u8], book: &[u8], buffer: &mut [u8]) -> Result<Permitted, Refusal> {
+    let names = read_request(request)?;
+    let book = read_book(book)?;
+    let restricted: Vec<Standing> = names
+        .iter()
+        .map(|name| standing(&book, name))
+        .filter(|standing| *standing != Standing::Unrestricted)
+        .collect();
+    let Some(lowest) = restricted.first() else {
+        return Ok(Permitted::Anyone);
+    };
+    let issuers = granted_by_all(lowest, &restricted);
+    let encoded: Vec<u8> = issuers.iter().flat_map(list_entry).collect();
+    let needed = encoded.len();
+    buffer
+        .get_mut(..needed)
+        .ok_or(Refusal::BufferTooShort { needed })?
+        .copy_from_slice(&encoded);
+    Ok(Permitted::List {
+        count: issuers.len(),
+        octets: needed,
+    })
+}
+
+/// The grantees of the lowest restricted name that every restricted name permits, each once, in the
+/// order of the first record that grants it.
+fn granted_by_all<'a>(lowest: &'a Standing, restricted: &[Standing]) -> Vec<&'a IssuerName> {
+    let candidates = match lowest {
+        Standing::Governed { grantees, .. } => grantees.as_slice(),
+        Standing::Unrestricted | Standing::UnknownCritical { .. } => &[],
+    };
+    let mut listed = Vec::new();
+    for candidate in candidates {
+        if !listed.contains(&candidate) && restricted.iter().all(|s| s.permits(candidate)) {
+            listed.push(candidate);
+        }
+    }
+    listed
+}
+
+/// An issuer name is at most 253 octets, so its length always fits one octet.
+fn list_entry<'a>(issuer: &&'a IssuerName) -> impl Iterator<Item = u8> + 'a {
+    let name = issuer.octets();
+    std::iter::once(name.len() as u8).chain(name.iter().copied())
+}
+
+#[cfg(test)]
+mod tests {
+    use super::*;
+
+    /// No stored case has as many names as a book has records.
+    #[test]
+    fn a_list_of_256_names() {
+        let mut book = Vec::new();
+        let mut list = Vec::new();
+        for number in 0..256 {
+            let issuer = format!("ca{number:03}");
+            book.extend(b"\x01a\x00\x01\x01\x00\x01\x00\x00\x00\x00\x00\x0C\x00\x05issue");
+            book.extend(issuer.as_bytes());
+            list.push(5);
+            list.extend(issuer.as_bytes());
+        }
+        let mut buffer = vec![0xFF; 256 * 6];
+        assert_eq!(
+            permitted_issuers(b"\x01a\x00", &book, &mut buffer),
+            Permitted::List {
+                count: 256,
+                octets: 1_536
+            }
+        );
+        assert_eq!(buffer, list);
+    }
+}

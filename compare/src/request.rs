@@ -1,0 +1,103 @@
+//! The request: names in wire form, end to end.
+
+use crate::answer::Refusal;
+use crate::limits::{REQUEST_NAMES, REQUEST_OCTETS};
+use crate::name::{is_ldh_label, read_name, Name};
+
+/// A requested name X or `*.X`.
+#[derive(Clone, Debug)]
+pub struct RequestedName {
+    /// Whether `*.X` was asked for (a Wildcard Domain Name, RFC 8659 section 2.2).
+    pub wildcard: bool,
+    /// X; never the root.
+    pub fqdn: Name,
+}
+
+pub fn read_request(octets: &[u8]) -> Result<Vec<RequestedName>, Refusal> {
+    if octets.len() > REQUEST_OCTETS {
+        return Err(Refusal::RequestTooLong);
+    }
+    if octets.is_empty() {
+        return Err(Refusal::BadRequestedName { name: 0 });
+    }
+    let mut names = Vec::new();
+    let mut rest = octets;
+    while !rest.is_empty() {
+        let read = names.len();
+        if read == REQUEST_NAMES {
+            return Err(Refusal::TooManyNames { read });
+        }
+        let (name, behind) =
+            read_requested_name(rest).ok_or(Refusal::BadRequestedName { name: read })?;
+        names.push(name);
+        rest = behind;
+    }
+    Ok(names)
+}
+
+fn read_requested_name(octets: &[u8]) -> Option<(RequestedName, &[u8])> {
+    let (mut fqdn, rest) = read_name(octets)?;
+    let wildcard = fqdn.labels.first().is_some_and(|label| label == b"*");
+    if wildcard {
+        fqdn.labels.remove(0);
+    }
+    let good = !fqdn.labels.is_empty() && fqdn.labels.iter().all(|label| is_ldh_label(label));
+    good.then_some((RequestedName { wildcard, fqdn }, rest))
+}
+
+#[cfg(test)]
+mod tests {
+    use super::*;
+
+    fn refusal(octets: &[u8]) -> Refusal {
+        read_request(octets).unwrap_err()
+    }
+
+    #[test]
+    fn a_star_is_kept_apart_from_the_name_under_it() {
+        let names = read_request(b"\x01*\x01a\x02bc\x00\x01a\x00").unwrap();
+        assert_eq!(names.len(), 2);
+        assert!(names[0].wildcard);
+        assert_eq!(names[0].fqdn.labels, [b"a".to_vec(), b"bc".to_vec()]);
+        assert!(!names[1].wildcard);
+        assert_eq!(names[1].fqdn.labels, [b"a".to_vec()]);
+    }
+
+    #[test]
+    fn root_and_bare_star_are_no_requested_names() {
+        assert_eq!(refusal(b"\x00"), Refusal::BadRequestedName { name: 0 });
+        assert_eq!(
+            refusal(b"\x01a\x00\x01*\x00"),
+            Refusal::BadRequestedName { name: 1 }
+        );
+    }
+
+    #[test]
+    fn a_star_is_the_whole_first_label_or_nothing() {
+        for bad in [
+            &b"\x01a\x01*\x00"[..],
+            b"\x01*\x01*\x01a\x00",
+            b"\x02**\x01a\x00",
+            b"\x02*a\x01a\x00",
+        ] {
+            assert_eq!(refusal(bad), Refusal::BadRequestedName { name: 0 });
+        }
+    }
+
+    #[test]
+    fn the_length_is_looked_at_before_the_names() {
+        assert_eq!(refusal(&[0xFF; 8_193]), Refusal::RequestTooLong);
+        assert_eq!(
+            refusal(&[0xFF; 8_192]),
+            Refusal::BadRequestedName { name: 0 }
+        );
+    }
+
+    #[test]
+    fn anything_behind_a_hundred_names_is_too_much() {
+        let mut octets = b"\x01a\x00".repeat(100);
+        assert_eq!(read_request(&octets).unwrap().len(), 100);
+        octets.push(0xFF);
+        assert_eq!(refusal(&octets), Refusal::TooManyNames { read: 100 });
+    }
+}

@@ -1,0 +1,119 @@
+//! The desk's line from the files of a folder.
+
+use std::fs;
+use std::path::{Path, PathBuf};
+
+use compare::cases;
+use compare::desk::judge_folder;
+use compare::read_book;
+
+/// A folder of its own for one test, taken away at the end.
+struct Folder(PathBuf);
+
+impl Folder {
+    fn new(test: &str) -> Folder {
+        let path = std::env::temp_dir().join(format!("compare-{test}-{}", std::process::id()));
+        fs::create_dir_all(&path).unwrap();
+        Folder(path)
+    }
+
+    fn with(self, file: &str, octets: &[u8]) -> Folder {
+        fs::write(self.0.join(file), octets).unwrap();
+        self
+    }
+
+    fn line(&self) -> String {
+        judge_folder(&self.0).to_string()
+    }
+}
+
+impl Drop for Folder {
+    fn drop(&mut self) {
+        let _ = fs::remove_dir_all(&self.0);
+    }
+}
+
+const REQUEST: &[u8] = b"\x01a\x00";
+
+fn whole_case_folder() -> PathBuf {
+    Path::new(env!("CARGO_MANIFEST_DIR")).join("../examples/whole-case")
+}
+
+#[test]
+fn the_whole_case() {
+    assert_eq!(
+        judge_folder(&whole_case_folder()).to_string(),
+        "verdict 21 name 1 record 3"
+    );
+}
+
+#[test]
+fn the_example_is_the_stored_case() {
+    let stored = cases::stored().unwrap();
+    let case = stored
+        .iter()
+        .find(|case| case.title == "whole case: www and pay")
+        .unwrap();
+    let read = |file: &str| fs::read(whole_case_folder().join(file)).unwrap();
+    assert_eq!(read("request.bin"), case.request);
+    assert_eq!(read("issuer.txt"), b"ca1.example.net");
+    // As values: their times to live differ.
+    let records = |octets: &[u8]| format!("{:?}", read_book(octets).unwrap());
+    assert_eq!(records(&read("book.bin")), records(&case.book));
+}
+
+#[test]
+fn without_a_book_the_others_dont_matter() {
+    let folder = Folder::new("no-book");
+    assert_eq!(folder.line(), "no book");
+    let folder = folder.with("request.bin", REQUEST).with("issuer.txt", b"x");
+    assert_eq!(folder.line(), "no book");
+}
+
+#[test]
+fn a_book_that_cannot_be_read_is_no_book() {
+    let folder = Folder::new("book-folder").with("request.bin", REQUEST);
+    fs::create_dir(folder.0.join("book.bin")).unwrap();
+    assert_eq!(folder.line(), "no book");
+}
+
+#[test]
+fn other_files_that_are_missing_are_empty() {
+    let folder = Folder::new("missing").with("book.bin", b"");
+    assert_eq!(folder.line(), "refused 2 at 0");
+    let folder = folder.with("request.bin", REQUEST);
+    assert_eq!(folder.line(), "refused 4 at 0");
+    let folder = folder.with("issuer.txt", b"x");
+    assert_eq!(folder.line(), "verdict 0");
+}
+
+#[test]
+fn other_files_that_cannot_be_read_are_empty() {
+    let folder = Folder::new("folders").with("book.bin", b"");
+    fs::create_dir(folder.0.join("issuer.txt")).unwrap();
+    let folder = folder.with("request.bin", REQUEST);
+    assert_eq!(folder.line(), "refused 4 at 0");
+    fs::remove_file(folder.0.join("request.bin")).unwrap();
+    fs::create_dir(folder.0.join("request.bin")).unwrap();
+    assert_eq!(folder.line(), "refused 2 at 0");
+}
+
+#[test]
+fn a_line_end_in_the_issuer_file_is_refused() {
+    let folder = Folder::new("line-end")
+        .with("request.bin", REQUEST)
+        .with("issuer.txt", b"x\n")
+        .with("book.bin", b"");
+    assert_eq!(folder.line(), "refused 4 at 0");
+}
+
+#[test]
+fn a_file_over_a_limit_gets_the_limits_refusal() {
+    let folder = Folder::new("limit")
+        .with("request.bin", &[0; 8_193])
+        .with("issuer.txt", b"x")
+        .with("book.bin", &[0; 32_769]);
+    assert_eq!(folder.line(), "refused 1 at 0");
+    let folder = folder.with("request.bin", REQUEST);
+    assert_eq!(folder.line(), "refused 5 at 0");
+}

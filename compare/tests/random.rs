@@ -1,0 +1,245 @@
+//! Laws of the requirements on random inputs.
+
+use std::collections::BTreeMap;
+
+use compare::generate::Generator;
+use compare::{judge, permitted_issuers, read_issuer, Answer, Permitted, Refusal};
+
+/// The names of a list, read back from the front of a buffer.
+fn listed(count: usize, octets: usize, buffer: &[u8]) -> Vec<Vec<u8>> {
+    let mut rest = &buffer[..octets];
+    let mut names = Vec::new();
+    while let Some((&length, behind)) = rest.split_first() {
+        let (name, behind) = behind.split_at(usize::from(length));
+        names.push(name.to_vec());
+        rest = behind;
+    }
+    assert_eq!(names.len(), count);
+    names
+}
+
+/// Every name of one or two labels that the generator's issuers are near to, and longer ones.
+fn candidates() -> Vec<Vec<u8>> {
+    let labels = ["x", "y", "xx", "x-y", "X", "Y", "yx"];
+    let mut names: Vec<String> = labels.map(String::from).to_vec();
+    for first in labels {
+        for second in labels {
+            names.push(format!("{first}.{second}"));
+            names.push(format!("x.{first}.{second}"));
+        }
+    }
+    let (x, y) = ("x".repeat(63), "y".repeat(63));
+    for last in 60..=61 {
+        names.push(format!("{x}.{y}.{x}.{}", "y".repeat(last)));
+    }
+    names.into_iter().map(String::into_bytes).collect()
+}
+
+/// Who may issue, by trying every candidate.
+#[test]
+fn judge_permits_whom_the_list_holds() {
+    let mut generator = Generator::new(1);
+    let candidates = candidates();
+    for _ in 0..3_000 {
+        let (request, book) = (generator.request(), generator.book());
+        let before = generator.buffer(book.len());
+        let mut buffer = before.clone();
+        let list = match permitted_issuers(&request, &book, &mut buffer) {
+            Permitted::Anyone => {
+                assert_eq!(buffer, before);
+                None
+            }
+            Permitted::List { count, octets } => {
+                assert_eq!(buffer[octets..], before[octets..]);
+                Some(listed(count, octets, &buffer))
+            }
+            Permitted::Refused(refusal) => panic!("good inputs {refusal}"),
+        };
+        for (place, name) in list.iter().flatten().enumerate() {
+            assert_eq!(read_issuer(name).unwrap().octets(), name);
+            assert!(!list.iter().flatten().take(place).any(|other| other == name));
+        }
+        for issuer in &candidates {
+            let permits = judge(&request, issuer, &book) == Answer::Permitted;
+            let allowed = match &list {
+                None => true,
+                Some(names) => names.contains(&issuer.to_ascii_lowercase()),
+            };
+            assert_eq!(permits, allowed, "{}", issuer.escape_ascii());
+        }
+    }
+}
+
+/// The book is made from two names' grants, so that the list is known without reading the book.
+#[test]
+fn the_list_follows_the_first_grants_of_the_lowest_restricted_name() {
+    let names: [&[u8]; 3] = [b"\x01e\x00", b"\x01a\x01c\x00", b"\x01b\x01c\x00"];
+    let mut generator = Generator::new(7);
+    for _ in 0..2_000 {
+        let mut book = Vec::new();
+        let mut grants = [vec![], vec![]];
+        for records in 0..8 {
+            // Each of the two names is restricted: it has at least one record.
+            let name = if records < 2 {
+                records
+            } else {
+                generator.below(2)
+            };
+            let issuer = generator.issuer();
+            book.extend(names[1 + name]);
+            book.extend(b"\x01\x01\x00\x01\x00\x00\x00\x00\x00");
+            book.push(7 + issuer.len() as u8);
+            book.extend(b"\x00\x05issue");
+            book.extend(&issuer);
+            grants[name].push(issuer.to_ascii_lowercase());
+        }
+        let mut expected: Vec<&Vec<u8>> = Vec::new();
+        for issuer in &grants[0] {
+            if grants[1].contains(issuer) && !expected.contains(&issuer) {
+                expected.push(issuer);
+            }
+        }
+        let mut buffer = generator.buffer(book.len());
+        match permitted_issuers(&names.concat(), &book, &mut buffer) {
+            Permitted::List { count, octets } => {
+                assert_eq!(
+                    listed(count, octets, &buffer).iter().collect::<Vec<_>>(),
+                    expected
+                );
+            }
+            other => panic!("{other}"),
+        }
+    }
+}
+
+#[test]
+fn room_is_enough_exactly_from_the_octets_told_on() {
+    let mut generator = Generator::new(2);
+    for _ in 0..2_000 {
+        let (request, book) = (generator.request(), generator.book());
+        let answer = permitted_issuers(&request, &book, &mut generator.buffer(book.len()));
+        let needed = match answer {
+            Permitted::List { octets, .. } => octets,
+            _ => 0,
+        };
+        assert_eq!(
+            permitted_issuers(&request, &book, &mut generator.buffer(needed)),
+            answer
+        );
+        if needed > 0 {
+            let before = generator.buffer(needed - 1);
+            let mut buffer = before.clone();
+            assert_eq!(
+                permitted_issuers(&request, &book, &mut buffer),
+                Permitted::Refused(Refusal::BufferTooShort { needed })
+            );
+            assert_eq!(buffer, before);
+        }
+    }
+}
+
+/// A request is its names: the verdict is that of the first name not permitted by itself.
+#[test]
+fn a_verdict_is_that_of_the_first_name_not_permitted() {
+    let mut generator = Generator::new(3);
+    for _ in 0..3_000 {
+        let parts: Vec<Vec<u8>> = (0..3).map(|_| generator.request()).collect();
+        let (issuer, book) = (generator.issuer(), generator.book());
+        let mut names_before = 0;
+        let mut expected = Answer::Permitted;
+        for part in &parts {
+            expected = match judge(part, &issuer, &book) {
+                Answer::NotGranted { name, record } => Answer::NotGranted {
+                    name: names_before + name,
+                    record,
+                },
+                Answer::UnknownCritical { name, record } => Answer::UnknownCritical {
+                    name: names_before + name,
+                    record,
+                },
+                other => other,
+            };
+            if expected != Answer::Permitted {
+                break;
+            }
+            names_before += compare::read_request(part).unwrap().len();
+        }
+        assert_eq!(judge(&parts.concat(), &issuer, &book), expected);
+    }
+}
+
+/// Deciding never computes with record numbers: a record before all others moves each by one.
+#[test]
+fn a_record_in_front_moves_the_numbers_and_nothing_else() {
+    let root_owned = b"\x00\x01\x01\x00\x01\x00\x00\x00\x00\x00\x05\x80\x03tbs";
+    let mut generator = Generator::new(4);
+    for _ in 0..2_000 {
+        let inputs = (generator.request(), generator.issuer(), generator.book());
+        let (request, issuer, book) = &inputs;
+        let expected = match judge(request, issuer, book) {
+            Answer::NotGranted { name, record } => Answer::NotGranted {
+                name,
+                record: record + 1,
+            },
+            Answer::UnknownCritical { name, record } => Answer::UnknownCritical {
+                name,
+                record: record + 1,
+            },
+            other => other,
+        };
+        let moved = [root_owned.as_slice(), book].concat();
+        assert_eq!(judge(request, issuer, &moved), expected);
+    }
+}
+
+/// Letter case means nothing in requests and issuer names.
+#[test]
+fn letter_case_changes_no_verdict() {
+    let mut generator = Generator::new(5);
+    for _ in 0..2_000 {
+        let (request, issuer, book) = (generator.request(), generator.issuer(), generator.book());
+        assert_eq!(
+            judge(&request, &issuer, &book),
+            judge(
+                &generator.any_case(&request),
+                &generator.any_case(&issuer),
+                &book
+            )
+        );
+    }
+}
+
+/// The generator is only worth something if each answer comes often.
+#[test]
+fn every_answer_comes() {
+    let mut generator = Generator::new(6);
+    let mut seen: BTreeMap<String, usize> = BTreeMap::new();
+    for _ in 0..6_000 {
+        let inputs = generator.inputs();
+        let judged = match judge(&inputs.request, &inputs.issuer, &inputs.book) {
+            Answer::Permitted => "verdict 0".to_string(),
+            Answer::UnknownCritical { .. } => "verdict 20".to_string(),
+            Answer::NotGranted { .. } => "verdict 21".to_string(),
+            Answer::Refused(refusal) => format!("refused {}", refusal.number()),
+        };
+        *seen.entry(judged).or_default() += 1;
+        let mut buffer = inputs.buffer.clone();
+        let permitted = match permitted_issuers(&inputs.request, &inputs.book, &mut buffer) {
+            Permitted::Anyone => "anyone".to_string(),
+            Permitted::List { count, .. } => format!("list of {}", count.min(3)),
+            Permitted::Refused(refusal) => {
+                assert_eq!(buffer, inputs.buffer);
+                format!("refused {}", refusal.number())
+            }
+        };
+        *seen.entry(permitted).or_default() += 1;
+    }
+    let wanted = (1..=8)
+        .map(|number| format!("refused {number}"))
+        .chain(["verdict 0", "verdict 20", "verdict 21", "anyone"].map(String::from))
+        .chain((0..=3).map(|count| format!("list of {count}")));
+    for answer in wanted {
+        let times = seen.get(&answer).copied().unwrap_or_default();
+        assert!(times >= 20, "{answer} came {times} times: {seen:?}");
+    }
+}

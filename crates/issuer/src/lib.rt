@@ -1,0 +1,1 @@
+// Issuer domain names as text. The definitions stand in specs/.

@@ -1,0 +1,27 @@
+-- Every limit of the requirements, once. A change of a limit is a change of one line here.
+use Prim.Native.Nat.{ℕ}
+
+-- RFC 1035 section 2.3.4: the octets of a label, and of a name in wire form with its closing zero
+unfoldable pub maxLabelOctets : ℕ
+maxLabelOctets = 63
+
+unfoldable pub maxNameOctets : ℕ
+maxNameOctets = 255
+
+-- an issuer domain name as text: 255 octets less the first length octet and the closing zero
+unfoldable pub maxIssuerOctets : ℕ
+maxIssuerOctets = 253
+
+-- a request: its octets, and how many names it holds
+unfoldable pub maxRequestOctets : ℕ
+maxRequestOctets = 8192
+
+unfoldable pub maxNames : ℕ
+maxNames = 100
+
+-- the records to decide by (the requirements' "book"): their octets, and how many they are
+unfoldable pub maxBookOctets : ℕ
+maxBookOctets = 32768
+
+unfoldable pub maxRecords : ℕ
+maxRecords = 256

@@ -1,0 +1,34 @@
+-- What the definitions of this crate mean. Each statement is proved under its name in proofs/.
+use Prim.Native.Nat.{ℕ, _≤_, _<_}
+use mathlib.Core.Path.{_≡_}
+use mathlib.Core.Logic.{_↔_, _≢_}
+use mathlib.Core.Bool.{Bool, true, false}
+use mathlib.Core.List.{List, [], _∷_, _++_, map}
+use mathlib.Core.Option.{Option, some}
+use lib.ListN.{length, drop, getD}
+use Rattle.limits.specs.Limits.{maxLabelOctets, maxNameOctets}
+use Rattle.octets.specs.Lists.{All}
+use Rattle.octets.specs.Octets.{lowered, equalIgnoringCase}
+use Rattle.name.specs.Names.{Name, wire, name, sameName, ancestors}
+
+-- labels of 1 to 63 octets, 255 octets in all with the closing zero (RFC 1035 section 2.3.4)
+abbrev pub GoodName : Name → Type 0
+GoodName n = All (λ l. (1 ≤ length l) × (length l ≤ maxLabelOctets)) n × (length (wire n) ≤ maxNameOctets)
+
+-- a name is read exactly where its wire form stands
+abbrev pub Name-is-its-labels : Type 0
+Name-is-its-labels = (s : List ℕ) (n : Name) (rest : List ℕ) → (name s ≡ some (n, rest)) ↔ ((s ≡ wire n ++ rest) × GoodName n)
+
+-- two names are the same exactly when their labels in small letters are equal lists, and, of good names, exactly when their
+-- octets are the same text; so no proper tail or front of a name is that name
+abbrev pub Whole-names : Type 0
+Whole-names =
+    ((m n : Name) → (sameName m n ≡ true) ↔ (map lowered m ≡ map lowered n))
+    × ((m n : Name) → GoodName m → GoodName n → sameName m n ≡ equalIgnoringCase (wire m) (wire n))
+    × ((p n : Name) → p ≢ [] → (sameName (p ++ n) n ≡ false) × (sameName n (p ++ n) ≡ false))
+    × ((p n : Name) → p ≢ [] → (sameName (n ++ p) n ≡ false) × (sameName n (n ++ p) ≡ false))
+
+-- the search looks at X with 0, 1, 2, .. labels taken off, as long as one is left
+abbrev pub Ancestors-by-labels-taken-off : Type 0
+Ancestors-by-labels-taken-off =
+    (x : Name) → (length (ancestors x) ≡ length x) × ((k : ℕ) → k < length x → getD (ancestors x) k [] ≡ drop k x)

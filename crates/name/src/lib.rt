@@ -1,0 +1,1 @@
+// Domain names in wire form. The definitions stand in specs/.

@@ -1,0 +1,117 @@
+-- Items end to end are whole, broken at a place or over exactly when their octets say so.
+use Prim.Native.Nat.{ℕ, zero, suc, _+_, _-_, _≤_, _<_}
+use native.Mathlib.Omega.{arith}
+use mathlib.Core.Path.{_≡_, refl, sym, ap, _∙_}
+use mathlib.Core.Logic.{_↔_, _≢_}
+use mathlib.Core.List.{List, [], _∷_, _++_, map, foldr, append-nil, append-assoc, append-eq-nil-iff, cons≢nil}
+use mathlib.Core.Option.{Option, none, some, Option·none-ne-some}
+use lib.ListN.{length}
+use Rattle.octets.specs.Lists.{All, all-nil, all-cons, concat}
+use Rattle.octets.specs.Octets.{Octets}
+use Rattle.octets.specs.Reader.{Reader}
+use Rattle.octets.specs.Items.{Items, whole, broken, over, follow, before, items, Front, BrokenAt, Beyond}
+use Rattle.octets.specs.Theorems.{Reads, Items-end-to-end}
+use Rattle.octets.proofs.ListLaws.{All-head, All-tail, All-rest}
+
+module _ {A : Type 0} where
+  follow-whole : (xs : List A) → foldr follow (whole []) xs ≡ whole xs
+  follow-whole [] = refl
+  follow-whole (a ∷ xs) = ap (follow a) (follow-whole xs)
+
+  follow-broken : (xs : List A) → foldr follow (broken 0) xs ≡ broken (length xs)
+  follow-broken [] = refl
+  follow-broken (a ∷ xs) = ap (follow a) (follow-broken xs)
+
+  follow-over : (xs : List A) → foldr follow over xs ≡ over
+  follow-over [] = refl
+  follow-over (a ∷ xs) = ap (follow a) (follow-over xs)
+
+module _ {A : Type 0} (wire : A → List ℕ) (Good : A → Type 0) where
+  -- what the octets s say, of each outcome
+  abbrev Says : ℕ → List ℕ → Items A → Type 0
+  Says room s (whole xs) = (s ≡ concat (map wire xs)) × All Good xs × (length xs ≤ room)
+  Says room s (broken k) = (k < room) × BrokenAt wire Good s k
+  Says room s over = Beyond wire Good room s
+
+  front-more :
+      (a : A) (s t : List ℕ) (xs : List A) (rest : List ℕ) → (s ≡ wire a ++ t) × Good a → Front wire Good t xs rest →
+      Front wire Good s (a ∷ xs) rest
+  front-more a s t xs rest g f = (rw (append-assoc, ← f.0) g.0, all-cons g.1 f.1)
+
+  -- one good item more in front
+  says-more : (room : ℕ) (a : A) (s t : List ℕ) → (s ≡ wire a ++ t) × Good a → (r : Items A) → Says room t r → Says (suc room) s (follow a r)
+  says-more room a s t g (whole xs) h = (rw (← h.0) g.0, all-cons g.1 h.1, omega arith)
+  says-more room a s t g (broken k) h =
+      let (xs, rest, f, l, more, bad) = h.1 in
+      (omega arith, (a ∷ xs, rest, front-more a s t xs rest g f, ap suc l, more, bad))
+  says-more room a s t g over h =
+      let (xs, rest, f, l, more) = h in
+      (a ∷ xs, rest, front-more a s t xs rest g f, ap suc l, more)
+
+  module _ (read : Reader A) (reads : Reads read wire Good) where
+    items-say : (room : ℕ) (s : List ℕ) → Octets s → Says room s (items read room s)
+    items-say zero [] o = (refl, all-nil, omega arith)
+    items-say zero (x ∷ s) o = ([], x ∷ s, (refl, all-nil), refl, cons≢nil)
+    items-say (suc room) [] o = (refl, all-nil, omega arith)
+    items-say (suc room) (x ∷ s) o = go (read (x ∷ s)) refl (items-say room)
+      where
+        go :
+            (r : Option (A × List ℕ)) → read (x ∷ s) ≡ r → ((t : List ℕ) → Octets t → Says room t (items read room t)) →
+            Says (suc room) (x ∷ s) (before r (items read room))
+        go none e say = (
+          omega arith,
+          ([], x ∷ s, (refl, all-nil), refl, cons≢nil, λ a more f g. Option·none-ne-some _ (sym e ∙ reads (x ∷ s) o a more .1 (f, g))),
+        )
+        go (some r) e say =
+            let g = reads (x ∷ s) o (r .0) (r .1) .0 e in
+            says-more room (r .0) (x ∷ s) (r .1) g (items read room (r .1)) (say (r .1) (All-rest (wire (r .0)) (r .1) (rw (g .0) at o)))
+
+    -- where no good item stands, nothing is read
+    unread : (s : List ℕ) → Octets s → ((a : A) (more : List ℕ) → s ≡ wire a ++ more → Good a → ⊥) → read s ≡ none
+    unread s o bad = go (read s) refl
+      where
+        go : (r : Option (A × List ℕ)) → read s ≡ r → read s ≡ none
+        go none e = e
+        go (some r) e = let (f, g) = reads s o (r .0) (r .1) .0 e in absurd (bad (r .0) (r .1) f g)
+
+    items-end : (room : ℕ) → items read room [] ≡ whole []
+    items-end zero = refl
+    items-end (suc room) = refl
+
+    items-over : (s : List ℕ) → s ≢ [] → items read 0 s ≡ over
+    items-over [] n = absurd (n refl)
+    items-over (x ∷ s) n = refl
+
+    items-step : (room : ℕ) (s : List ℕ) → s ≢ [] → items read (suc room) s ≡ before (read s) (items read room)
+    items-step room [] n = absurd (n refl)
+    items-step room (x ∷ s) n = refl
+
+    module _ (full : (a : A) → wire a ≢ []) where
+      -- good items at the front are read
+      items-front :
+          (xs : List A) (n room : ℕ) (s rest : List ℕ) → Octets s → n ≡ length xs + room → Front wire Good s xs rest →
+          items read n s ≡ foldr follow (items read room rest) xs
+      items-front [] n room s rest o e f = let m : n ≡ room = omega arith in rw (m, f.0) refl
+      items-front (a ∷ xs) zero room s rest o e f = absurd (omega arith)
+      items-front (a ∷ xs) (suc n) room s rest o e f =
+          let t = concat (map wire xs) ++ rest in
+          let first : s ≡ wire a ++ t = rw append-assoc at f.0 in
+          rw (items-step n s (λ z. full a (append-eq-nil-iff .0 (sym first ∙ z) .0)), reads s o a t .1 (first, All-head f.1))
+          (ap (follow a) (items-front xs n room t rest (All-rest (wire a) t (rw first at o)) (omega arith) (refl, All-tail f.1)))
+
+      items-said : (room : ℕ) (s : List ℕ) → Octets s → (r : Items A) → Says room s r → items read room s ≡ r
+      items-said room s o (whole xs) h =
+          items-front xs room (room - length xs) s [] o (omega arith) (rw append-nil h.0, h.1) ∙ rw items-end (follow-whole xs)
+      items-said room s o (broken k) h =
+          let (xs, rest, f, l, more, bad) = h.1 in
+          items-front xs room (suc (room - suc k)) s rest o (omega arith) f
+          ∙ rw (items-step (room - suc k) rest more, unread rest (All-rest (concat (map wire xs)) rest (rw f.0 at o)) bad, ← l) (follow-broken xs)
+      items-said room s o over h =
+          let (xs, rest, f, l, more) = h in
+          items-front xs room 0 s rest o (omega arith) f ∙ rw (items-over rest more) (follow-over xs)
+
+pub items-end-to-end : Items-end-to-end
+items-end-to-end A read wire Good reads full room s o = (λ xs. tell (whole xs), λ k. tell (broken k), tell over)
+  where
+    tell : (r : Items A) → (items read room s ≡ r) ↔ Says wire Good room s r
+    tell r = (λ e. rw e at (items-say wire Good read reads room s o), items-said wire Good read reads full room s o r)

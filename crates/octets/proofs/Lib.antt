@@ -1,0 +1,9 @@
+pub mod ListLaws
+pub mod WholeLists
+pub mod Classes
+pub mod Texts
+pub mod Labels
+pub mod PieceLaws
+pub mod ReaderLaws
+pub mod Numbers
+pub mod ItemLaws

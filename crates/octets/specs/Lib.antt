@@ -1,0 +1,9 @@
+pub mod Lists
+pub mod Octets
+pub mod Label
+pub mod Pieces
+pub mod Reader
+pub mod Items
+pub mod Decimal
+pub mod Grammar
+pub mod Theorems

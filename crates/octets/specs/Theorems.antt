@@ -1,0 +1,81 @@
+-- What the definitions of this crate mean. Each statement is proved under its name in proofs/.
+use Prim.Native.Nat.{ℕ, _+_, _^_, _≤_, _<_}
+use mathlib.Core.Path.{_≡_}
+use mathlib.Core.Logic.{_↔_, _≢_, _⊎_}
+use mathlib.Core.Bool.{Bool, true, false}
+use mathlib.Core.List.{List, [], _∷_, _++_, map}
+use mathlib.Core.Option.{Option, none, some}
+use lib.Dec.{eqb}
+use lib.ListN.{length}
+use Rattle.limits.specs.Limits.{maxLabelOctets}
+use Rattle.octets.specs.Lists.{All, any, concat}
+use Rattle.octets.specs.Octets.{Octets, text, isDigit, isLetterOrDigit, isBlank, hyphen, lower, lowered, equalIgnoringCase}
+use Rattle.octets.specs.Label.{isLetterDigitHyphen, isLabel, isHostLabel}
+use Rattle.octets.specs.Pieces.{split, join}
+use Rattle.octets.specs.Reader.{Reader, number, inOctets}
+use Rattle.octets.specs.Items.{Items, whole, broken, over, items, BrokenAt, Beyond}
+use Rattle.octets.specs.Grammar.{label}
+
+-- only the 26 capital letters fold, each to its small letter
+abbrev pub Letter-case : Type 0
+Letter-case = (x : ℕ) → ((65 ≤ x) × (x ≤ 90) → lower x ≡ x + 32) × ((x < 65) ⊎ (90 < x) → lower x ≡ x)
+
+-- the classes, spelled out
+abbrev pub Octet-classes : Type 0
+Octet-classes =
+    (x : ℕ) →
+    (isDigit x ≡ any (eqb x) (text "0123456789"))
+    × (isLetterOrDigit x ≡ any (eqb x) (text "ABCDEFGHIJKLMNOPQRSTUVWXYZabcdefghijklmnopqrstuvwxyz0123456789"))
+    × (isBlank x ≡ any (eqb x) (text " \t"))
+
+-- two texts are the same exactly when they are equal lists in small letters; so no proper tail or front of a text is that text
+abbrev pub Whole-texts : Type 0
+Whole-texts =
+    ((a b : List ℕ) → (equalIgnoringCase a b ≡ true) ↔ (lowered a ≡ lowered b))
+    × ((p a : List ℕ) → p ≢ [] → (equalIgnoringCase (p ++ a) a ≡ false) × (equalIgnoringCase a (p ++ a) ≡ false))
+    × ((p a : List ℕ) → p ≢ [] → (equalIgnoringCase (a ++ p) a ≡ false) × (equalIgnoringCase a (a ++ p) ≡ false))
+
+-- a label is what the production of RFC 8659 section 4.2 matches
+abbrev pub Label-is-the-production : Type 0
+Label-is-the-production = (l : List ℕ) → (isLabel l ≡ true) ↔ label l
+
+-- "1 to 63 letters, digits and hyphens", and neither first nor last a hyphen
+abbrev pub Host-label : List ℕ → Type 0
+Host-label l =
+    (1 ≤ length l) × (length l ≤ maxLabelOctets) × All (λ x. isLetterDigitHyphen x ≡ true) l
+    × ((s : List ℕ) → l ≢ hyphen ∷ s) × ((s : List ℕ) → l ≢ s ++ (hyphen ∷ []))
+
+abbrev pub Host-labels : Type 0
+Host-labels = (l : List ℕ) → (isHostLabel l ≡ true) ↔ Host-label l
+
+-- the pieces of a text are the one way to make it by joining texts without the octet c
+abbrev pub Pieces-join : Type 0
+Pieces-join =
+    (c : ℕ) (s : List ℕ) (ps : List (List ℕ)) →
+    (split c s ≡ ps) ↔ ((s ≡ join c ps) × (ps ≢ []) × All (λ p. All (λ x. x ≢ c) p) ps)
+
+-- a number of k octets is read exactly where it is written
+abbrev pub Numbers-high-octet-first : Type 0
+Numbers-high-octet-first =
+    (k : ℕ) (s : List ℕ) → Octets s → (n : ℕ) (rest : List ℕ) →
+    (number k s ≡ some (n, rest)) ↔ ((s ≡ inOctets k n ++ rest) × (n < 256 ^ k))
+
+module _ {A : Type 0} (read : Reader A) (wire : A → List ℕ) (Good : A → Type 0) where
+  -- the reader takes a off the front exactly where the octets of a stand there and a is good
+  abbrev pub Reads : Type 0
+  Reads =
+      (s : List ℕ) → Octets s → (a : A) (rest : List ℕ) →
+      (read s ≡ some (a, rest)) ↔ ((s ≡ wire a ++ rest) × Good a)
+
+  abbrev pub Items-are-read : Type 0
+  Items-are-read =
+      (room : ℕ) (s : List ℕ) → Octets s →
+      ((xs : List A) → (items read room s ≡ whole xs) ↔ ((s ≡ concat (map wire xs)) × All Good xs × (length xs ≤ room)))
+      × ((k : ℕ) → (items read room s ≡ broken k) ↔ ((k < room) × BrokenAt wire Good s k))
+      × ((items read room s ≡ over) ↔ Beyond wire Good room s)
+
+-- items are whole, broken at a place or over exactly when their octets say so, for every kind of item
+abbrev pub Items-end-to-end : Type 1
+Items-end-to-end =
+    (A : Type 0) (read : Reader A) (wire : A → List ℕ) (Good : A → Type 0) →
+    Reads read wire Good → ((a : A) → wire a ≢ []) → Items-are-read read wire Good

@@ -1,0 +1,1 @@
+// Octets: their classes, letter case and comparison. The definitions stand in specs/.

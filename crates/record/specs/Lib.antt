@@ -1,0 +1,3 @@
+pub mod Property
+pub mod Records
+pub mod Theorems

@@ -1,0 +1,72 @@
+-- What the definitions of this crate mean. Each statement is proved under its name in proofs/.
+use Prim.Native.Nat.{ℕ, _+_, _≤_, _<_, _^_}
+use mathlib.Core.Path.{_≡_}
+use mathlib.Core.Logic.{_↔_, _≢_}
+use mathlib.Core.Bool.{Bool, true}
+use mathlib.Core.List.{List, [], map}
+use mathlib.Core.Option.{none, some}
+use lib.ListN.{length}
+use Rattle.limits.specs.Limits.{maxBookOctets, maxRecords}
+use Rattle.refusal.specs.Refusal.{number}
+use Rattle.refusal.specs.declared.Refusal.{Refusal}
+use Rattle.refusal.specs.declared.Refusal.the-variants.{BookTooLong, BadRecord, TooManyRecords}
+use Rattle.octets.specs.Lists.{All, concat}
+use Rattle.octets.specs.Octets.{Octets, text, lowered}
+use Rattle.octets.specs.Items.{BrokenAt, Beyond}
+use Rattle.octets.specs.Theorems.{Reads}
+use Rattle.name.specs.Theorems.{GoodName}
+use Rattle.record.specs.declared.PropertyTag.{PropertyTag}
+use Rattle.record.specs.declared.PropertyTag.the-variants.{Issue, IssueWild, Iodef, Unknown}
+use Rattle.record.specs.Property.{Property, wireProperty, property, isCritical, tagOf}
+use Rattle.record.specs.Records.{Record, wireRecord, resourceRecord, records, bookRefusal}
+
+-- data holds a property exactly when it is written so with a tag of one octet or more
+abbrev pub Property-is-its-parts : Type 0
+Property-is-its-parts = (d : List ℕ) (p : Property) → (property d ≡ some p) ↔ ((d ≡ wireProperty p) × (1 ≤ length (p .tag)))
+
+-- of the flags only the bit worth 128 counts: critical exactly from 128 to 255
+abbrev pub Critical-bit : Type 0
+Critical-bit = (p : Property) → p .flags < 256 → (isCritical p ≡ true) ↔ (128 ≤ p .flags)
+
+-- the three known tags, in any letter case, and nothing else
+abbrev pub Known-tags : Type 0
+Known-tags =
+    (t : List ℕ) →
+    ((tagOf t ≡ Issue) ↔ (lowered t ≡ text "issue")) × ((tagOf t ≡ IssueWild) ↔ (lowered t ≡ text "issuewild"))
+    × ((tagOf t ≡ Iodef) ↔ (lowered t ≡ text "iodef"))
+
+-- each field fits its octets, and the data of type 257 and class 1 holds a property
+abbrev pub GoodRecord : Record → Type 0
+GoodRecord r =
+    GoodName (r .owner) × (r .type < 2 ^ 16) × (r .class < 2 ^ 16) × (r .ttl < 2 ^ 32) × (length (r .rdata) < 2 ^ 16)
+    × (r .type ≡ 257 → r .class ≡ 1 → (p : Property) × (r .rdata ≡ wireProperty p) × (1 ≤ length (p .tag)))
+
+abbrev pub Record-is-its-fields : Type 0
+Record-is-its-fields = Reads resourceRecord wireRecord GoodRecord
+
+-- accepted with the records rs exactly when the octets are the wire forms of rs, end to end, at most 256 good records, within
+-- 32,768 octets
+abbrev pub Book-is-its-records : Type 0
+Book-is-its-records =
+    (b : List ℕ) → Octets b → (rs : List Record) →
+    ((bookRefusal b ≡ none) × (records b ≡ rs))
+    ↔ ((b ≡ concat (map wireRecord rs)) × All GoodRecord rs × (length rs ≤ maxRecords) × (length b ≤ maxBookOctets))
+
+-- The rows of the requirements' table, each with its "When" and its place, and nothing of the reader.
+abbrev pub Row-5 : List ℕ → Type 0
+Row-5 b = maxBookOctets < length b
+
+abbrev pub Row-6 : List ℕ → ℕ → Type 0
+Row-6 b k = (k < maxRecords) × BrokenAt wireRecord GoodRecord b k
+
+abbrev pub Row-7 : List ℕ → Type 0
+Row-7 b = Beyond wireRecord GoodRecord maxRecords b
+
+-- row 5 is checked first; rows 6 and 7 never hold together
+abbrev pub Book-refusals : Type 0
+Book-refusals =
+    (b : List ℕ) → Octets b →
+    ((bookRefusal b ≡ some BookTooLong) ↔ Row-5 b)
+    × ((k : ℕ) → (bookRefusal b ≡ some (BadRecord (record { 0 = k }))) ↔ ((length b ≤ maxBookOctets) × Row-6 b k))
+    × ((bookRefusal b ≡ some TooManyRecords) ↔ ((length b ≤ maxBookOctets) × Row-7 b))
+    × ((r : Refusal) → bookRefusal b ≡ some r → (5 ≤ number r) × (number r ≤ 7))

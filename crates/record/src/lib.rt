@@ -1,0 +1,9 @@
+// Resource records and CAA data. The definitions stand in specs/.
+
+// The property tags that RFC 8659 defines, and any other.
+pub enum PropertyTag {
+    Issue,
+    IssueWild,
+    Iodef,
+    Unknown,
+}

@@ -1,0 +1,1 @@
+// Certificate requests: the names asked for. The definitions stand in specs/.

@@ -1,0 +1,21 @@
+-- The table of edges, by computing.
+use mathlib.Core.Path.{_≡_, refl}
+use Rattle.limits.specs.Limits.{maxLabelOctets, maxIssuerOctets}
+use Rattle.octets.specs.Octets.{isDigit, isUpper, isLower, isLetterOrDigit, isBlank, lower, equalIgnoringCase}
+use Rattle.octets.specs.Label.{isLetterDigitHyphen, isLabel, isHostLabel}
+use Rattle.octets.specs.Decimal.{decimalOctet}
+use Rattle.request.specs.Request.{isWildcard, base}
+use Rattle.issuer.specs.Issuer.{isIssuer}
+use Rattle.record.specs.Property.{readProperty, property, isCritical, tagOf}
+use Rattle.record.specs.Records.{isCaa}
+use Rattle.value.specs.IssueValues.{isDomainName, isParameterOctet, isParameterTag, isParameter, areParameters, issueValue}
+use Rattle.rule.specs.RelevantSet.{lookup, relevantSet}
+use Rattle.rule.specs.Authorizations.{isUnknownCritical, governing, grantee, authorization}
+use Rattle.rule.specs.Edges.{Edges-agree}
+
+pub edges-agree : Edges-agree
+unfolding maxLabelOctets maxIssuerOctets isDigit isUpper isLower isLetterOrDigit isBlank lower equalIgnoringCase
+    isLetterDigitHyphen isLabel isHostLabel decimalOctet isWildcard base isIssuer readProperty property isCritical tagOf isCaa
+    isDomainName isParameterOctet isParameterTag isParameter areParameters issueValue lookup relevantSet
+    isUnknownCritical governing grantee authorization
+edges-agree = refl

@@ -1,0 +1,96 @@
+-- Both sides of each edge: the requirements' rows marked P, as one table under one claim, which is proved by computing.
+use Prim.Native.Nat.{ℕ}
+use Prim.Native.Char.{code}
+use Prim.Native.String.{String}
+use mathlib.Core.Path.{_≡_}
+use mathlib.Core.List.{List, [], _∷_, map}
+use mathlib.Core.Option.{Option, none, some}
+use Rattle.octets.specs.Octets.{text}
+use Rattle.octets.specs.Pieces.{split}
+use Rattle.octets.specs.Decimal.{decimalOctet}
+use Rattle.name.specs.Names.{Name}
+use Rattle.record.specs.Property.{wireProperty}
+use Rattle.record.specs.Records.{Record}
+use Rattle.value.specs.IssueValues.{IssueValue, malformed, nameless, named, issueValue}
+use Rattle.rule.specs.RelevantSet.{caaRecords}
+use Rattle.rule.specs.Authorizations.{Authorization, unrestricted, forbidden, granted, authorization}
+
+-- what a row is about
+pub data Cell : Type 0 where
+  of-value : IssueValue → Cell
+  of-name : Authorization → Cell
+  of-flags : Option ℕ → Cell
+
+-- what the rules say, beside what the requirements state
+pub record Edge : Type 0 where
+  pub ruled : Cell
+  pub stated : Cell
+
+abbrev pub dotted : String → Name
+dotted s = split (code ".") (text s)
+
+abbrev pub caa : String → ℕ → String → String → Record
+caa owner flags tag value =
+    record { owner = dotted owner; type = 257; class = 1; ttl = 3600; rdata = wireProperty (record { flags = flags; tag = text tag; value = text value }) }
+
+abbrev pub valueEdge : String → IssueValue → Edge
+valueEdge s v = record { ruled = of-value (issueValue (text s)); stated = of-value v }
+
+abbrev pub nameEdge : List Record → String → Authorization → Edge
+nameEdge book n a = record { ruled = of-name (authorization (caaRecords book) (dotted n)); stated = of-name a }
+
+abbrev pub flagsEdge : String → Option ℕ → Edge
+flagsEdge s f = record { ruled = of-flags (decimalOctet (text s)); stated = of-flags f }
+
+-- a set of one issue record with this value
+abbrev pub issuing : String → List Record
+issuing v = caa "example.com" 0 "issue" v ∷ []
+
+abbrev pub ca1 : List ℕ
+ca1 = text "ca1.example.net"
+
+abbrev pub ca2 : List ℕ
+ca2 = text "ca2.example.org"
+
+-- the names granted stand in small letters, behind the number of the first governing record
+abbrev pub edges : List Edge
+edges =
+    -- the empty value and ";" fit and grant nobody, and so govern
+    valueEdge "" nameless
+    ∷ valueEdge ";" nameless
+    ∷ nameEdge (issuing "") "example.com" (granted 0 [])
+    ∷ nameEdge (issuing ";") "example.com" (granted 0 [])
+    -- a value that doesn't fit grants nobody and still governs
+    ∷ valueEdge "%%%%%" malformed
+    ∷ nameEdge (issuing "%%%%%") "example.com" (granted 0 [])
+    ∷ valueEdge "ca1.example.net;" (named ca1)
+    ∷ nameEdge (issuing "ca1.example.net;") "example.com" (granted 0 (ca1 ∷ []))
+    ∷ valueEdge "ca1.example.net; a=1;" malformed
+    ∷ valueEdge "ca1.example.net; a=1" (named ca1)
+    ∷ valueEdge "ca1.example.net; a=" (named ca1)
+    ∷ nameEdge (issuing "ca1.example.net; a=") "example.com" (granted 0 (ca1 ∷ []))
+    ∷ valueEdge "ca1.example.net." malformed
+    ∷ valueEdge "ca..net" malformed
+    -- issuewild alone leaves X open to anyone, and *.X to ca2 only; beside issue it leaves *.X to ca2 only too
+    ∷ nameEdge (caa "example.com" 0 "issuewild" "ca2.example.org" ∷ []) "example.com" unrestricted
+    ∷ nameEdge (caa "example.com" 0 "issuewild" "ca2.example.org" ∷ []) "*.example.com" (granted 0 (ca2 ∷ []))
+    ∷ nameEdge (caa "example.com" 0 "issue" "ca1.example.net" ∷ caa "example.com" 0 "issuewild" "ca2.example.org" ∷ []) "*.example.com"
+    (granted 1 (ca2 ∷ []))
+    ∷ nameEdge (caa "example.com" 0 "issue" "ca1.example.net" ∷ caa "example.com" 0 "issuewild" "ca2.example.org" ∷ []) "example.com"
+    (granted 0 (ca1 ∷ []))
+    -- an iodef set alone opens its name though the parent restricts
+    ∷ nameEdge (caa "example.com" 0 "issue" "ca1.example.net" ∷ caa "www.example.com" 0 "iodef" "mailto:a@example.com" ∷ []) "www.example.com"
+    unrestricted
+    ∷ nameEdge (caa "example.com" 0 "issue" "ca1.example.net" ∷ caa "www.example.com" 0 "iodef" "mailto:a@example.com" ∷ []) "pay.example.com"
+    (granted 0 (ca1 ∷ []))
+    -- the critical flag is worth 128, and the other seven mean nothing
+    ∷ nameEdge (caa "example.com" 128 "tbs" "Unknown" ∷ []) "example.com" (forbidden 0)
+    ∷ nameEdge (caa "example.com" 127 "tbs" "Unknown" ∷ []) "example.com" unrestricted
+    -- a tail of a name is not the name
+    ∷ nameEdge (issuing "ca1.example.net") "badexample.com" unrestricted
+    ∷ flagsEdge "255" (some 255)
+    ∷ flagsEdge "256" none
+    ∷ []
+
+abbrev pub Edges-agree : Type 0
+Edges-agree = map (λ e. e .ruled) edges ≡ map (λ e. e .stated) edges

@@ -1,0 +1,3 @@
+pub mod IssueValues
+pub mod Productions
+pub mod Theorems

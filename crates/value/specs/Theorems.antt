@@ -1,0 +1,20 @@
+-- What the definitions of this crate mean. Each statement is proved under its name in proofs/.
+use Prim.Native.Nat.{ℕ, _≤_}
+use mathlib.Core.Path.{_≡_}
+use mathlib.Core.Logic.{_↔_, _≢_}
+use mathlib.Core.Bool.{true}
+use mathlib.Core.List.{List}
+use Rattle.value.specs.IssueValues.{IssueValue, malformed, nameless, named, issueValue, isParameterOctet}
+use Rattle.value.specs.Productions.{valueWithoutName, valueWithName}
+
+-- the reading definition accepts exactly what the productions match, and the name that it yields is the only one
+abbrev pub Value-is-the-grammar : Type 0
+Value-is-the-grammar =
+    (s : List ℕ) →
+    ((n : List ℕ) → (issueValue s ≡ named n) ↔ valueWithName n s)
+    × ((issueValue s ≡ nameless) ↔ valueWithoutName s)
+    × ((issueValue s ≡ malformed) ↔ (((n : List ℕ) → valueWithName n s → ⊥) × (valueWithoutName s → ⊥)))
+
+-- octets 33 to 126 except 59, the semicolon
+abbrev pub Parameter-octets : Type 0
+Parameter-octets = (x : ℕ) → (isParameterOctet x ≡ true) ↔ ((33 ≤ x) × (x ≤ 126) × (x ≢ 59))

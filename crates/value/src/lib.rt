@@ -1,0 +1,1 @@
+// Values of issue and issuewild properties. The definitions stand in specs/.
