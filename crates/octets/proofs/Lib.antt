@@ -4,6 +4,7 @@ pub mod Classes
 pub mod Texts
 pub mod Labels
 pub mod PieceLaws
+pub mod DottedLabels
 pub mod ReaderLaws
 pub mod Numbers
 pub mod ItemLaws

@@ -53,6 +53,9 @@ module _ {A : Type 0} where
     pub All-rest : (xs ys : List A) → All P (xs ++ ys) → All P ys
     All-rest xs ys h = All-append xs ys .0 h .1
 
+    pub All-join : {xs ys : List A} → All P xs → All P ys → All P (xs ++ ys)
+    All-join {xs} {ys} h k = All-append xs ys .1 (h, k)
+
     pub All-member : {y : A} {xs : List A} → All P xs → List·Memᴰ y xs → P y
     All-member {y} h (List·Memᴰ·head e) = subst P (sym e) (All-head h)
     All-member h (List·Memᴰ·tail m) = All-member (All-tail h) m

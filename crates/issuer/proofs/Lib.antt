@@ -1,0 +1,2 @@
+pub mod Dotted
+pub mod AnyCase
