@@ -1,3 +1,4 @@
 pub mod NameLaws
 pub mod WholeNames
 pub mod Ancestors
+pub mod NameField

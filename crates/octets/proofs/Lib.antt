@@ -8,3 +8,6 @@ pub mod DottedLabels
 pub mod ReaderLaws
 pub mod Numbers
 pub mod ItemLaws
+pub mod Fields
+pub mod Verdicts
+pub mod SelectLaws

@@ -28,6 +28,18 @@ module _ {A : Type 0} where
   before none rest = broken 0
   before (some r) rest = follow (r .0) (rest (r .1))
 
+  -- the items themselves; none where they are broken or over
+  abbrev pub wholeItems : Items A → List A
+  wholeItems (whole xs) = xs
+  wholeItems (broken k) = []
+  wholeItems over = []
+
+  -- why they are refused, by an answer for a broken item and one for too many
+  abbrev pub itemFault : {R : Type 0} → (ℕ → R) → R → Items A → Option R
+  itemFault bad many (whole xs) = none
+  itemFault bad many (broken k) = some (bad k)
+  itemFault bad many over = some many
+
 module _ {A : Type 0} (read : Reader A) where
   -- at most so many items; an item is read where any octet is left
   abbrev pub items : ℕ → List ℕ → Items A

@@ -9,7 +9,7 @@ use Rattle.limits.specs.Limits.{maxBookOctets, maxRecords}
 use Rattle.refusal.specs.declared.Refusal.{Refusal}
 use Rattle.refusal.specs.declared.Refusal.the-variants.{BookTooLong, BadRecord, TooManyRecords}
 use Rattle.octets.specs.Reader.{Reader, given, _>>=_, octets, number, inOctets}
-use Rattle.octets.specs.Items.{Items, whole, broken, over, items}
+use Rattle.octets.specs.Items.{Items, wholeItems, itemFault, items}
 use Rattle.name.specs.Names.{Name, wire, name}
 use Rattle.record.specs.Property.{Property, property}
 
@@ -52,19 +52,12 @@ unfoldable pub recordItems : List ℕ → Items Record
 recordItems b = items resourceRecord maxRecords b
 
 -- the records, numbered from 0 by their order; of a refused book none
-abbrev pub recordsOf : Items Record → List Record
-recordsOf (whole rs) = rs
-recordsOf (broken k) = []
-recordsOf over = []
-
 unfoldable pub records : List ℕ → List Record
-records b = recordsOf (recordItems b)
+records b = wholeItems (recordItems b)
 
 -- rows 5 to 7 of the requirements' table of refusals
 abbrev pub recordRefusal : Items Record → Option Refusal
-recordRefusal (whole rs) = none
-recordRefusal (broken k) = some (BadRecord (record { 0 = k }))
-recordRefusal over = some TooManyRecords
+recordRefusal i = itemFault (λ k. BadRecord (record { 0 = k })) TooManyRecords i
 
 unfoldable pub bookRefusal : List ℕ → Option Refusal
 bookRefusal b = cond (ltb maxBookOctets (length b)) (some BookTooLong) (recordRefusal (recordItems b))

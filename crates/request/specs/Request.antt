@@ -12,7 +12,7 @@ use Rattle.octets.specs.Lists.{all, isEmpty}
 use Rattle.octets.specs.Octets.{text, same}
 use Rattle.octets.specs.Label.{isHostLabel}
 use Rattle.octets.specs.Reader.{Reader, given, _>>=_}
-use Rattle.octets.specs.Items.{Items, whole, broken, over, items}
+use Rattle.octets.specs.Items.{Items, wholeItems, itemFault, items}
 use Rattle.name.specs.Names.{Label, Name, name}
 
 -- RFC 8659 section 2.2, Wildcard Domain Name: an asterisk as the first label (the requirements' "star name" *.X)
@@ -40,20 +40,13 @@ requestedName = do
 unfoldable pub nameItems : List ℕ → Items Name
 nameItems s = items requestedName maxNames s
 
--- the names of a request; of a refused one none
-abbrev pub namesOf : Items Name → List Name
-namesOf (whole ns) = ns
-namesOf (broken k) = []
-namesOf over = []
-
+-- the names of a request, numbered from 0 by their order; of a refused one none
 unfoldable pub requestedNames : List ℕ → List Name
-requestedNames s = namesOf (nameItems s)
+requestedNames s = wholeItems (nameItems s)
 
 -- rows 1 to 3 of the requirements' table of refusals
 abbrev pub nameRefusal : Items Name → Option Refusal
-nameRefusal (whole ns) = none
-nameRefusal (broken k) = some (BadName (record { 0 = k }))
-nameRefusal over = some TooManyNames
+nameRefusal i = itemFault (λ k. BadName (record { 0 = k })) TooManyNames i
 
 unfoldable pub requestRefusal : List ℕ → Option Refusal
 requestRefusal s =

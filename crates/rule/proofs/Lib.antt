@@ -1,1 +1,4 @@
 pub mod Table
+pub mod Lookups
+pub mod Nearest
+pub mod Renumber

@@ -1,0 +1,2 @@
+pub mod RequestedNames
+pub mod Requests
