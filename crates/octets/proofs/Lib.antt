@@ -11,3 +11,5 @@ pub mod ItemLaws
 pub mod Fields
 pub mod Verdicts
 pub mod SelectLaws
+pub mod SmallLetters
+pub mod SelectedLists

@@ -4,3 +4,8 @@ pub mod Nearest
 pub mod Renumber
 pub mod AuthorizationLaws
 pub mod VerdictLaws
+pub mod OrderLaws
+pub mod DistinctLaws
+pub mod IssuerListLaws
+pub mod GranteeLaws
+pub mod PermittedLaws
