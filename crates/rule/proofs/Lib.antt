@@ -9,3 +9,7 @@ pub mod DistinctLaws
 pub mod IssuerListLaws
 pub mod GranteeLaws
 pub mod PermittedLaws
+pub mod CheckOrder
+pub mod RefusalLaws
+pub mod BufferLaws
+pub mod Room
