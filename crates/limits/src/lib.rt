@@ -1,1 +1,14 @@
-// The limits of the requirements. The definitions stand in specs/; code that needs a limit brings its constant here.
+// The limits of the requirements, as specs/Limits.antt defines them; whoever is proved against a definition is held to it.
+pub const MAX_LABEL_OCTETS: usize = 63;
+
+pub const MAX_NAME_OCTETS: usize = 255;
+
+pub const MAX_ISSUER_OCTETS: usize = 253;
+
+pub const MAX_REQUEST_OCTETS: usize = 8192;
+
+pub const MAX_NAMES: usize = 100;
+
+pub const MAX_BOOK_OCTETS: usize = 32768;
+
+pub const MAX_RECORDS: usize = 256;

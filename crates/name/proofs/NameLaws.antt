@@ -70,7 +70,7 @@ labels-stand (suc room) (l ∷ n) rest (all-cons g gs) h =
     rw (ne-eqb (length l) 0 (λ e. omega arith), le-leb (length l) maxLabelOctets (g .1), front, ih)
 
 -- each label has a length octet, and the zero octet is one more
-fewer-labels : (n : Name) → length n < length (wire n)
+pub fewer-labels : (n : Name) → length n < length (wire n)
 fewer-labels [] = omega arith
 fewer-labels (l ∷ n) = let ih = fewer-labels n in simp length-append (omega arith)
 
