@@ -40,7 +40,7 @@ plain-octet x = (
   λ o. or-true (isLetterOrDigit x) (eqb x hyphen) .1 (⊎-map (λ h. h) (eq-eqb x hyphen) o),
 )
 
-hyphen-is-neither : isLetterOrDigit hyphen ≡ false
+pub hyphen-is-neither : isLetterOrDigit hyphen ≡ false
 unfolding isLetterOrDigit isUpper isLower isDigit
 hyphen-is-neither = refl
 
@@ -49,11 +49,11 @@ hyphen-is-neither = refl
 letter-or-digit : (x : ℕ) → isLetterDigitHyphen x ≡ true → x ≢ hyphen → isLetterOrDigit x ≡ true
 letter-or-digit x h ne = ⊎-elim (λ e. e) (λ e. absurd (ne e)) (plain-octet x .0 h)
 
-begins-without : (l : List ℕ) → 1 ≤ length l → Plain l → ((s : List ℕ) → l ≢ hyphen ∷ s) → begins isLetterOrDigit l ≡ true
+pub begins-without : (l : List ℕ) → 1 ≤ length l → Plain l → ((s : List ℕ) → l ≢ hyphen ∷ s) → begins isLetterOrDigit l ≡ true
 begins-without [] some h ne = absurd (omega arith)
 begins-without (x ∷ l) some h ne = letter-or-digit x (All-head h) (λ e. ne l (cc))
 
-ends-without : (l : List ℕ) → 1 ≤ length l → Plain l → ((s : List ℕ) → l ≢ s ++ (hyphen ∷ [])) → ends isLetterOrDigit l ≡ true
+pub ends-without : (l : List ℕ) → 1 ≤ length l → Plain l → ((s : List ℕ) → l ≢ s ++ (hyphen ∷ [])) → ends isLetterOrDigit l ≡ true
 ends-without [] some h ne = absurd (omega arith)
 ends-without (x ∷ []) some h ne = letter-or-digit x (All-head h) (λ e. ne [] (cc))
 ends-without (x ∷ y ∷ l) some h ne = ends-without (y ∷ l) (omega arith) (All-tail h) (λ s e. ne (x ∷ s) (cc))

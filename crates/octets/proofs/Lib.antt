@@ -13,3 +13,9 @@ pub mod Verdicts
 pub mod SelectLaws
 pub mod SmallLetters
 pub mod SelectedLists
+pub mod Tests
+pub mod Walks
+pub mod TextWalk
+pub mod LabelTests
+pub mod PieceEnds
+pub mod PieceWalk

@@ -20,7 +20,7 @@ same-equal (x ∷ xs) (y ∷ ys) = (
   λ e. and-eq-true-iff (eqb x y) (same xs ys) .1 (eq-eqb x y (cc), same-equal xs ys .1 (cc)),
 )
 
-same-text : (a b : List ℕ) → (equalIgnoringCase a b ≡ true) ↔ (lowered a ≡ lowered b)
+pub same-text : (a b : List ℕ) → (equalIgnoringCase a b ≡ true) ↔ (lowered a ≡ lowered b)
 unfolding equalIgnoringCase
 same-text a b = same-equal (lowered a) (lowered b)
 

@@ -13,7 +13,7 @@ not-empty [] h = absurd (h refl)
 not-empty (x ∷ p) h = omega arith
 
 module _ {A B : Type 0} (f : A → B) (same : List A → List A → Bool) (law : (a b : List A) → (same a b ≡ true) ↔ (map f a ≡ map f b)) where
-  lengths-differ : (a b : List A) → length a ≢ length b → same a b ≡ false
+  pub lengths-differ : (a b : List A) → length a ≢ length b → same a b ≡ false
   lengths-differ a b ne = not-passed (same a b) (λ e. ne (sym (length-map a f) ∙ ap length (law a b .0 e) ∙ length-map b f))
 
   longer : (a b : List A) → length b < length a → (same a b ≡ false) × (same b a ≡ false)

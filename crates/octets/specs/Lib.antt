@@ -6,4 +6,5 @@ pub mod Reader
 pub mod Items
 pub mod Decimal
 pub mod Grammar
+pub mod Places
 pub mod Theorems
