@@ -19,3 +19,4 @@ pub mod TextWalk
 pub mod LabelTests
 pub mod PieceEnds
 pub mod PieceWalk
+pub mod Decimals

@@ -14,6 +14,7 @@ use Rattle.octets.specs.Label.{isLetterDigitHyphen, isLabel, isHostLabel
 use Rattle.octets.specs.Pieces.{split, join}
 use Rattle.octets.specs.Reader.{Reader, number, inOctets}
 use Rattle.octets.specs.Items.{Items, whole, broken, over, items, BrokenAt, Beyond}
+use Rattle.octets.specs.Decimal.{decimalFrom, decimalOctet}
 use Rattle.octets.specs.Grammar.{label}
 
 -- only the 26 capital letters fold, each to its small letter
@@ -59,6 +60,13 @@ abbrev pub Numbers-high-octet-first : Type 0
 Numbers-high-octet-first =
     (k : ℕ) (s : List ℕ) → Octets s → (n : ℕ) (rest : List ℕ) →
     (number k s ≡ some (n, rest)) ↔ ((s ≡ inOctets k n ++ rest) × (n < 256 ^ k))
+
+-- an octet in decimal: 1 to 3 digits, not above 255
+abbrev pub Decimal-octets : Type 0
+Decimal-octets =
+    (s : List ℕ) (n : ℕ) →
+    (decimalOctet s ≡ some n)
+    ↔ ((1 ≤ length s) × (length s ≤ 3) × All (λ x. isDigit x ≡ true) s × (decimalFrom 0 s ≡ n) × (n ≤ 255))
 
 module _ {A : Type 0} (read : Reader A) (wire : A → List ℕ) (Good : A → Type 0) where
   -- the reader takes a off the front exactly where the octets of a stand there and a is good

@@ -1,4 +1,4 @@
--- The table of edges, by computing.
+-- The table of edges and the numbers of the answers, by computing.
 use mathlib.Core.Path.{_≡_, refl}
 use Rattle.limits.specs.Limits.{maxLabelOctets, maxIssuerOctets}
 use Rattle.octets.specs.Octets.{isDigit, isUpper, isLower, isLetterOrDigit, isBlank, lower, equalIgnoringCase}
@@ -11,7 +11,9 @@ use Rattle.record.specs.Records.{isCaa}
 use Rattle.value.specs.IssueValues.{isDomainName, isParameterOctet, isParameterTag, isParameter, areParameters, issueValue}
 use Rattle.rule.specs.RelevantSet.{lookup, relevantSet}
 use Rattle.rule.specs.Authorizations.{isUnknownCritical, governing, grantee, authorization}
+use Rattle.rule.specs.Calls.{judgementTold, permittedIssuersTold}
 use Rattle.rule.specs.Edges.{Edges-agree}
+use Rattle.rule.specs.Theorems.{Answers-told}
 
 pub edges-agree : Edges-agree
 unfolding maxLabelOctets maxIssuerOctets isDigit isUpper isLower isLetterOrDigit isBlank lower equalIgnoringCase
@@ -19,3 +21,7 @@ unfolding maxLabelOctets maxIssuerOctets isDigit isUpper isLower isLetterOrDigit
     isDomainName isParameterOctet isParameterTag isParameter areParameters issueValue lookup relevantSet
     isUnknownCritical governing grantee authorization
 edges-agree = refl
+
+pub answers-told : Answers-told
+unfolding judgementTold permittedIssuersTold
+answers-told = (refl, λ k r. (refl, refl), λ r. (refl, refl))

@@ -7,7 +7,7 @@ use mathlib.Core.Option.{none, some}
 use lib.ListN.{length, drop}
 use Rattle.refusal.specs.declared.Refusal.{Refusal}
 use Rattle.refusal.specs.declared.Refusal.the-variants.{RequestTooLong, BadName, TooManyNames, BadIssuer, BookTooLong, BadRecord, TooManyRecords, NoRoom, BadLine, LineTooLong, BadData}
-use Rattle.refusal.specs.Refusal.{number}
+use Rattle.refusal.specs.Refusal.{number, place}
 use Rattle.octets.specs.Lists.{All, Distinct, Selects}
 use Rattle.octets.specs.Octets.{Octets, lowered}
 use Rattle.name.specs.Names.{Name}
@@ -24,7 +24,7 @@ use Rattle.rule.specs.RelevantSet.{CaaRecord, Lookup, empty, found, caaR
 use Rattle.rule.specs.Authorizations.{Authorization, unrestricted, forbidden, granted, authorization}
 use Rattle.rule.specs.Verdicts.{denial, verdict}
 use Rattle.rule.specs.IssuerLists.{Issuers, anyone, listed, issuers, entries}
-use Rattle.rule.specs.Calls.{authorizations, judge, listIssuers}
+use Rattle.rule.specs.Calls.{authorizations, judge, listIssuers, judgementTold, permittedIssuersTold}
 use Rattle.rule.specs.Meaning.{CaaRecordsOf, OwnedBy, NearestAt, Unrestricted, PermittedTo, ForbiddenBy, GovernedFrom, GoverningRecords, LowestNot, Before, GrantedBefore}
 
 -- the CAA records are those of type 257 and class 1, numbered from 0 over all records
@@ -142,6 +142,15 @@ abbrev pub Room-of-the-book : Type 0
 Room-of-the-book =
     (request book : List ℕ) → Octets book → bookRefusal book ≡ none → (ns : List (List ℕ)) →
     issuers (authorizations request book) ≡ listed ns → total ns ≤ length book
+
+-- the numbers of the answers: 0; 20 and 21 with a name's and a record's number; a refusal's own
+abbrev pub Answers-told : Type 0
+Answers-told =
+    (judgementTold Permitted ≡ record { number = 0; values = [] })
+    × ((k r : ℕ) → (judgementTold (UnknownCritical (denial k r)) ≡ record { number = 20; values = k ∷ r ∷ [] })
+    × (judgementTold (NotGranted (denial k r)) ≡ record { number = 21; values = k ∷ r ∷ [] }))
+    × ((r : Refusal) → (judgementTold (Refused r) ≡ record { number = number r; values = place r ∷ [] })
+    × (permittedIssuersTold (ListRefused r) ≡ record { number = number r; values = place r ∷ [] }))
 
 -- Deciding never computes with record numbers: other numbers change those in the answer and nothing else.
 abbrev pub renumbered : (ℕ → ℕ) → CaaRecord → CaaRecord
