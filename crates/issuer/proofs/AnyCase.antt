@@ -1,54 +1,29 @@
 -- Letter case does not matter to the form of an issuer domain name.
-use Prim.Native.Nat.{ℕ, _+_, _≤_, _<_}
+use Prim.Native.Nat.{ℕ, _+_, _<_}
 use Prim.Native.Char.{code}
 use native.Mathlib.Omega.{arith}
 use mathlib.Core.Path.{_≡_, refl}
-use mathlib.Core.Logic.{_⊎_, inl, inr}
-use mathlib.Core.Bool.{Bool, true, false, cond, and-eq-true-iff}
+use mathlib.Core.Logic.{inl, inr}
+use mathlib.Core.Bool.{Bool, true, false, cond}
 use mathlib.Core.List.{List, [], _∷_, map}
-use lib.Dec.{leb, eqb}
+use lib.Dec.{eqb}
 use lib.ListN.{length-map}
-use borrow.Author.Tests.{leb-true, le-leb, lt-leb, ne-eqb}
+use borrow.Author.Tests.{ne-eqb}
 use Rattle.octets.specs.Lists.{all, begins, ends}
-use Rattle.octets.specs.Octets.{isUpper, isLower, isLetterOrDigit, hyphen, lower, lowered}
+use Rattle.octets.specs.Octets.{isLetterOrDigit, hyphen, lower, lowered}
 use Rattle.octets.specs.Label.{isLetterDigitHyphen, isLabel, isHostLabel}
 use Rattle.octets.specs.Pieces.{extend, split}
+use Rattle.octets.proofs.SmallLetters.{Lowers, lower-cases, lower-letter}
 use Rattle.issuer.specs.Issuer.{isIssuer}
 use Rattle.issuer.specs.Theorems.{Issuer-in-any-case}
-
--- an octet stays as it is, or is a capital letter and becomes a small one
-lower-cases : (x : ℕ) → (lower x ≡ x) ⊎ ((65 ≤ x) × (x ≤ 90) × (lower x ≡ x + 32))
-unfolding lower isUpper
-lower-cases x = go (isUpper x) refl
-  where
-    go : (t : Bool) → isUpper x ≡ t → (cond t (x + 32) x ≡ x) ⊎ ((65 ≤ x) × (x ≤ 90) × (cond t (x + 32) x ≡ x + 32))
-    go true e = let k = and-eq-true-iff (leb 65 x) (leb x 90) .0 e in inr (leb-true 65 x (k .0), leb-true x 90 (k .1), refl)
-    go false e = inl refl
 
 -- no octet below the letters becomes one, or comes of one
 lower-eqb : (c : ℕ) → c < 65 → (x : ℕ) → eqb (lower x) c ≡ eqb x c
 lower-eqb c small x = go (lower-cases x)
   where
-    go : (lower x ≡ x) ⊎ ((65 ≤ x) × (x ≤ 90) × (lower x ≡ x + 32)) → eqb (lower x) c ≡ eqb x c
+    go : Lowers x → eqb (lower x) c ≡ eqb x c
     go (inl e) = rw e
     go (inr k) = rw (k .2, ne-eqb (x + 32) c (λ e. omega arith), ne-eqb x c (λ e. omega arith))
-
-lower-letter : (x : ℕ) → isLetterOrDigit (lower x) ≡ isLetterOrDigit x
-unfolding isLetterOrDigit isUpper isLower
-lower-letter x = go (lower-cases x)
-  where
-    go : (lower x ≡ x) ⊎ ((65 ≤ x) × (x ≤ 90) × (lower x ≡ x + 32)) → isLetterOrDigit (lower x) ≡ isLetterOrDigit x
-    go (inl e) = rw e
-    go (inr k) =
-        rw (
-          k .2,
-          le-leb 65 x (k .0),
-          le-leb x 90 (k .1),
-          le-leb 65 (x + 32) (omega arith),
-          lt-leb (x + 32) 90 (omega arith),
-          le-leb 97 (x + 32) (omega arith),
-          le-leb (x + 32) 122 (omega arith),
-        )
 
 lower-plain : (x : ℕ) → isLetterDigitHyphen (lower x) ≡ isLetterDigitHyphen x
 unfolding isLetterDigitHyphen

@@ -25,3 +25,14 @@ maxBookOctets = 32768
 
 unfoldable pub maxRecords : ℕ
 maxRecords = 256
+
+-- CAA data that a line is made of or that is made of a line, and the line itself
+unfoldable pub maxDataOctets : ℕ
+maxDataOctets = 4096
+
+unfoldable pub maxLineOctets : ℕ
+maxLineOctets = 16384
+
+-- the tag length of CAA data is one octet (RFC 8659 section 4.1)
+unfoldable pub maxTagOctets : ℕ
+maxTagOctets = 255

@@ -12,3 +12,9 @@ pub const MAX_NAMES: usize = 100;
 pub const MAX_BOOK_OCTETS: usize = 32768;
 
 pub const MAX_RECORDS: usize = 256;
+
+pub const MAX_DATA_OCTETS: usize = 4096;
+
+pub const MAX_LINE_OCTETS: usize = 16384;
+
+pub const MAX_TAG_OCTETS: usize = 255;

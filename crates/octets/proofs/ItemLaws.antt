@@ -5,13 +5,28 @@ use mathlib.Core.Path.{_≡_, refl, sym, ap, _∙_}
 use mathlib.Core.Logic.{_↔_, _≢_}
 use mathlib.Core.List.{List, [], _∷_, _++_, map, foldr, append-nil, append-assoc, append-eq-nil-iff, cons≢nil}
 use mathlib.Core.Option.{Option, none, some, Option·none-ne-some}
-use lib.ListN.{length}
+use lib.ListN.{length, length-append}
 use Rattle.octets.specs.Lists.{All, all-nil, all-cons, concat}
 use Rattle.octets.specs.Octets.{Octets}
 use Rattle.octets.specs.Reader.{Reader}
 use Rattle.octets.specs.Items.{Items, whole, broken, over, follow, before, items, Front, BrokenAt, Beyond}
-use Rattle.octets.specs.Theorems.{Reads, Items-end-to-end}
+use Rattle.octets.specs.Theorems.{Items-end-to-end}
 use Rattle.octets.proofs.ListLaws.{All-head, All-tail, All-rest}
+use Rattle.octets.proofs.WholeLists.{not-empty}
+
+-- items by what is left: nothing, octets beyond the limit, octets to read an item from
+module _ {A : Type 0} (read : Reader A) where
+  pub items-end : (room : ℕ) → items read room [] ≡ whole []
+  items-end zero = refl
+  items-end (suc room) = refl
+
+  pub items-over : (s : List ℕ) → s ≢ [] → items read 0 s ≡ over
+  items-over [] n = absurd (n refl)
+  items-over (x ∷ s) n = refl
+
+  pub items-step : (room : ℕ) (s : List ℕ) → s ≢ [] → items read (suc room) s ≡ before (read s) (items read room)
+  items-step room [] n = absurd (n refl)
+  items-step room (x ∷ s) n = refl
 
 module _ {A : Type 0} where
   follow-whole : (xs : List A) → foldr follow (whole []) xs ≡ whole xs
@@ -48,15 +63,18 @@ module _ {A : Type 0} (wire : A → List ℕ) (Good : A → Type 0) where
       let (xs, rest, f, l, more) = h in
       (a ∷ xs, rest, front-more a s t xs rest g f, ap suc l, more)
 
-  module _ (read : Reader A) (reads : Reads read wire Good) where
-    items-say : (room : ℕ) (s : List ℕ) → Octets s → Says room s (items read room s)
+  -- the reader reads so the lists that are fit, as what is left of a fit list is again: lists of octets, or all lists
+  module _
+      (Fit : List ℕ → Type 0) (rests : (a b : List ℕ) → Fit (a ++ b) → Fit b) (read : Reader A)
+      (reads : (s : List ℕ) → Fit s → (a : A) (rest : List ℕ) → (read s ≡ some (a, rest)) ↔ ((s ≡ wire a ++ rest) × Good a)) where
+    items-say : (room : ℕ) (s : List ℕ) → Fit s → Says room s (items read room s)
     items-say zero [] o = (refl, all-nil, omega arith)
     items-say zero (x ∷ s) o = ([], x ∷ s, (refl, all-nil), refl, cons≢nil)
     items-say (suc room) [] o = (refl, all-nil, omega arith)
     items-say (suc room) (x ∷ s) o = go (read (x ∷ s)) refl (items-say room)
       where
         go :
-            (r : Option (A × List ℕ)) → read (x ∷ s) ≡ r → ((t : List ℕ) → Octets t → Says room t (items read room t)) →
+            (r : Option (A × List ℕ)) → read (x ∷ s) ≡ r → ((t : List ℕ) → Fit t → Says room t (items read room t)) →
             Says (suc room) (x ∷ s) (before r (items read room))
         go none e say = (
           omega arith,
@@ -64,54 +82,59 @@ module _ {A : Type 0} (wire : A → List ℕ) (Good : A → Type 0) where
         )
         go (some r) e say =
             let g = reads (x ∷ s) o (r .0) (r .1) .0 e in
-            says-more room (r .0) (x ∷ s) (r .1) g (items read room (r .1)) (say (r .1) (All-rest (wire (r .0)) (r .1) (rw (g .0) at o)))
+            says-more room (r .0) (x ∷ s) (r .1) g (items read room (r .1)) (say (r .1) (rests (wire (r .0)) (r .1) (rw (g .0) at o)))
 
     -- where no good item stands, nothing is read
-    unread : (s : List ℕ) → Octets s → ((a : A) (more : List ℕ) → s ≡ wire a ++ more → Good a → ⊥) → read s ≡ none
+    unread : (s : List ℕ) → Fit s → ((a : A) (more : List ℕ) → s ≡ wire a ++ more → Good a → ⊥) → read s ≡ none
     unread s o bad = go (read s) refl
       where
         go : (r : Option (A × List ℕ)) → read s ≡ r → read s ≡ none
         go none e = e
         go (some r) e = let (f, g) = reads s o (r .0) (r .1) .0 e in absurd (bad (r .0) (r .1) f g)
 
-    items-end : (room : ℕ) → items read room [] ≡ whole []
-    items-end zero = refl
-    items-end (suc room) = refl
-
-    items-over : (s : List ℕ) → s ≢ [] → items read 0 s ≡ over
-    items-over [] n = absurd (n refl)
-    items-over (x ∷ s) n = refl
-
-    items-step : (room : ℕ) (s : List ℕ) → s ≢ [] → items read (suc room) s ≡ before (read s) (items read room)
-    items-step room [] n = absurd (n refl)
-    items-step room (x ∷ s) n = refl
-
     module _ (full : (a : A) → wire a ≢ []) where
       -- good items at the front are read
       items-front :
-          (xs : List A) (n room : ℕ) (s rest : List ℕ) → Octets s → n ≡ length xs + room → Front wire Good s xs rest →
+          (xs : List A) (n room : ℕ) (s rest : List ℕ) → Fit s → n ≡ length xs + room → Front wire Good s xs rest →
           items read n s ≡ foldr follow (items read room rest) xs
       items-front [] n room s rest o e f = let m : n ≡ room = omega arith in rw (m, f.0) refl
       items-front (a ∷ xs) zero room s rest o e f = absurd (omega arith)
       items-front (a ∷ xs) (suc n) room s rest o e f =
           let t = concat (map wire xs) ++ rest in
           let first : s ≡ wire a ++ t = rw append-assoc at f.0 in
-          rw (items-step n s (λ z. full a (append-eq-nil-iff .0 (sym first ∙ z) .0)), reads s o a t .1 (first, All-head f.1))
-          (ap (follow a) (items-front xs n room t rest (All-rest (wire a) t (rw first at o)) (omega arith) (refl, All-tail f.1)))
+          rw (items-step read n s (λ z. full a (append-eq-nil-iff .0 (sym first ∙ z) .0)), reads s o a t .1 (first, All-head f.1))
+          (ap (follow a) (items-front xs n room t rest (rests (wire a) t (rw first at o)) (omega arith) (refl, All-tail f.1)))
 
-      items-said : (room : ℕ) (s : List ℕ) → Octets s → (r : Items A) → Says room s r → items read room s ≡ r
+      items-said : (room : ℕ) (s : List ℕ) → Fit s → (r : Items A) → Says room s r → items read room s ≡ r
       items-said room s o (whole xs) h =
-          items-front xs room (room - length xs) s [] o (omega arith) (rw append-nil h.0, h.1) ∙ rw items-end (follow-whole xs)
+          items-front xs room (room - length xs) s [] o (omega arith) (rw append-nil h.0, h.1) ∙ rw (items-end read) (follow-whole xs)
       items-said room s o (broken k) h =
           let (xs, rest, f, l, more, bad) = h.1 in
           items-front xs room (suc (room - suc k)) s rest o (omega arith) f
-          ∙ rw (items-step (room - suc k) rest more, unread rest (All-rest (concat (map wire xs)) rest (rw f.0 at o)) bad, ← l) (follow-broken xs)
+          ∙ rw (items-step read (room - suc k) rest more, unread rest (rests (concat (map wire xs)) rest (rw f.0 at o)) bad, ← l) (follow-broken xs)
       items-said room s o over h =
           let (xs, rest, f, l, more) = h in
-          items-front xs room 0 s rest o (omega arith) f ∙ rw (items-over rest more) (follow-over xs)
+          items-front xs room 0 s rest o (omega arith) f ∙ rw (items-over read rest more) (follow-over xs)
+
+      items-tell : (room : ℕ) (s : List ℕ) → Fit s → (r : Items A) → (items read room s ≡ r) ↔ Says room s r
+      items-tell room s o r = (λ e. rw e at (items-say room s o), items-said room s o r)
 
 pub items-end-to-end : Items-end-to-end
 items-end-to-end A read wire Good reads full room s o = (λ xs. tell (whole xs), λ k. tell (broken k), tell over)
   where
     tell : (r : Items A) → (items read room s ≡ r) ↔ Says wire Good room s r
-    tell r = (λ e. rw e at (items-say wire Good read reads room s o), items-said wire Good read reads full room s o r)
+    tell = items-tell wire Good Octets All-rest read reads full room s o
+
+-- Items in any list, with room for as many items as there are octets: no more can stand there.
+module _ {A : Type 0} (wire : A → List ℕ) (Good : A → Type 0) (full : (a : A) → wire a ≢ []) where
+  fewer : (xs : List A) → length xs ≤ length (concat (map wire xs))
+  fewer [] = omega arith
+  fewer (a ∷ xs) = rw length-append (omega (arith, fewer xs, not-empty (wire a) (full a)))
+
+  pub items-whole :
+      (read : Reader A) →
+      ((s : List ℕ) (a : A) (rest : List ℕ) → (read s ≡ some (a, rest)) ↔ ((s ≡ wire a ++ rest) × Good a)) →
+      (s : List ℕ) (xs : List A) → (items read (length s) s ≡ whole xs) ↔ ((s ≡ concat (map wire xs)) × All Good xs)
+  items-whole read reads s xs =
+      let law = items-tell wire Good (λ s. Unit {0}) (λ a b h. tt) read (λ s h. reads s) full (length s) s tt (whole xs) in
+      (λ e. let (a, b, c) = law .0 e in (a, b), λ h. law .1 (h .0, h .1, rw (h .0) (fewer xs)))

@@ -20,3 +20,6 @@ pub mod LabelTests
 pub mod PieceEnds
 pub mod PieceWalk
 pub mod Decimals
+pub mod Runs
+pub mod ItemWalk
+pub mod ReadAt

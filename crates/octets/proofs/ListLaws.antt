@@ -2,7 +2,7 @@
 use mathlib.Core.Path.{_≡_, refl, sym, subst}
 use mathlib.Core.Logic.{_↔_, _⊎_, inl, inr, ⊎-map}
 use mathlib.Core.Bool.{Bool, true, false, _||_, true≢false, false≢true, and-eq-true-iff}
-use mathlib.Core.List.{List, [], _∷_, _++_, List·Memᴰ, List·Memᴰ·head, List·Memᴰ·tail, List·Memᴰ·not-nil, List·Memᴰ·cases-cons}
+use mathlib.Core.List.{List, [], _∷_, _++_, map, List·Memᴰ, List·Memᴰ·head, List·Memᴰ·tail, List·Memᴰ·not-nil, List·Memᴰ·cases-cons}
 use Rattle.octets.specs.Lists.{all, any, ends, All, all-nil, all-cons}
 
 pub or-true : (a b : Bool) → (a || b ≡ true) ↔ ((a ≡ true) ⊎ (b ≡ true))
@@ -63,6 +63,11 @@ module _ {A : Type 0} where
   pub All-imp : {P Q : A → Type 0} → ((x : A) → P x → Q x) → {xs : List A} → All P xs → All Q xs
   All-imp f all-nil = all-nil
   All-imp f (all-cons {x} h hs) = all-cons (f x h) (All-imp f hs)
+
+  pub All-map :
+      {B : Type 0} {P : A → Type 0} {Q : B → Type 0} (f : A → B) → ((x : A) → P x → Q (f x)) → {xs : List A} → All P xs → All Q (map f xs)
+  All-map f h all-nil = all-nil
+  All-map f h (all-cons {x} k ks) = all-cons (h x k) (All-map f h ks)
 
   module _ (p : A → Bool) where
     pub all-true : (xs : List A) → (all p xs ≡ true) ↔ All (λ x. p x ≡ true) xs

@@ -8,7 +8,7 @@ use mathlib.Core.List.{List, [], _∷_, _++_, map}
 use lib.ListN.{length, length-append, length-map}
 use Rattle.octets.proofs.ListLaws.{not-passed}
 
-not-empty : {A : Type 0} (p : List A) → p ≢ [] → 0 < length p
+pub not-empty : {A : Type 0} (p : List A) → p ≢ [] → 0 < length p
 not-empty [] h = absurd (h refl)
 not-empty (x ∷ p) h = omega arith
 

@@ -22,3 +22,9 @@ pub enum Refusal {
     LineTooLong,
     BadData,
 }
+
+// What checking an input comes to.
+pub enum Check {
+    Accepted,
+    Refused(Refusal),
+}

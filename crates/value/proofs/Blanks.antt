@@ -3,16 +3,10 @@ use Prim.Native.Nat.{ℕ}
 use mathlib.Core.Path.{_≡_, refl, _∙_, ap}
 use mathlib.Core.Bool.{Bool, true, false, cond}
 use mathlib.Core.List.{List, [], _∷_, _++_, append-assoc}
-use Rattle.octets.specs.Lists.{All, all-nil, all-cons}
+use Rattle.octets.specs.Lists.{all-nil, all-cons}
 use Rattle.octets.specs.Octets.{isBlank}
+use Rattle.octets.proofs.Runs.{Blank, Blankless}
 use Rattle.value.specs.IssueValues.{trimStart, unlessLastBlank, trimEnd, trim}
-use Rattle.value.proofs.Classes.{Of}
-
-abbrev pub Blank : List ℕ → Type 0
-Blank s = Of isBlank s
-
-abbrev pub Blankless : List ℕ → Type 0
-Blankless s = All (λ x. isBlank x ≡ false) s
 
 -- What is taken off is blank.
 
@@ -57,7 +51,7 @@ trimEnd-blank : {b : List ℕ} → Blank b → trimEnd b ≡ []
 trimEnd-blank all-nil = refl
 trimEnd-blank (all-cons h hs) = rw (trimEnd-blank hs, h)
 
-trimEnd-back : (s : List ℕ) {b : List ℕ} → Blank b → trimEnd (s ++ b) ≡ trimEnd s
+pub trimEnd-back : (s : List ℕ) {b : List ℕ} → Blank b → trimEnd (s ++ b) ≡ trimEnd s
 trimEnd-back [] h = trimEnd-blank h
 trimEnd-back (x ∷ s) h = rw (trimEnd-back s h)
 
@@ -81,12 +75,13 @@ trimEnd-leaves {s} h k = trimEnd-back s k ∙ trimEnd-blankless h
 pub trim-leaves : {a s b : List ℕ} → Blank a → Blankless s → Blank b → trim (a ++ (s ++ b)) ≡ s
 trim-leaves {s} {b} h k l = trim-front h (s ++ b) ∙ ap trimStart (trimEnd-leaves k l) ∙ trimStart-blankless k
 
+-- what stands before c, which is not blank, stays
+pub trimEnd-upTo : (s : List ℕ) (c : ℕ) → isBlank c ≡ false → (r : List ℕ) → trimEnd (s ++ (c ∷ r)) ≡ s ++ (c ∷ trimEnd r)
+trimEnd-upTo [] c h r = stays c h (trimEnd r)
+trimEnd-upTo (y ∷ []) c h r = rw (stays c h (trimEnd r))
+trimEnd-upTo (y ∷ z ∷ s) c h r = rw (trimEnd-upTo (z ∷ s) c h r)
+
 -- from x up to c, neither blank, nothing is taken off
 pub trim-within : {a : List ℕ} → Blank a → (x : ℕ) → isBlank x ≡ false → (s : List ℕ) (c : ℕ) → isBlank c ≡ false → (r : List ℕ) →
     trim (a ++ (x ∷ s ++ (c ∷ r))) ≡ x ∷ s ++ (c ∷ trimEnd r)
-trim-within h x first s c last r = trim-front h (x ∷ s ++ (c ∷ r)) ∙ rw (upTo (x ∷ s), first)
-  where
-    upTo : (s : List ℕ) → trimEnd (s ++ (c ∷ r)) ≡ s ++ (c ∷ trimEnd r)
-    upTo [] = stays c last (trimEnd r)
-    upTo (y ∷ []) = rw (stays c last (trimEnd r))
-    upTo (y ∷ z ∷ s) = rw (upTo (z ∷ s))
+trim-within h x first s c last r = trim-front h (x ∷ s ++ (c ∷ r)) ∙ rw (trimEnd-upTo (x ∷ s) c last r, first)

@@ -14,10 +14,10 @@ use Rattle.octets.specs.Grammar.{label, lit, _⊕_, many, many-none, many-more}
 use Rattle.octets.proofs.ListLaws.{All-join, or-true, All-head, All-tail, All-imp}
 use Rattle.octets.proofs.Labels.{label-parts, label-is-the-production}
 use Rattle.octets.proofs.DottedLabels.{Joined, pieces-pass, label-dotless, told-apart}
+use Rattle.octets.proofs.Runs.{Of, not-blank, Blankless}
 use Rattle.value.specs.IssueValues.{isDomainName}
 use Rattle.value.specs.Productions.{issuerDomainName}
-use Rattle.value.proofs.Classes.{Of, Free, not-blank}
-use Rattle.value.proofs.Blanks.{Blankless}
+use Rattle.value.proofs.Classes.{Free}
 use Rattle.value.proofs.Cuts.{join-more}
 
 matched : (l : List ℕ) (ls : List (List ℕ)) → All (λ l. isLabel l ≡ true) (l ∷ ls) → issuerDomainName (join (code ".") (l ∷ ls))

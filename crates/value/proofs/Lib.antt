@@ -1,7 +1,12 @@
 pub mod Classes
 pub mod Blanks
+pub mod TrimWalk
 pub mod Cuts
 pub mod DomainNames
 pub mod Parameters
+pub mod ParameterTests
 pub mod ParameterParts
 pub mod Values
+pub mod NamePlaces
+pub mod ValueTests
+pub mod ValuePlaces

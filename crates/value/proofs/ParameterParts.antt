@@ -11,9 +11,9 @@ use Rattle.octets.specs.Pieces.{split, join}
 use Rattle.octets.specs.Grammar.{Production, _⊕_, optional}
 use Rattle.octets.proofs.ListLaws.{or-true, all-true, All-head, All-tail}
 use Rattle.octets.proofs.PieceLaws.{pieces-join}
+use Rattle.octets.proofs.Runs.{many-of, of-many}
 use Rattle.value.specs.IssueValues.{isParameter, isBlankAlone, areParameters}
 use Rattle.value.specs.Productions.{blanks, parameter, parameters, more, last}
-use Rattle.value.proofs.Classes.{many-of, of-many}
 use Rattle.value.proofs.Cuts.{split-one, split-more}
 use Rattle.value.proofs.Parameters.{parameter-matches, blank-free, parameter-free}
 

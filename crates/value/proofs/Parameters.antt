@@ -13,10 +13,11 @@ use Rattle.octets.specs.Grammar.{_⊕_}
 use Rattle.octets.proofs.ListLaws.{All-join, all-true, All-head, All-tail, All-imp}
 use Rattle.octets.proofs.PieceLaws.{pieces-join}
 use Rattle.octets.proofs.DottedLabels.{told-apart}
+use Rattle.octets.proofs.Runs.{Of, many-of, of-many, not-blank, Blank, Blankless}
 use Rattle.value.specs.IssueValues.{trimStart, trimEnd, trim, isParameterOctet, isParameterTag, isTagAndValue, isParameter}
 use Rattle.value.specs.Productions.{blanks, tag, parameter}
-use Rattle.value.proofs.Classes.{Of, Free, many-of, of-many, not-blank}
-use Rattle.value.proofs.Blanks.{Blank, Blankless, trimStart-takes, trimEnd-takes, trim-takes, trimEnd-leaves, trim-leaves, trim-within}
+use Rattle.value.proofs.Classes.{Free}
+use Rattle.value.proofs.Blanks.{trimStart-takes, trimEnd-takes, trim-takes, trimEnd-leaves, trim-leaves, trim-within}
 use Rattle.value.proofs.Cuts.{split-more}
 
 -- A parameter by its parts.
@@ -86,7 +87,7 @@ tag-and-value s h = go (split (code "=") s) refl h
         )
 
 -- and back
-value-behind : (t s : List ℕ) →
+pub value-behind : (t s : List ℕ) →
     isTagAndValue (t ∷ split (code "=") s) ≡ (isParameterTag (trimEnd t) && all isParameterOctet (trimStart s))
 value-behind t s = let made = pieces-join (code "=") s (split (code "=") s) .0 refl in go (split (code "=") s) (made .0) (made .1)
   where

@@ -10,10 +10,11 @@ use Rattle.octets.specs.Lists.{all-nil}
 use Rattle.octets.specs.Pieces.{split, join}
 use Rattle.octets.proofs.ListLaws.{All-join, All-head, All-tail}
 use Rattle.octets.proofs.PieceLaws.{pieces-join}
+use Rattle.octets.proofs.Runs.{many-of, of-many}
 use Rattle.value.specs.IssueValues.{IssueValue, malformed, nameless, named, trim, isDomainName, areParameters, nameIn, fromPieces, issueValue}
 use Rattle.value.specs.Productions.{parameterPart, valueWithoutName, valueWithName}
 use Rattle.value.specs.Theorems.{Value-is-the-grammar}
-use Rattle.value.proofs.Classes.{Free, many-of, of-many}
+use Rattle.value.proofs.Classes.{Free}
 use Rattle.value.proofs.Blanks.{trim-takes, trim-leaves}
 use Rattle.value.proofs.Cuts.{split-one, split-more}
 use Rattle.value.proofs.DomainNames.{domain-name-matches, domain-name-not-empty, domain-name-blankless, domain-name-free}
@@ -89,6 +90,14 @@ reads s v fits = (go (split (code ";") s) refl, λ k. let (ps, e, t) = front-mat
     go : (ps : List (List ℕ)) → split (code ";") s ≡ ps → fromPieces ps ≡ v → (f : List ℕ) × Front s f × (nameIn (trim f) ≡ v)
     go [] e h = absurd (fits (sym h))
     go (f ∷ ps) e h = by f ps e (areParameters ps) refl h
+
+-- the name is what the first piece holds between blanks
+pub name-in-front : (s n : List ℕ) → issueValue s ≡ named n → (f r : List ℕ) × (s ≡ f ++ r) × (trim f ≡ n) × (n ≢ [])
+name-in-front s n e =
+    let (f, front, told) = reads s (named n) named-fits .0 e in
+    let (r, whole, free, part) = front in
+    let (found, good) = name-found (trim f) n .0 told in
+    (f, r, whole, found, λ none. true≢false (sym good ∙ ap isDomainName none ∙ domain-name-not-empty))
 
 -- The productions.
 

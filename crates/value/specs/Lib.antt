@@ -1,3 +1,4 @@
 pub mod IssueValues
 pub mod Productions
+pub mod Places
 pub mod Theorems

@@ -1,0 +1,10 @@
+pub mod Units
+pub mod Fields
+pub mod LineValues
+pub mod Lines
+pub mod CallRefusals
+pub mod LineRefusals
+pub mod WrittenParts
+pub mod LineLength
+pub mod RoundTrip
+pub mod ReadBack

@@ -1,0 +1,54 @@
+-- The two calls one after the other, whatever the buffers held.
+use Prim.Native.Nat.{ℕ, _≤_}
+use mathlib.Core.Path.{_≡_, refl, ap}
+use mathlib.Core.List.{List, _++_}
+use lib.ListN.{length, drop, length-append, length-map}
+use lib.Seq.{take-append-seam, take-at}
+use borrow.Author.Tests.{le-leb}
+use Rattle.limits.specs.Limits.{maxDataOctets, maxLineOctets}
+use Rattle.octets.specs.Octets.{isLetterOrDigit}
+use Rattle.octets.proofs.ListLaws.{all-true}
+use Rattle.record.specs.Property.{wireProperty}
+use Rattle.record.proofs.PropertyLaws.{property-is-its-parts}
+use Rattle.presentation.specs.declared.Made.the-variants.{Length}
+use Rattle.presentation.specs.Written.{line}
+use Rattle.presentation.specs.Calls.{Output, placed, writeLine, parseLine}
+use Rattle.presentation.specs.Theorems.{smallTag, Written-reads-back}
+use Rattle.presentation.proofs.LineLength.{line-fits}
+use Rattle.presentation.proofs.RoundTrip.{there-and-back}
+
+-- what fits is placed at the front of the buffer
+abbrev at-front : List ℕ → List ℕ → Output
+at-front made buffer = record { answer = Length (length made); buffer = made ++ drop (length made) buffer }
+
+placed-fits : (made buffer : List ℕ) → length made ≤ length buffer → placed made buffer ≡ at-front made buffer
+unfolding placed
+placed-fits made buffer fits = rw (le-leb (length made) (length buffer) fits)
+
+pub written-reads-back : Written-reads-back
+unfolding writeLine parseLine
+written-reads-back p b₁ b₂ has fits room₁ room₂ = rw (written, take-append-seam, read) (refl, ap Length same, take-at w _ _ same)
+  where
+    w : List ℕ
+    w = wireProperty (smallTag p)
+
+    same : length w ≡ length (wireProperty p)
+    same = simp (length-append, length-map)
+
+    written : writeLine (wireProperty p) b₁ ≡ at-front (line p) b₁
+    written =
+        rw (
+          le-leb (length (wireProperty p)) maxDataOctets fits,
+          property-is-its-parts (wireProperty p) p .1 (refl, has .1 .0),
+          all-true isLetterOrDigit (p .tag) .1 (has .1 .2),
+        )
+        (placed-fits (line p) b₁ room₁)
+
+    read : parseLine (line p) b₂ ≡ at-front w b₂
+    read =
+        rw (
+          le-leb (length (line p)) maxLineOctets (line-fits p has fits),
+          there-and-back p has,
+          le-leb (length w) maxDataOctets (rw same fits),
+        )
+        (placed-fits w b₂ (rw same room₂))

@@ -1,0 +1,94 @@
+-- A written line is of the grammar, and stands for the data with its tag in small letters.
+use Prim.Native.Nat.{ℕ, _+_, _/_, _%_, _<_}
+use native.Mathlib.Omega.{arith}
+use mathlib.Core.Path.{_≡_, refl, _∙_}
+use mathlib.Core.Logic.{_⊎_, inl, inr}
+use mathlib.Core.Bool.{Bool, true, false, cond, _||_}
+use mathlib.Core.List.{List, [], _∷_, _++_, map, append-assoc}
+use lib.Dec.{ltb, eqb}
+use lib.ListN.{length-map}
+use borrow.Author.Tests.{le-leb, ltb-true, eqb-true, eqb-false}
+use Rattle.octets.specs.Lists.{all-nil, all-cons, concat}
+use Rattle.octets.specs.Octets.{Octets, between, isDigit, isBlank, lower, lowered}
+use Rattle.octets.specs.Grammar.{many-none}
+use Rattle.octets.proofs.ListLaws.{or-true, or-false, All-map}
+use Rattle.octets.proofs.SmallLetters.{lower-letter}
+use Rattle.record.specs.Property.{Property}
+use Rattle.presentation.specs.Written.{space, quote, backslash, digit, threeDigits, decimal, escaped, line}
+use Rattle.presentation.specs.Read.{Unit, plain, quoted, numbered, valueOf, isInQuotes}
+use Rattle.presentation.specs.Grammar.{someBlanks, FlagsField, TagField, wireUnit, GoodUnit, UnitsFor, LineOf}
+use Rattle.presentation.specs.Theorems.{smallTag, HasLine}
+
+is-digit : (d : ℕ) → d < 10 → isDigit (digit d) ≡ true
+unfolding isDigit
+is-digit d h = rw (le-leb 48 (48 + d) (omega arith), le-leb (48 + d) 57 (omega arith))
+
+pub flags-written : (n : ℕ) → n < 256 → FlagsField n (decimal n)
+unfolding decimal
+flags-written n h = go (ltb n 10) refl (ltb n 100) refl
+  where
+    go :
+        (t : Bool) → ltb n 10 ≡ t → (u : Bool) → ltb n 100 ≡ u →
+        FlagsField n (cond t (digit n ∷ []) (cond u (digit (n / 10) ∷ digit (n % 10) ∷ []) (threeDigits n)))
+    go true t u e = (omega arith, omega arith, all-cons (is-digit n (ltb-true n 10 t)) all-nil, omega arith, omega arith)
+    go false t true u =
+        let small = ltb-true n 100 u in
+        (omega arith, omega arith, all-cons (is-digit (n / 10) (omega arith)) (all-cons (is-digit (n % 10) (omega arith)) all-nil), omega arith, omega arith)
+    go false t false u = (
+      omega arith,
+      omega arith,
+      all-cons (is-digit (n / 100) (omega arith)) (all-cons (is-digit (n / 10 % 10) (omega arith)) (all-cons (is-digit (n % 10) (omega arith)) all-nil)),
+      omega arith,
+      omega arith,
+    )
+
+tag-written : (t : List ℕ) → TagField t → TagField (lowered t)
+tag-written t (some, few, letters) = rw (length-map t lower) (some, few, All-map lower (λ x h. lower-letter x ∙ h) letters)
+
+-- s is one good unit inside quotes, and stands for x
+abbrev UnitFor : ℕ → List ℕ → Type 0
+UnitFor x s = (u : Unit) × (s ≡ wireUnit u) × GoodUnit isInQuotes u × (valueOf u ≡ x)
+
+octet-written : (x : ℕ) → x < 256 → UnitFor x (escaped x)
+unfolding escaped isInQuotes isDigit
+octet-written x h = go (eqb x quote || eqb x backslash) refl (between 32 126 x) refl
+  where
+    special : (eqb x quote ≡ true) ⊎ (eqb x backslash ≡ true) → GoodUnit isInQuotes (quoted x)
+    special (inl e) = rw (eqb-true x quote e) (omega arith, omega arith, refl)
+    special (inr e) = rw (eqb-true x backslash e) (omega arith, omega arith, refl)
+
+    go :
+        (t : Bool) → eqb x quote || eqb x backslash ≡ t → (u : Bool) → between 32 126 x ≡ u →
+        UnitFor x (cond t (backslash ∷ x ∷ []) (cond u (x ∷ []) (backslash ∷ threeDigits x)))
+    go true t u e = (quoted x, refl, special (or-true (eqb x quote) (eqb x backslash) .0 t), refl)
+    go false t true u =
+        (plain x, refl, (rw (u, t) refl, eqb-false x backslash (or-false (eqb x quote) (eqb x backslash) .0 t .1)), refl)
+    go false t false u = (
+      numbered (digit (x / 100)) (digit (x / 10 % 10)) (digit (x % 10)),
+      refl,
+      (is-digit (x / 100) (omega arith), is-digit (x / 10 % 10) (omega arith), is-digit (x % 10) (omega arith), omega arith),
+      omega arith,
+    )
+
+pub value-written : {v : List ℕ} → Octets v → UnitsFor isInQuotes v (concat (map escaped v))
+value-written all-nil = ([], refl, all-nil, refl)
+value-written (all-cons {x} h hs) =
+    let (u, e, good, is) = octet-written x h in
+    let (us, es, goods, are) = value-written hs in
+    (u ∷ us, rw (e, es), all-cons good goods, rw (is, are))
+
+a-space : someBlanks (space ∷ [])
+unfolding isBlank
+a-space = (space ∷ [], [], refl, (space, refl, refl), many-none)
+
+pub line-written : (p : Property) → HasLine p → LineOf (smallTag p) (line p)
+unfolding line
+line-written p (f, t, v) =
+    let c = concat (map escaped (p .value)) in
+    let valueOn = (space ∷ []) ++ (quote ∷ (c ++ (quote ∷ []))) in (
+      decimal (p .flags),
+      (space ∷ []) ++ (lowered (p .tag) ++ valueOn),
+      simp append-assoc,
+      flags-written (p .flags) f,
+      (_, _, refl, a-space, (_, _, refl, (refl, tag-written (p .tag) t), (_, _, refl, a-space, inl (c, refl, value-written v)))),
+    )
