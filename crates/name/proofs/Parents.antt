@@ -1,11 +1,14 @@
 -- One label off by place: what parentPlace says in each case, and that it takes off the first label.
-use Prim.Native.Nat.{ℕ, suc, _≤_, _<_, _+_, _-_}
+use Prim.Native.Nat.{ℕ, _≤_, _<_, _+_, _-_}
 use native.Mathlib.Omega.{arith}
 use mathlib.Core.Path.{_≡_, refl}
+use mathlib.Core.Bool.{Bool, true, false, cond, _||_}
 use mathlib.Core.List.{List, [], _∷_, _++_, append-assoc}
-use lib.ListN.{length, drop, getD, length-append, length-drop, drop-of-length-le}
-use lib.Seq.{drop-append-seam, drop-append-add}
-use borrow.Author.Tests.{le-ltb, lt-ltb, eq-eqb, ne-eqb}
+use lib.Dec.{eqb, ltb}
+use lib.ListN.{length, take, drop, getD, length-append, length-drop, drop-of-length-le}
+use lib.Seq.{drop-drop, drop-append-seam, take-at}
+use borrow.Author.Tests.{ltb-false, le-ltb, lt-ltb, eq-eqb, ne-eqb}
+use Rattle.octets.proofs.ListLaws.{or-false}
 use Rattle.name.specs.Names.{Name, wire}
 use Rattle.name.specs.Places.{parentFrom, parentPlace}
 use Rattle.name.specs.Theorems.{Parent-by-place}
@@ -31,16 +34,49 @@ module _ (s : List ℕ) (at : ℕ) where
       pub one-off : (r : ℕ) → (x ≡ 0 → ⊥) → x ≤ length s - q → r ≡ q + x → r ≡ parentPlace s at
       one-off r n g k = rw (here, ne-eqb x 0 n, length-drop, ← f, le-ltb (length s - q) x g, k)
 
-pub parent-by-place : Parent-by-place
+-- for whoever climbs: where a name closes there is no place further on
+pub root-stays : (s : List ℕ) (at : ℕ) (rest : List ℕ) → drop at s ≡ wire [] ++ rest → parentPlace s at ≡ at
 unfolding parentPlace
-parent-by-place = (one-less, λ p rest. rw (drop-append-seam p (wire [] ++ rest)))
+root-stays s at rest h = rw h
+
+-- where a label stands, the next place is behind it
+module _ (s : List ℕ) (at : ℕ) (l : List ℕ) (ls : Name) (rest : List ℕ) (h : drop at s ≡ wire (l ∷ ls) ++ rest) where
+  behind-length : drop (at + 1) s ≡ l ++ (wire ls ++ rest)
+  behind-length = rw (← drop-drop 1 at s, h) (append-assoc l (wire ls) rest)
+
+  pub behind-label : drop (at + 1 + length l) s ≡ wire ls ++ rest
+  behind-label = rw (← drop-drop (length l) (at + 1) s, behind-length) (drop-append-seam l (wire ls ++ rest))
+
+  pub label-octets : take (length l) (drop (at + 1) s) ≡ l
+  label-octets = rw behind-length (take-at l (wire ls ++ rest) (length l) refl)
+
+  pub label-passed : 1 ≤ length l → parentPlace s at ≡ at + 1 + length l
+  unfolding parentPlace
+  label-passed g =
+      let fits : length l ≤ length (l ++ wire ls ++ rest) = simp length-append (omega arith) in
+      rw (h, ne-eqb (length l) 0 (λ z. omega arith), le-ltb (length (l ++ wire ls ++ rest)) (length l) fits)
+
+-- a place further on lies within the octets
+pub up-inside : (s : List ℕ) (at p : ℕ) → p ≡ parentPlace s at → at < p → p ≤ length s
+unfolding parentPlace
+up-inside s at p e h = go (drop at s) (length-drop at s) e
   where
-    one-less :
-        (p l : List ℕ) (ls : Name) (rest : List ℕ) → 1 ≤ length l →
-        drop (parentPlace (p ++ (wire (l ∷ ls) ++ rest)) (length p)) (p ++ (wire (l ∷ ls) ++ rest)) ≡ wire ls ++ rest
-    one-less p l ls rest h =
-        let t = l ++ wire ls ++ rest in
-        let fits : length l ≤ length t = simp length-append (omega arith) in
-        let k : length p + 1 + length l ≡ length p + suc (length l) = omega arith in
-        rw (drop-append-seam p (wire (l ∷ ls) ++ rest), ne-eqb (length l) 0 (λ z. omega arith), le-ltb (length t) (length l) fits, k, drop-append-add, append-assoc)
-        (drop-append-seam l (wire ls ++ rest))
+    go : (t : List ℕ) → length t ≡ length s - at → p ≡ parentFrom at t → p ≤ length s
+    go [] f g = absurd (omega arith)
+    go (n ∷ t) f g = by (eqb n 0 || ltb (length t) n) refl g
+      where
+        by : (b : Bool) → eqb n 0 || ltb (length t) n ≡ b → p ≡ cond b at (at + 1 + n) → p ≤ length s
+        by true k g = absurd (omega arith)
+        by false k g = let low = ltb-false (length t) n (or-false (eqb n 0) (ltb (length t) n) .0 k .1) in omega arith
+
+pub up-less : (s : List ℕ) (at p : ℕ) → p ≡ parentPlace s at → at < p → length s - p < length s - at
+up-less s at p e h = omega (arith, up-inside s at p e h)
+
+pub parent-by-place : Parent-by-place
+parent-by-place = (
+  λ p l ls rest g.
+      let s = p ++ (wire (l ∷ ls) ++ rest) in
+      let h = drop-append-seam p (wire (l ∷ ls) ++ rest) in
+      rw (label-passed s (length p) l ls rest h g) (behind-label s (length p) l ls rest h),
+  λ p rest. root-stays (p ++ (wire [] ++ rest)) (length p) rest (drop-append-seam p (wire [] ++ rest)),
+)

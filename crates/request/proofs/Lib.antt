@@ -1,2 +1,7 @@
 pub mod RequestedNames
 pub mod Requests
+pub mod WildcardTests
+pub mod HostNames
+pub mod RequestPlaces
+pub mod Asked
+pub mod RequestWalk
