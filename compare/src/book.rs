@@ -62,18 +62,47 @@ pub fn read_book(octets: &[u8]) -> Result<Vec<Record>, Refusal> {
 }
 
 fn read_record(octets: &[u8]) -> Option<(Record, &[u8])> {
+    let (raw, rest) = read_raw_record(octets)?;
+    let data = raw.data()?;
+    let owner = raw.owner;
+    Some((Record { owner, data }, rest))
+}
+
+/// A record as it is laid out, its data not looked into.
+#[derive(Clone, Debug)]
+pub struct RawRecord<'a> {
+    pub owner: Name,
+    pub rtype: u16,
+    pub class: u16,
+    pub rdata: &'a [u8],
+}
+
+impl RawRecord<'_> {
+    /// `None` when CAA data is laid out wrongly.
+    pub fn data(&self) -> Option<RecordData> {
+        if self.class == CLASS_IN && self.rtype == TYPE_CAA {
+            read_property(self.rdata).map(RecordData::Caa)
+        } else {
+            Some(RecordData::Other)
+        }
+    }
+}
+
+/// Reads the layout of one record at the front of `octets` and hands back what stands behind it.
+pub fn read_raw_record(octets: &[u8]) -> Option<(RawRecord<'_>, &[u8])> {
     let (owner, rest) = read_name(octets)?;
     let (rtype, rest) = read_number(rest)?;
     let (class, rest) = read_number(rest)?;
     let (_time_to_live, rest) = rest.split_first_chunk::<4>()?;
     let (length, rest) = read_number(rest)?;
     let (rdata, rest) = rest.split_at_checked(usize::from(length))?;
-    let data = if class == CLASS_IN && rtype == TYPE_CAA {
-        RecordData::Caa(read_property(rdata)?)
-    } else {
-        RecordData::Other
+    let raw = RawRecord {
+        owner,
+        rtype,
+        class,
+        rdata,
     };
-    Some((Record { owner, data }, rest))
+    Some((raw, rest))
 }
 
 fn read_number(octets: &[u8]) -> Option<(u16, &[u8])> {
@@ -81,7 +110,8 @@ fn read_number(octets: &[u8]) -> Option<(u16, &[u8])> {
     Some((u16::from_be_bytes(*number), rest))
 }
 
-fn read_property(rdata: &[u8]) -> Option<Property> {
+/// Reads CAA data.
+pub fn read_property(rdata: &[u8]) -> Option<Property> {
     let (&[flags, tag_length], rest) = rdata.split_first_chunk()?;
     let (tag, value) = rest.split_at_checked(usize::from(tag_length))?;
     if tag.is_empty() {

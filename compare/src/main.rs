@@ -5,12 +5,19 @@ use std::ffi::OsString;
 use std::path::Path;
 use std::process::ExitCode;
 
-use compare::cases::{self, Desk};
+use compare::against;
+use compare::cases::{self, Case, Desk};
 use compare::desk::judge_folder;
+use compare::library;
 
 const USAGE: &str = "\
 usage: compare cases          run the stored cases
-       compare judge FOLDER   judge request.bin, issuer.txt and book.bin of FOLDER";
+       compare judge FOLDER   judge request.bin, issuer.txt and book.bin of FOLDER
+       compare library [--cases N] [--seed S]
+                              compare the proved library's answers with ours, on the
+                              stored cases and on N random ones (20000) from seed S (1);
+                              needs a build with --features readers, judge or list and
+                              SPLINEPEARL_LIBS set to the folder of the archives";
 
 fn main() -> ExitCode {
     let arguments: Vec<OsString> = env::args_os().skip(1).collect();
@@ -20,26 +27,67 @@ fn main() -> ExitCode {
             println!("{}", judge_folder(Path::new(folder)));
             ExitCode::SUCCESS
         }
-        _ => {
-            eprintln!("{USAGE}");
-            ExitCode::from(2)
-        }
+        [command, options @ ..] if command == "library" => match run_of(options) {
+            Some(run) => compare_library(run),
+            None => wrong_use(USAGE),
+        },
+        _ => wrong_use(USAGE),
     }
 }
 
 fn run_cases() -> ExitCode {
-    let cases = match cases::stored() {
-        Ok(cases) => cases,
-        Err(mistake) => {
-            eprintln!("compare: {mistake}");
-            return ExitCode::from(2);
-        }
+    with_stored_cases(|cases| {
+        let report = cases::run(Desk::OWN, cases);
+        println!("{report}");
+        report.wrong.is_empty()
+    })
+}
+
+/// How long to compare, and from which seed.
+struct Run {
+    cases: usize,
+    seed: u64,
+}
+
+fn run_of(options: &[OsString]) -> Option<Run> {
+    let mut run = Run {
+        cases: 20_000,
+        seed: 1,
     };
-    let report = cases::run(Desk::OWN, &cases);
-    println!("{report}");
-    if report.wrong.is_empty() {
-        ExitCode::SUCCESS
-    } else {
-        ExitCode::FAILURE
+    for option in options.chunks(2) {
+        let [name, number] = option else {
+            return None;
+        };
+        let number = number.to_str()?;
+        match name.to_str()? {
+            "--cases" => run.cases = number.parse().ok()?,
+            "--seed" => run.seed = number.parse().ok()?,
+            _ => return None,
+        }
     }
+    Some(run)
+}
+
+fn compare_library(run: Run) -> ExitCode {
+    if library::LINKED.is_nothing() {
+        return wrong_use("compare: built without --features readers, judge or list");
+    }
+    with_stored_cases(|cases| {
+        let comparison = against::compare(&library::LINKED, cases, run.cases, run.seed);
+        println!("{comparison}");
+        comparison.is_good()
+    })
+}
+
+fn with_stored_cases(succeeds: impl FnOnce(&[Case]) -> bool) -> ExitCode {
+    match cases::stored() {
+        Ok(cases) if succeeds(&cases) => ExitCode::SUCCESS,
+        Ok(_) => ExitCode::FAILURE,
+        Err(mistake) => wrong_use(&format!("compare: {mistake}")),
+    }
+}
+
+fn wrong_use(why: &str) -> ExitCode {
+    eprintln!("{why}");
+    ExitCode::from(2)
 }

@@ -35,7 +35,8 @@ pub fn read_request(octets: &[u8]) -> Result<Vec<RequestedName>, Refusal> {
     Ok(names)
 }
 
-fn read_requested_name(octets: &[u8]) -> Option<(RequestedName, &[u8])> {
+/// Reads one requested name at the front of `octets` and hands back what stands behind it.
+pub fn read_requested_name(octets: &[u8]) -> Option<(RequestedName, &[u8])> {
     let (mut fqdn, rest) = read_name(octets)?;
     let wildcard = fqdn.labels.first().is_some_and(|label| label == b"*");
     if wildcard {

@@ -9,6 +9,7 @@ use crate::value::read_value;
 const ISSUE: &str = "issue";
 const ISSUEWILD: &str = "issuewild";
 const IODEF: &str = "iodef";
+pub const KNOWN_TAGS: [&str; 3] = [ISSUE, ISSUEWILD, IODEF];
 
 /// A property with the number of its record.
 type Numbered<'a> = (usize, &'a Property);
@@ -82,9 +83,7 @@ fn caa_records<'a>(book: &'a [Record], owner: &[Label]) -> Vec<Numbered<'a>> {
 }
 
 fn is_known(property: &Property) -> bool {
-    [ISSUE, ISSUEWILD, IODEF]
-        .iter()
-        .any(|tag| property.has_tag(tag))
+    KNOWN_TAGS.iter().any(|tag| property.has_tag(tag))
 }
 
 /// Once there is an `issuewild`, no `issue` counts for a wildcard (RFC 8659 section 4.3).

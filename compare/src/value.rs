@@ -57,16 +57,24 @@ fn is_parameter(octets: &[u8]) -> bool {
 }
 
 fn trim_blanks(octets: &[u8]) -> &[u8] {
-    let is_blank = |octet: &u8| matches!(octet, b' ' | b'\t');
-    let start = octets
-        .iter()
-        .position(|octet| !is_blank(octet))
-        .unwrap_or(octets.len());
+    let start = leading_blanks(octets);
     let end = octets
         .iter()
-        .rposition(|octet| !is_blank(octet))
+        .rposition(|&octet| !is_blank(octet))
         .map_or(start, |last| last + 1);
     &octets[start..end]
+}
+
+/// How many blanks stand in front.
+pub fn leading_blanks(octets: &[u8]) -> usize {
+    octets
+        .iter()
+        .position(|&octet| !is_blank(octet))
+        .unwrap_or(octets.len())
+}
+
+fn is_blank(octet: u8) -> bool {
+    matches!(octet, b' ' | b'\t')
 }
 
 #[cfg(test)]

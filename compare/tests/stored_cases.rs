@@ -5,7 +5,7 @@ use std::fs;
 use std::path::Path;
 
 use compare::cases::{self, run, Desk};
-use compare::{permitted_issuers, Answer, Permitted};
+use compare::{permitted_issuers, Answer, Permitted, Word};
 
 #[test]
 fn every_stored_case_is_answered_rightly() {
@@ -40,8 +40,9 @@ fn wrong_cases(desk: Desk) -> usize {
 #[test]
 fn a_desk_with_one_verdict_is_found_out() {
     for judge in [
-        |_: &[u8], _: &[u8], _: &[u8]| Answer::Permitted,
-        |_: &[u8], _: &[u8], _: &[u8]| Answer::NotGranted { name: 0, record: 0 },
+        |_: &[u8], _: &[u8], _: &[u8]| Ok(Answer::Permitted),
+        |_: &[u8], _: &[u8], _: &[u8]| Ok(Answer::NotGranted { name: 0, record: 0 }),
+        |_: &[u8], _: &[u8], _: &[u8]| Err(Word::number(99)),
     ] {
         assert!(wrong_cases(Desk { judge, ..Desk::OWN }) > 50);
     }
@@ -52,11 +53,11 @@ fn a_list_with_a_made_up_count_is_found_out() {
     let permitted_issuers = |request: &[u8], book: &[u8], buffer: &mut [u8]| match permitted_issuers(
         request, book, buffer,
     ) {
-        Permitted::List { count, octets } => Permitted::List {
+        Permitted::List { count, octets } => Ok(Permitted::List {
             count: count + 1,
             octets,
-        },
-        other => other,
+        }),
+        other => Ok(other),
     };
     assert!(
         wrong_cases(Desk {
@@ -73,10 +74,10 @@ fn a_touched_octet_is_found_out() {
         if let Some(last) = buffer.last_mut() {
             *last = 0;
         }
-        answer
+        Ok(answer)
     };
     let writes_nothing = |request: &[u8], book: &[u8], buffer: &mut [u8]| {
-        permitted_issuers(request, book, &mut buffer.to_vec())
+        Ok(permitted_issuers(request, book, &mut buffer.to_vec()))
     };
     for permitted_issuers in [touches_the_end, writes_nothing] {
         assert!(

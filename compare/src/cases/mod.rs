@@ -5,8 +5,9 @@ mod notation;
 mod reader;
 mod runner;
 
+pub use notation::to_hex;
 pub use reader::{read_cases, Case};
-pub use runner::{run, Desk, Report};
+pub use runner::{run, told, Desk, Judge, PermittedIssuers, Report};
 
 /// Every stored case file, by name.
 pub const FILES: [(&str, &str); 8] = [

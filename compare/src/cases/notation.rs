@@ -50,6 +50,19 @@ pub fn hex(notation: &str) -> Result<Vec<u8>, String> {
     Ok(octets)
 }
 
+/// Writes octets so that [`hex`] reads them; four or more of an octet in a row as a repeat.
+pub fn to_hex(octets: &[u8]) -> String {
+    let run_in_hex = |run: &[u8]| match run {
+        [octet, _, _, _, ..] => format!("{octet:02X}{{{}}}", run.len()),
+        _ => {
+            let each: Vec<String> = run.iter().map(|octet| format!("{octet:02X}")).collect();
+            each.join(" ")
+        }
+    };
+    let runs = octets.chunk_by(|one, next| one == next);
+    runs.map(run_in_hex).collect::<Vec<_>>().join(" ")
+}
+
 fn written(notation: &str) -> Result<Vec<Written>, String> {
     let mut octets = Vec::new();
     let mut rest = notation;
@@ -136,6 +149,20 @@ mod tests {
         assert_eq!(hex("").unwrap(), b"");
         for wrong in ["0", "0F6", "0G", "00{2}3", "00{2"] {
             assert!(hex(wrong).is_err(), "{wrong:?}");
+        }
+    }
+
+    #[test]
+    fn hex_is_written_as_it_is_read() {
+        assert_eq!(to_hex(b"\x03aaabbbb\xFF"), "03 61 61 61 62{4} FF");
+        for octets in [
+            &b""[..],
+            b"\x00",
+            b"aaaa",
+            &[0xAB; 300],
+            b"\x00\x00\x01\x01",
+        ] {
+            assert_eq!(hex(&to_hex(octets)).unwrap(), octets);
         }
     }
 }

@@ -10,6 +10,24 @@ pub struct Case {
     pub(super) checks: Vec<Check>,
 }
 
+impl Case {
+    /// The issuer names that are judged.
+    pub fn issuers(&self) -> impl Iterator<Item = &[u8]> {
+        self.checks.iter().filter_map(|check| match check {
+            Check::Judge { issuer, .. } => Some(issuer.as_slice()),
+            _ => None,
+        })
+    }
+
+    /// The property values that are read by themselves.
+    pub fn values(&self) -> impl Iterator<Item = &[u8]> {
+        self.checks.iter().filter_map(|check| match check {
+            Check::Value { octets, .. } => Some(octets.as_slice()),
+            _ => None,
+        })
+    }
+}
+
 pub(super) enum Check {
     /// The line that the desk has to give for this issuer name.
     Judge { issuer: Vec<u8>, line: String },

@@ -4,20 +4,30 @@ use std::fmt;
 
 use super::reader::{Case, Check, ExpectedPermitted};
 use crate::answer::{Answer, Permitted};
+use crate::judge::judge;
+use crate::permitted::permitted_issuers;
 use crate::value::{read_value, IssueValue};
+use crate::word::Word;
+
+/// Takes request, issuer name and book. Another implementation may answer with a word that is no
+/// answer.
+pub type Judge = fn(&[u8], &[u8], &[u8]) -> Result<Answer, Word>;
+
+/// Takes request, book and buffer.
+pub type PermittedIssuers = fn(&[u8], &[u8], &mut [u8]) -> Result<Permitted, Word>;
 
 /// The two calls to be tried, whoever made them.
 #[derive(Clone, Copy)]
 pub struct Desk {
-    pub judge: fn(&[u8], &[u8], &[u8]) -> Answer,
-    pub permitted_issuers: fn(&[u8], &[u8], &mut [u8]) -> Permitted,
+    pub judge: Judge,
+    pub permitted_issuers: PermittedIssuers,
 }
 
 impl Desk {
     /// This package's own.
     pub const OWN: Desk = Desk {
-        judge: crate::judge::judge,
-        permitted_issuers: crate::permitted::permitted_issuers,
+        judge: |request, issuer, book| Ok(judge(request, issuer, book)),
+        permitted_issuers: |request, book, buffer| Ok(permitted_issuers(request, book, buffer)),
     };
 }
 
@@ -61,7 +71,7 @@ fn try_one(desk: Desk, case: &Case, check: &Check) -> Result<(), String> {
         Check::Judge { issuer, line } => {
             let answer = (desk.judge)(&case.request, issuer, &case.book);
             let issuer = issuer.escape_ascii();
-            expect(&format!("judge {issuer}"), line, &answer.to_string())
+            expect(&format!("judge {issuer}"), line, &told(answer))
         }
         Check::Permitted { room, answer } => {
             let room = room.unwrap_or(case.book.len());
@@ -101,7 +111,7 @@ fn try_permitted(
         let before: Vec<u8> = (0..room).map(|place| place as u8 ^ mask).collect();
         let mut buffer = before.clone();
         let answer = (desk.permitted_issuers)(&case.request, &case.book, &mut buffer);
-        expect(&what, &line, &answer.to_string())?;
+        expect(&what, &line, &told(answer))?;
         let (front, rest) = buffer
             .split_at_checked(list.len())
             .ok_or_else(|| format!("{what}: the expected list has no room"))?;
@@ -114,6 +124,14 @@ fn try_permitted(
         }
     }
     Ok(())
+}
+
+/// An answer in words, or the word that is none.
+pub fn told(answer: Result<impl fmt::Display, Word>) -> String {
+    match answer {
+        Ok(answer) => answer.to_string(),
+        Err(word) => format!("no answer: {word}"),
+    }
 }
 
 fn in_words(value: IssueValue) -> String {

@@ -1,8 +1,11 @@
 //! Random inputs from a seed. Alphabets are small, so that names share tails, differ in letter case
 //! only, and meet; some inputs are damaged or beyond a limit, so that every answer comes.
 
+mod slices;
+
 use crate::limits::{
-    BOOK_OCTETS, BOOK_RECORDS, LABEL_OCTETS, NAME_OCTETS, REQUEST_NAMES, REQUEST_OCTETS,
+    BOOK_OCTETS, BOOK_RECORDS, ISSUER_OCTETS, LABEL_OCTETS, NAME_OCTETS, REQUEST_NAMES,
+    REQUEST_OCTETS,
 };
 
 const LABELS: [&[u8]; 6] = [b"a", b"b", b"ab", b"a-b", b"0", b"a0b"];
@@ -79,6 +82,7 @@ impl Generator {
                 let request = self.request();
                 self.damaged(request)
             }
+            5 => [self.request(), self.name_around_limit()].concat(),
             _ => self.request(),
         };
         let book = match self.below(40) {
@@ -88,13 +92,21 @@ impl Generator {
                 let book = self.book();
                 self.damaged(book)
             }
+            5 => {
+                let owner = self.name_around_limit();
+                let rdata = self.caa_data();
+                [self.book(), self.record_of(owner, 257, 1, &rdata)].concat()
+            }
+            6 | 7 => self.crowded_book(),
             _ => self.book(),
         };
-        let issuer = self.issuer();
-        let issuer = if self.once_in(16) {
-            self.damaged(issuer)
-        } else {
-            issuer
+        let issuer = match self.below(16) {
+            0 => {
+                let issuer = self.issuer();
+                self.damaged(issuer)
+            }
+            1 => self.issuer_around_limit(),
+            _ => self.issuer(),
         };
         let room = if self.once_in(4) {
             self.below(12)
@@ -157,19 +169,57 @@ impl Generator {
     }
 
     fn requested_name(&mut self) -> Vec<u8> {
-        let mut wire = Vec::new();
-        if self.once_in(3) {
-            wire.extend(b"\x01*");
-        }
-        wire.extend(self.wire_labels(3, &LABELS));
-        wire
+        let star: &[u8] = if self.once_in(3) { b"\x01*" } else { b"" };
+        let name = if self.once_in(48) {
+            self.long_name(NAME_OCTETS - star.len())
+        } else {
+            self.wire_labels(3, &LABELS)
+        };
+        [star, &name].concat()
     }
 
     fn owner(&mut self) -> Vec<u8> {
-        match self.below(12) {
-            0 => vec![0],
-            1 => self.wire_labels(2, &OWNER_LABELS),
+        match self.below(48) {
+            0..=3 => vec![0],
+            4..=7 => self.wire_labels(2, &OWNER_LABELS),
+            // As long as a requested name, or one above it.
+            8 => {
+                let octets = self.one_of(&[NAME_OCTETS, NAME_OCTETS - 2, NAME_OCTETS - 64]);
+                self.long_name(octets)
+            }
             _ => self.wire_labels(2, &LABELS),
+        }
+    }
+
+    /// A name of that many octets, an odd number, of labels as long or as short as may be.
+    fn long_name(&mut self, octets: usize) -> Vec<u8> {
+        let longest_label = self.one_of(&[LABEL_OCTETS, 1]);
+        let name = name_of_octets(octets, longest_label);
+        self.any_case(&name)
+    }
+
+    /// A name a little under or over the limit of its octets, or of one label's.
+    fn name_around_limit(&mut self) -> Vec<u8> {
+        if self.once_in(2) {
+            let label = LABEL_OCTETS - 1 + self.below(3);
+            [&[label as u8], vec![b'a'; label].as_slice(), b"\x01c\x00"].concat()
+        } else {
+            let star: &[u8] = if self.once_in(3) { b"\x01*" } else { b"" };
+            let octets = NAME_OCTETS - 2 + self.below(5) - star.len();
+            [star, &name_of_octets(octets, LABEL_OCTETS)].concat()
+        }
+    }
+
+    /// An issuer name a little under or over the limit of its octets, or of one label's.
+    fn issuer_around_limit(&mut self) -> Vec<u8> {
+        if self.once_in(2) {
+            vec![b'x'; LABEL_OCTETS - 1 + self.below(3)]
+        } else {
+            let labels = [b'x', b'y', b'x'].map(|letter| vec![letter; LABEL_OCTETS]);
+            let mut issuer = labels.join(&b'.');
+            issuer.push(b'.');
+            issuer.resize(ISSUER_OCTETS - 1 + self.below(3), b'y');
+            issuer
         }
     }
 
@@ -215,19 +265,7 @@ impl Generator {
         let mut value = self.one_of(&BLANKS).to_vec();
         match self.below(20) {
             0 => {}
-            1 => value.extend([b'x'; 64]),
-            2 => {
-                let last = 61 + self.below(2);
-                value.extend(
-                    [
-                        vec![b'x'; 63],
-                        vec![b'y'; 63],
-                        vec![b'x'; 63],
-                        vec![b'y'; last],
-                    ]
-                    .join(&b'.'),
-                );
-            }
+            1 | 2 => value.extend(self.issuer_around_limit()),
             _ => value.extend(self.issuer()),
         }
         value.extend(self.one_of(&BLANKS));
@@ -265,9 +303,9 @@ impl Generator {
         let mut octets = Vec::new();
         // What is left for the last name is then 61 to 255 octets.
         while length - octets.len() > NAME_OCTETS {
-            octets.extend(long_name(195));
+            octets.extend(name_of_octets(195, LABEL_OCTETS));
         }
-        octets.extend(long_name(length - octets.len()));
+        octets.extend(name_of_octets(length - octets.len(), LABEL_OCTETS));
         octets
     }
 
@@ -288,18 +326,38 @@ impl Generator {
         let records = BOOK_RECORDS - 1 + self.below(3);
         (0..records).flat_map(|_| self.record()).collect()
     }
+
+    /// Many grants for one name, some of them twice and more.
+    fn crowded_book(&mut self) -> Vec<u8> {
+        let records = self.below(BOOK_RECORDS + 1);
+        let grant = |_| {
+            let tag = self.near_front(&KNOWN_TAGS);
+            let issuer = format!("x{}", self.below(200));
+            let rdata = [
+                &[0, tag.len() as u8],
+                tag,
+                &self.any_case(issuer.as_bytes()),
+            ]
+            .concat();
+            self.record_of(b"\x01c\x00".to_vec(), 257, 1, &rdata)
+        };
+        (0..records).flat_map(grant).collect()
+    }
 }
 
-/// A good name of that many octets, 3 or more, in wire form.
-fn long_name(octets: usize) -> Vec<u8> {
+/// A name of that many octets, 3 or more, in wire form, of labels up to `longest`, which is 2 or
+/// more or the octets odd.
+fn name_of_octets(octets: usize, longest: usize) -> Vec<u8> {
     let mut wire = Vec::new();
     let mut left = octets - 1;
     while left > 0 {
-        let label = match left {
-            2..=64 => left - 1,
+        let label = if left <= longest + 1 {
+            left - 1
+        } else if left == longest + 2 {
             // A label as long as may be would leave one octet, too few for another.
-            65 => LABEL_OCTETS - 1,
-            _ => LABEL_OCTETS,
+            longest - 1
+        } else {
+            longest
         };
         wire.push(label as u8);
         wire.extend(vec![b'a'; label]);

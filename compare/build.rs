@@ -1,0 +1,47 @@
+//! Links the archives that the features ask for. Without features there is nothing to do.
+
+#![forbid(unsafe_code)]
+
+use std::env;
+use std::path::PathBuf;
+
+/// The environment variable that names the folder of the archives.
+const FOLDER: &str = "SPLINEPEARL_LIBS";
+
+/// A feature, as cargo tells build scripts of it, and the archive that it needs.
+const ARCHIVES: [(&str, &str); 2] = [
+    ("CARGO_FEATURE_READERS", "readers"),
+    ("CARGO_FEATURE_JUDGE", "splinepearl"),
+];
+
+fn main() {
+    println!("cargo::rerun-if-changed=build.rs");
+    println!("cargo::rerun-if-env-changed={FOLDER}");
+    for (feature, library) in ARCHIVES {
+        if env::var_os(feature).is_some() {
+            if let Err(why) = link(library) {
+                println!("cargo::error={why}");
+            }
+        }
+    }
+}
+
+fn link(library: &str) -> Result<(), String> {
+    let archive = format!("lib{library}.a");
+    let folder = env::var(FOLDER)
+        .map_err(|_| format!("{FOLDER} is not set; it has to name the folder of {archive}"))?;
+    let path = PathBuf::from(&folder).join(archive);
+    // A build script doesn't run where cargo was called, so a relative path would mislead.
+    if !path.is_absolute() {
+        return Err(format!(
+            "{FOLDER} has to be an absolute path, not `{folder}`"
+        ));
+    }
+    if !path.is_file() {
+        return Err(format!("{} is missing (see {FOLDER})", path.display()));
+    }
+    println!("cargo::rerun-if-changed={}", path.display());
+    println!("cargo::rustc-link-search=native={folder}");
+    println!("cargo::rustc-link-lib=static={library}");
+    Ok(())
+}

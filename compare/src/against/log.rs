@@ -1,0 +1,90 @@
+//! How often each answer came, and what differs.
+
+use std::fmt;
+
+use crate::cases::to_hex;
+
+/// Comparing stops at that many differences.
+const ENOUGH: usize = 5;
+
+/// A compared call, with the kinds of its answers: a number for each, and what it says.
+pub struct Call {
+    pub name: &'static str,
+    pub kinds: &'static [(u8, &'static str)],
+}
+
+/// One call's answers, by kind.
+pub struct Tally {
+    call: &'static Call,
+    times: [usize; 256],
+}
+
+impl Tally {
+    pub fn new(call: &'static Call) -> Tally {
+        Tally {
+            call,
+            times: [0; 256],
+        }
+    }
+
+    pub fn count(&mut self, kind: u8) {
+        self.times[usize::from(kind)] += 1;
+    }
+
+    /// The kinds that came fewer times than that.
+    pub fn rarer_than(&self, times: usize) -> impl Iterator<Item = String> + '_ {
+        self.kinds()
+            .filter(move |(_, came)| *came < times)
+            .map(move |(kind, came)| {
+                let name = self.call.name;
+                format!("too rare: {name} {kind}: {came} times of {times}")
+            })
+    }
+
+    fn kinds(&self) -> impl Iterator<Item = (&'static str, usize)> + '_ {
+        let kinds = self.call.kinds.iter();
+        kinds.map(|&(kind, says)| (says, self.times[usize::from(kind)]))
+    }
+}
+
+impl fmt::Display for Tally {
+    fn fmt(&self, f: &mut fmt::Formatter<'_>) -> fmt::Result {
+        let kinds: Vec<String> = self
+            .kinds()
+            .map(|(kind, came)| format!("{kind}: {came}"))
+            .collect();
+        write!(f, "{:<16}{}", self.call.name, kinds.join(", "))
+    }
+}
+
+/// The differences found so far, each told in some lines.
+#[derive(Default)]
+pub struct Differences {
+    pub told: Vec<String>,
+}
+
+impl Differences {
+    pub fn are_enough(&self) -> bool {
+        self.told.len() >= ENOUGH
+    }
+
+    /// Tells the inputs, in the hex of the case files, and both answers.
+    pub fn tell(
+        &mut self,
+        call: &Call,
+        inputs: &[(&str, &[u8])],
+        theirs: impl fmt::Display,
+        ours: impl fmt::Display,
+    ) {
+        if self.are_enough() {
+            return;
+        }
+        let mut lines = format!("differs: {}\n", call.name);
+        for (input, octets) in inputs {
+            let (length, hex) = (octets.len(), to_hex(octets));
+            lines.push_str(&format!("  {input}, {length} octets: {hex}\n"));
+        }
+        lines.push_str(&format!("  theirs: {theirs}\n  ours:   {ours}"));
+        self.told.push(lines);
+    }
+}

@@ -1,0 +1,99 @@
+//! The proved library, through the C functions of its archives. What isn't linked by a feature is
+//! `None`.
+
+// Only here: a foreign function is unsafe to call. Each `const u8` pointer and the length behind it
+// are those of a live slice that is only read, the `mut u8` pointer and its length those of a buffer
+// lent by `&mut`, and no function keeps a pointer after it answers.
+#![allow(unsafe_code)]
+
+use crate::against::Other;
+use crate::cases::{Judge, PermittedIssuers};
+use crate::readers::Readers;
+#[cfg(any(feature = "readers", feature = "judge"))]
+use crate::word::Word;
+
+/// What this build is linked with.
+pub const LINKED: Other = Other {
+    readers: READERS,
+    judge: JUDGE,
+    permitted_issuers: PERMITTED_ISSUERS,
+};
+
+#[rustfmt::skip]
+#[allow(dead_code)] // What no feature links is never called.
+extern "C" {
+    // libreaders.a
+    fn readers_check_request(octets: *const u8, length: usize) -> u64;
+    fn readers_check_issuer(octets: *const u8, length: usize) -> u64;
+    fn readers_check_book(octets: *const u8, length: usize) -> u64;
+    fn readers_same(one: *const u8, length: usize, other: *const u8, other_length: usize) -> u64;
+    fn readers_name_end(octets: *const u8, length: usize, at: usize) -> u64;
+    fn readers_requested_name(octets: *const u8, length: usize, at: usize) -> u64;
+    fn readers_property(octets: *const u8, length: usize) -> u64;
+    fn readers_tag(octets: *const u8, length: usize) -> u64;
+    fn readers_record(octets: *const u8, length: usize, at: usize) -> u64;
+    fn readers_value(octets: *const u8, length: usize) -> u64;
+
+    // libsplinepearl.a
+    fn caa_judge(
+        request: *const u8, request_length: usize,
+        issuer: *const u8, issuer_length: usize,
+        book: *const u8, book_length: usize,
+    ) -> u64;
+    fn caa_permitted_issuers(
+        request: *const u8, request_length: usize,
+        book: *const u8, book_length: usize,
+        buffer: *mut u8, buffer_length: usize,
+    ) -> u64;
+}
+
+#[cfg(feature = "readers")]
+#[rustfmt::skip]
+const READERS: Option<Readers> = Some(Readers {
+    check_request: |s| Word::unpacked(unsafe { readers_check_request(s.as_ptr(), s.len()) }),
+    check_issuer: |s| Word::unpacked(unsafe { readers_check_issuer(s.as_ptr(), s.len()) }),
+    check_book: |s| Word::unpacked(unsafe { readers_check_book(s.as_ptr(), s.len()) }),
+    same: |s, t| Word::unpacked(unsafe { readers_same(s.as_ptr(), s.len(), t.as_ptr(), t.len()) }),
+    name_end: |s, at| Word::unpacked(unsafe { readers_name_end(s.as_ptr(), s.len(), at) }),
+    requested_name: |s, at| Word::unpacked(unsafe { readers_requested_name(s.as_ptr(), s.len(), at) }),
+    property: |s| Word::unpacked(unsafe { readers_property(s.as_ptr(), s.len()) }),
+    tag: |s| Word::unpacked(unsafe { readers_tag(s.as_ptr(), s.len()) }),
+    record: |s, at| Word::unpacked(unsafe { readers_record(s.as_ptr(), s.len(), at) }),
+    value: |s| Word::unpacked(unsafe { readers_value(s.as_ptr(), s.len()) }),
+});
+#[cfg(not(feature = "readers"))]
+const READERS: Option<Readers> = None;
+
+#[cfg(feature = "judge")]
+const JUDGE: Option<Judge> = Some(|request, issuer, book| {
+    let word = unsafe {
+        caa_judge(
+            request.as_ptr(),
+            request.len(),
+            issuer.as_ptr(),
+            issuer.len(),
+            book.as_ptr(),
+            book.len(),
+        )
+    };
+    Word::unpacked(word).judged()
+});
+#[cfg(not(feature = "judge"))]
+const JUDGE: Option<Judge> = None;
+
+#[cfg(feature = "list")]
+const PERMITTED_ISSUERS: Option<PermittedIssuers> = Some(|request, book, buffer| {
+    let word = unsafe {
+        caa_permitted_issuers(
+            request.as_ptr(),
+            request.len(),
+            book.as_ptr(),
+            book.len(),
+            buffer.as_mut_ptr(),
+            buffer.len(),
+        )
+    };
+    Word::unpacked(word).permitted()
+});
+#[cfg(not(feature = "list"))]
+const PERMITTED_ISSUERS: Option<PermittedIssuers> = None;

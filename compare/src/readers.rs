@@ -1,0 +1,193 @@
+//! The readers under the two calls, each answering in one word, so that those of another
+//! implementation can be tried by themselves. A place counts octets from 0 over the octets given.
+
+use crate::answer::Refusal;
+use crate::book::{read_book, read_property, read_raw_record};
+use crate::issuer::read_issuer;
+use crate::name::read_name;
+use crate::request::{read_request, read_requested_name};
+use crate::rule::KNOWN_TAGS;
+use crate::value::{leading_blanks, read_value, IssueValue};
+use crate::word::Word;
+
+/// Type, class, time to live and data length: what stands between a record's owner and its data.
+const FIXED_OCTETS: usize = 10;
+
+pub type OfOctets = fn(&[u8]) -> Word;
+pub type OfTwo = fn(&[u8], &[u8]) -> Word;
+pub type AtPlace = fn(&[u8], usize) -> Word;
+
+#[derive(Clone, Copy)]
+pub struct Readers {
+    /// A request: 0, or a refusal's number with `a` its place. The next two likewise.
+    pub check_request: OfOctets,
+    pub check_issuer: OfOctets,
+    pub check_book: OfOctets,
+    /// 1 where both texts are the same, `A` to `Z` counting as `a` to `z`, else 0.
+    pub same: OfTwo,
+    /// The name that begins at the place, under the rule of owners: 1 with `a` where it ends.
+    pub name_end: AtPlace,
+    /// A requested name: 1, or 2 for `*.X`, with `a` where it ends and `b` where X begins.
+    pub requested_name: AtPlace,
+    /// CAA data: 1 with `a` where the value begins and `b` the flags.
+    pub property: OfOctets,
+    /// 1 to 3 for a known tag in the order of [`KNOWN_TAGS`], else 0.
+    pub tag: OfOctets,
+    /// A record: 1 with `a` where it ends, `b` where its owner ends, `c` where its data begins.
+    pub record: AtPlace,
+    /// A property value: 0 malformed, 1 no name, 2 with `a` where the name ends, `b` where it begins.
+    pub value: OfOctets,
+}
+
+impl Readers {
+    /// This package's own.
+    pub const OWN: Readers = Readers {
+        check_request: |octets| checked(read_request(octets).err()),
+        check_issuer: |octets| checked(read_issuer(octets).err()),
+        check_book: |octets| checked(read_book(octets).err()),
+        same: |one, other| Word::number(one.eq_ignore_ascii_case(other).into()),
+        name_end: |octets, at| name_end(octets, at).unwrap_or(Word::FAULT),
+        requested_name: |octets, at| requested_name(octets, at).unwrap_or(Word::FAULT),
+        property: |octets| property(octets).unwrap_or(Word::FAULT),
+        tag,
+        record: |octets, at| record(octets, at).unwrap_or(Word::FAULT),
+        value,
+    };
+
+    /// The same, but a record with wrong CAA data is a fault.
+    pub const OWN_WITH_CAA_DATA: Readers = Readers {
+        record: |octets, at| record_with_caa_data(octets, at).unwrap_or(Word::FAULT),
+        ..Readers::OWN
+    };
+}
+
+fn checked(refusal: Option<Refusal>) -> Word {
+    match refusal {
+        None => Word::number(0),
+        Some(refusal) => Word::with(refusal.number(), [refusal.place(), 0, 0]),
+    }
+}
+
+fn name_end(octets: &[u8], at: usize) -> Option<Word> {
+    let (_, rest) = read_name(octets.get(at..)?)?;
+    Some(Word::with(1, [octets.len() - rest.len(), 0, 0]))
+}
+
+fn requested_name(octets: &[u8], at: usize) -> Option<Word> {
+    let (name, rest) = read_requested_name(octets.get(at..)?)?;
+    let end = octets.len() - rest.len();
+    Some(if name.wildcard {
+        Word::with(2, [end, at + b"\x01*".len(), 0])
+    } else {
+        Word::with(1, [end, at, 0])
+    })
+}
+
+fn property(octets: &[u8]) -> Option<Word> {
+    let property = read_property(octets)?;
+    let value_begins = octets.len() - property.value.len();
+    Some(Word::with(1, [value_begins, property.flags.into(), 0]))
+}
+
+fn tag(octets: &[u8]) -> Word {
+    let known = KNOWN_TAGS
+        .iter()
+        .position(|tag| octets.eq_ignore_ascii_case(tag.as_bytes()));
+    Word::number(known.map_or(0, |place| place as u8 + 1))
+}
+
+fn record(octets: &[u8], at: usize) -> Option<Word> {
+    let (raw, rest) = read_raw_record(octets.get(at..)?)?;
+    let end = octets.len() - rest.len();
+    let data_begins = end - raw.rdata.len();
+    Some(Word::with(
+        1,
+        [end, data_begins - FIXED_OCTETS, data_begins],
+    ))
+}
+
+fn record_with_caa_data(octets: &[u8], at: usize) -> Option<Word> {
+    let (raw, _) = read_raw_record(octets.get(at..)?)?;
+    raw.data()?;
+    record(octets, at)
+}
+
+fn value(octets: &[u8]) -> Word {
+    match read_value(octets) {
+        IssueValue::Malformed => Word::number(0),
+        IssueValue::NoName => Word::number(1),
+        IssueValue::Name(name) => {
+            let begins = leading_blanks(octets);
+            Word::with(2, [begins + name.len(), begins, 0])
+        }
+    }
+}
+
+#[cfg(test)]
+mod tests {
+    use super::*;
+
+    const OWN: Readers = Readers::OWN;
+
+    #[test]
+    fn names_end_behind_their_zero() {
+        let octets = b"\x01*\x01a\x00\x00";
+        assert_eq!((OWN.name_end)(octets, 0), Word::with(1, [5, 0, 0]));
+        assert_eq!((OWN.name_end)(octets, 2), Word::with(1, [5, 0, 0]));
+        assert_eq!((OWN.name_end)(octets, 5), Word::with(1, [6, 0, 0]));
+        assert_eq!((OWN.requested_name)(octets, 0), Word::with(2, [5, 2, 0]));
+        assert_eq!((OWN.requested_name)(octets, 2), Word::with(1, [5, 2, 0]));
+        assert_eq!((OWN.requested_name)(octets, 5), Word::FAULT);
+        for at in [6, 7, usize::MAX] {
+            assert_eq!((OWN.name_end)(octets, at), Word::FAULT);
+            assert_eq!((OWN.requested_name)(octets, at), Word::FAULT);
+            assert_eq!((OWN.record)(octets, at), Word::FAULT);
+        }
+    }
+
+    #[test]
+    fn a_record_is_owner_ten_octets_and_data() {
+        let octets = b"?\x01a\x00\x01\x01\x00\x01\x00\x00\x00\x00\x00\x02\x80\x00?";
+        assert_eq!((OWN.record)(octets, 1), Word::with(1, [16, 4, 14]));
+        let with_caa_data = Readers::OWN_WITH_CAA_DATA.record;
+        assert_eq!(with_caa_data(octets, 1), Word::FAULT);
+    }
+
+    #[test]
+    fn data_and_values_are_told_by_place() {
+        assert_eq!(
+            (OWN.property)(b"\x80\x05issueca"),
+            Word::with(1, [7, 128, 0])
+        );
+        assert_eq!((OWN.property)(b"\x80\x00"), Word::FAULT);
+        assert_eq!((OWN.value)(b"\t ca.net ; a=1"), Word::with(2, [8, 2, 0]));
+        assert_eq!((OWN.value)(b" ;"), Word::number(1));
+        assert_eq!((OWN.value)(b"ca.net."), Word::number(0));
+    }
+
+    #[test]
+    fn tags_and_texts_are_told_by_number() {
+        for (tag, number) in [
+            (&b"ISSUE"[..], 1),
+            (b"issueWild", 2),
+            (b"iodef", 3),
+            (b"issu", 0),
+            (b"", 0),
+        ] {
+            assert_eq!((OWN.tag)(tag), Word::number(number));
+        }
+        assert_eq!((OWN.same)(b"aZ", b"Az"), Word::number(1));
+        assert_eq!((OWN.same)(b"[", b"{"), Word::number(0));
+    }
+
+    #[test]
+    fn refusals_come_with_their_place() {
+        assert_eq!((OWN.check_request)(b"\x01a\x00"), Word::number(0));
+        assert_eq!(
+            (OWN.check_request)(b"\x01a\x00\x00"),
+            Word::with(2, [1, 0, 0])
+        );
+        assert_eq!((OWN.check_issuer)(b"a."), Word::number(4));
+        assert_eq!((OWN.check_book)(b"\x00"), Word::with(6, [0, 0, 0]));
+    }
+}

@@ -1,0 +1,9 @@
+pub mod WalkSteps
+pub mod WalkLaws
+pub mod NextWays
+pub mod DataTests
+pub mod GrantTests
+pub mod SetWalk
+pub mod ClimbLaws
+pub mod AcceptedBook
+pub mod ByPlace
