@@ -19,7 +19,6 @@ pub const LINKED: Other = Other {
     permitted_issuers: PERMITTED_ISSUERS,
 };
 
-#[rustfmt::skip]
 #[allow(dead_code)] // What no feature links is never called.
 extern "C" {
     // libreaders.a
@@ -36,26 +35,33 @@ extern "C" {
 
     // libsplinepearl.a
     fn caa_judge(
-        request: *const u8, request_length: usize,
-        issuer: *const u8, issuer_length: usize,
-        book: *const u8, book_length: usize,
+        request: *const u8,
+        request_length: usize,
+        issuer: *const u8,
+        issuer_length: usize,
+        book: *const u8,
+        book_length: usize,
     ) -> u64;
     fn caa_permitted_issuers(
-        request: *const u8, request_length: usize,
-        book: *const u8, book_length: usize,
-        buffer: *mut u8, buffer_length: usize,
+        request: *const u8,
+        request_length: usize,
+        book: *const u8,
+        book_length: usize,
+        buffer: *mut u8,
+        buffer_length: usize,
     ) -> u64;
 }
 
 #[cfg(feature = "readers")]
-#[rustfmt::skip]
 const READERS: Option<Readers> = Some(Readers {
     check_request: |s| Word::unpacked(unsafe { readers_check_request(s.as_ptr(), s.len()) }),
     check_issuer: |s| Word::unpacked(unsafe { readers_check_issuer(s.as_ptr(), s.len()) }),
     check_book: |s| Word::unpacked(unsafe { readers_check_book(s.as_ptr(), s.len()) }),
     same: |s, t| Word::unpacked(unsafe { readers_same(s.as_ptr(), s.len(), t.as_ptr(), t.len()) }),
     name_end: |s, at| Word::unpacked(unsafe { readers_name_end(s.as_ptr(), s.len(), at) }),
-    requested_name: |s, at| Word::unpacked(unsafe { readers_requested_name(s.as_ptr(), s.len(), at) }),
+    requested_name: |s, at| {
+        Word::unpacked(unsafe { readers_requested_name(s.as_ptr(), s.len(), at) })
+    },
     property: |s| Word::unpacked(unsafe { readers_property(s.as_ptr(), s.len()) }),
     tag: |s| Word::unpacked(unsafe { readers_tag(s.as_ptr(), s.len()) }),
     record: |s, at| Word::unpacked(unsafe { readers_record(s.as_ptr(), s.len(), at) }),

@@ -51,7 +51,7 @@ struct Run {
 
 fn run_of(options: &[OsString]) -> Option<Run> {
     let mut run = Run {
-        cases: 20_000,
+        cases: against::LONG_RUN,
         seed: 1,
     };
     for option in options.chunks(2) {

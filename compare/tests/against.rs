@@ -12,10 +12,16 @@ fn compared(other: Other, cases: usize) -> Comparison {
     compare(&other, &cases::stored().unwrap(), cases, 1)
 }
 
-/// Without the stored cases, so that it is the random ones that find something.
+/// Without the stored cases, so that it is the others that find something.
 fn found_at_random(other: Other) -> Vec<String> {
     compare(&other, &[], 20_000, 1).differences
 }
+
+const NOTHING: Other = Other {
+    readers: None,
+    judge: None,
+    permitted_issuers: None,
+};
 
 #[test]
 fn we_agree_with_ourselves_and_every_answer_comes() {
@@ -28,20 +34,26 @@ fn we_agree_with_ourselves_and_every_answer_comes() {
 #[test]
 fn what_the_other_has_not_is_not_compared() {
     let judge_only = Other {
-        readers: None,
-        permitted_issuers: None,
-        ..Other::OWN
+        judge: Other::OWN.judge,
+        ..NOTHING
     };
     let told = compared(judge_only, 200).to_string();
     assert!(told.starts_with("judge "), "{told}");
     assert!(!told.contains("list "), "{told}");
+    let readers_only = Other {
+        readers: Other::OWN.readers,
+        ..NOTHING
+    };
+    let told = compared(readers_only, 200).to_string();
+    assert!(!told.contains("judge "), "{told}");
+    assert!(!told.contains("stored"), "{told}");
 }
 
 #[test]
 fn a_record_may_be_read_with_or_without_its_caa_data() {
     let other = Other {
         readers: Some(Readers::OWN_WITH_CAA_DATA),
-        ..Other::OWN
+        ..NOTHING
     };
     let comparison = compared(other, 1_000);
     assert!(comparison.is_good(), "{comparison}");
@@ -56,7 +68,7 @@ fn a_record_may_be_read_with_or_without_its_caa_data() {
             record: now_and_then,
             ..OWN
         }),
-        ..Other::OWN
+        ..NOTHING
     };
     assert!(!compared(other, 1_000).differences.is_empty());
 }
@@ -111,7 +123,7 @@ fn wrong_readers_are_found_out() {
         },
         Readers {
             name_end: |octets, at| match (OWN.name_end)(octets, at) {
-                Word { a, .. } if a as usize == at + 255 => Word::FAULT,
+                Word { number: 1, a, .. } if a as usize == at + 255 => Word::FAULT,
                 word => word,
             },
             ..OWN
@@ -132,7 +144,7 @@ fn wrong_readers_are_found_out() {
         },
         Readers {
             requested_name: |octets, at| match (OWN.requested_name)(octets, at) {
-                Word { a, .. } if a as usize == at + 255 => Word::FAULT,
+                Word { number: 1, a, .. } if a as usize == at + 255 => Word::FAULT,
                 word => word,
             },
             ..OWN
@@ -189,7 +201,7 @@ fn wrong_readers_are_found_out() {
     for (number, readers) in wrong_ones.into_iter().enumerate() {
         let other = Other {
             readers: Some(readers),
-            ..Other::OWN
+            ..NOTHING
         };
         let found = found_at_random(other);
         assert!(!found.is_empty(), "wrong readers {number}");
@@ -222,7 +234,7 @@ fn wrong_judges_are_found_out() {
     for (number, judge) in wrong_ones.into_iter().enumerate() {
         let other = Other {
             judge: Some(judge),
-            ..Other::OWN
+            ..NOTHING
         };
         let found = found_at_random(other);
         assert!(!found.is_empty(), "wrong judge {number}");
@@ -275,7 +287,7 @@ fn wrong_lists_are_found_out() {
     for (number, permitted_issuers) in wrong_ones.into_iter().enumerate() {
         let other = Other {
             permitted_issuers: Some(permitted_issuers),
-            ..Other::OWN
+            ..NOTHING
         };
         let found = found_at_random(other);
         assert!(!found.is_empty(), "wrong list {number}");
@@ -289,13 +301,13 @@ fn a_difference_is_told_with_its_inputs_and_both_answers() {
             tag: |_| Word::with(7, [1, 2, 3]),
             ..OWN
         }),
-        ..Other::OWN
+        ..NOTHING
     };
     let comparison = compared(other, 100);
     assert!(!comparison.is_good());
     assert_eq!(
         comparison.differences[1],
-        "differs: tag\n  octets, 1 octets: 00\n  theirs: number 7, a 1, b 2, c 3\n  \
+        "differs: tag\n  octets (1): 00\n  theirs: number 7, a 1, b 2, c 3\n  \
          ours:   number 0, a 0, b 0, c 0"
     );
     let told = comparison.to_string();
@@ -306,9 +318,9 @@ fn a_difference_is_told_with_its_inputs_and_both_answers() {
 fn stored_cases_are_held_against_the_answers_worked_out_by_hand() {
     let other = Other {
         judge: Some(|_, _, _| Ok(Answer::Permitted)),
-        ..Other::OWN
+        ..NOTHING
     };
     let comparison = compared(other, 0);
-    assert!(comparison.stored.wrong.len() > 50);
+    assert!(comparison.wrong_stored().len() > 50);
     assert!(!comparison.is_good());
 }

@@ -109,7 +109,7 @@ fn left_behind(octets: &[u8], theirs: &[u8], ours: &[u8], lent: &Range<usize>) -
     }
 }
 
-/// Room plays no part in what comes before it, so the other refusals need no more sizes than one.
+/// Nothing needs no room, so for "anyone" and the refusals before room, no room at all.
 fn sizes_to_try(answer: Permitted) -> Range<usize> {
     match answer {
         Permitted::List { octets: needed, .. }

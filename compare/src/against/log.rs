@@ -82,7 +82,7 @@ impl Differences {
         let mut lines = format!("differs: {}\n", call.name);
         for (input, octets) in inputs {
             let (length, hex) = (octets.len(), to_hex(octets));
-            lines.push_str(&format!("  {input}, {length} octets: {hex}\n"));
+            lines.push_str(&format!("  {input} ({length}): {hex}\n"));
         }
         lines.push_str(&format!("  theirs: {theirs}\n  ours:   {ours}"));
         self.told.push(lines);

@@ -15,10 +15,10 @@ use list::ListComparison;
 use log::{Differences, Tally};
 use readers::ReadersComparison;
 
-/// How often each answer has to come; less often in a short run.
+/// A run of so many cases or more is worth something only if each kind of answer comes
+/// [`WANTED_TIMES`].
+pub const LONG_RUN: usize = 20_000;
 const WANTED_TIMES: usize = 100;
-/// The share of the cases that every answer comes in, at the least, as one in that many.
-const WANTED_SHARE: usize = 200;
 
 /// What there is of the other implementation.
 #[derive(Clone, Copy)]
@@ -37,28 +37,31 @@ impl Other {
     };
 
     pub fn is_nothing(&self) -> bool {
-        self.readers.is_none() && self.judge.is_none() && self.permitted_issuers.is_none()
+        self.readers.is_none() && self.desk().is_none()
     }
 
-    /// Its calls; ours where it has none.
-    fn desk(&self) -> Desk {
-        Desk {
-            judge: self.judge.unwrap_or(Desk::OWN.judge),
-            permitted_issuers: self
-                .permitted_issuers
-                .unwrap_or(Desk::OWN.permitted_issuers),
-        }
+    /// Its calls, with ours for the one it has not; `None` without any.
+    fn desk(&self) -> Option<Desk> {
+        let Other {
+            judge,
+            permitted_issuers,
+            ..
+        } = *self;
+        (judge.is_some() || permitted_issuers.is_some()).then(|| Desk {
+            judge: judge.unwrap_or(Desk::OWN.judge),
+            permitted_issuers: permitted_issuers.unwrap_or(Desk::OWN.permitted_issuers),
+        })
     }
 }
 
 /// What came of comparing.
 pub struct Comparison {
-    /// Its answers to the stored cases, against those worked out by hand.
-    pub stored: Report,
+    /// Its calls' answers to the stored cases, against those worked out by hand.
+    pub stored: Option<Report>,
     /// Random cases, up to the one that brought too many differences.
     pub cases: usize,
     pub differences: Vec<String>,
-    /// What the generator brought too seldom for a run of so many cases.
+    /// What came too seldom for a long run.
     pub too_rare: Vec<String>,
     remarks: Vec<String>,
     tallies: Vec<Tally>,
@@ -66,7 +69,12 @@ pub struct Comparison {
 
 impl Comparison {
     pub fn is_good(&self) -> bool {
-        self.stored.wrong.is_empty() && self.differences.is_empty() && self.too_rare.is_empty()
+        self.wrong_stored().is_empty() && self.differences.is_empty() && self.too_rare.is_empty()
+    }
+
+    /// One line for each stored case that went wrong.
+    pub fn wrong_stored(&self) -> &[String] {
+        self.stored.as_ref().map_or(&[], |report| &report.wrong)
     }
 }
 
@@ -81,7 +89,9 @@ impl fmt::Display for Comparison {
         for line in self.differences.iter().chain(&self.too_rare) {
             writeln!(f, "{line}")?;
         }
-        writeln!(f, "stored {}", self.stored)?;
+        if let Some(report) = &self.stored {
+            writeln!(f, "{report} of those stored")?;
+        }
         let (cases, differ) = (self.cases, self.differences.len());
         write!(f, "compare: {cases} cases, {differ} differ")
     }
@@ -126,10 +136,10 @@ pub fn compare(other: &Other, stored: &[Case], cases: usize, seed: u64) -> Compa
         .chain(judge.map(JudgeComparison::into_tally))
         .chain(list.map(ListComparison::into_tally))
         .collect();
-    let wanted = WANTED_TIMES.min(done / WANTED_SHARE);
+    let wanted = if done < LONG_RUN { 0 } else { WANTED_TIMES };
     let too_rare = tallies.iter().flat_map(|t| t.rarer_than(wanted)).collect();
     Comparison {
-        stored: cases::run(other.desk(), stored),
+        stored: other.desk().map(|desk| cases::run(desk, stored)),
         cases: done,
         differences: differences.told,
         too_rare,

@@ -72,10 +72,8 @@ const SHORT: usize = 96;
 /// Of longer ones, so many places at each end and anywhere.
 const SOME_PLACES: usize = 48;
 
-/// Every slice of these is tried, up to [`EXHAUSTED`] octets.
-const TEXT_OCTETS: [u8; 7] = *b"a-.; =%";
-const WIRE_OCTETS: [u8; 7] = [0, 1, 2, b'a', b'-', b'*', 64];
-const EXHAUSTED: usize = 6;
+/// Every slice of these octets is tried, up to the length with them.
+const EXHAUSTED: [(&[u8], usize); 2] = [(b"a-.; =%", 6), (b"\x00\x01\x02a-*@", 5)];
 
 /// A CAA record of the root that is laid out rightly, with data too short for CAA data.
 const WRONG_CAA_DATA: &[u8] = b"\x00\x01\x01\x00\x01\x00\x00\x00\x00\x00\x00";
@@ -133,13 +131,13 @@ impl ReadersComparison {
     pub fn short_slices(&mut self, differences: &mut Differences) {
         let every_octet: Vec<u8> = (0..=255).collect();
         for octets in every_slice(&every_octet, 2) {
-            self.look_closely(&octets, differences);
+            self.look(&octets, differences);
             if let [one, other] = octets[..] {
                 self.same(&[one], &[other], differences);
             }
         }
-        for alphabet in [TEXT_OCTETS, WIRE_OCTETS] {
-            for octets in every_slice(&alphabet, EXHAUSTED) {
+        for (alphabet, up_to) in EXHAUSTED {
+            for octets in every_slice(alphabet, up_to) {
                 self.look(&octets, differences);
             }
         }
@@ -234,7 +232,7 @@ impl ReadersComparison {
         let ours = at_place(&self.ours)[reader](octets, at);
         self.at_place[reader].count(ours.number);
         if theirs != ours {
-            let input = format!("read at {at} of octets");
+            let input = format!("octets, read at {at}");
             differences.tell(&AT_PLACE[reader], &[(&input, octets)], theirs, ours);
         }
         ours
@@ -278,4 +276,16 @@ fn every_slice(alphabet: &[u8], up_to: usize) -> impl Iterator<Item = Vec<u8>> +
             (0..length).map(next_digit).collect()
         })
     })
+}
+
+#[cfg(test)]
+mod tests {
+    use super::*;
+
+    #[test]
+    fn every_slice_comes_once() {
+        let slices: Vec<Vec<u8>> = every_slice(b"ab", 2).collect();
+        let expected: [&[u8]; 7] = [b"", b"a", b"b", b"aa", b"ba", b"ab", b"bb"];
+        assert_eq!(slices, expected);
+    }
 }

@@ -75,7 +75,7 @@ impl Generator {
 
     /// Inputs of any kind: mostly good, else damaged, too long or too many.
     pub fn inputs(&mut self) -> Inputs {
-        let request = match self.below(40) {
+        let request = match self.below(32) {
             0 => self.long_request(),
             1 => self.many_names(),
             2..=4 => {
@@ -85,7 +85,7 @@ impl Generator {
             5 => [self.request(), self.name_around_limit()].concat(),
             _ => self.request(),
         };
-        let book = match self.below(40) {
+        let book = match self.below(32) {
             0 => self.long_book(),
             1 => self.many_records(),
             2..=4 => {
@@ -318,7 +318,7 @@ impl Generator {
     fn long_book(&mut self) -> Vec<u8> {
         let mut octets = self.book();
         let padding = BOOK_OCTETS - 1 + self.below(4) - octets.len() - 11;
-        octets.extend(self.record_of(vec![0], 16, 1, &vec![0; padding]));
+        octets.extend(self.record_of(vec![0], 16, 1, &vec![0xFF; padding]));
         octets
     }
 
@@ -365,4 +365,32 @@ fn name_of_octets(octets: usize, longest: usize) -> Vec<u8> {
     }
     wire.push(0);
     wire
+}
+
+#[cfg(test)]
+mod tests {
+    use super::*;
+    use crate::name::read_name;
+
+    #[test]
+    fn names_are_as_long_as_asked_for() {
+        for octets in 3..=NAME_OCTETS {
+            let long_labels = name_of_octets(octets, LABEL_OCTETS);
+            assert_eq!(long_labels.len(), octets);
+            assert!(read_name(&long_labels).unwrap().1.is_empty());
+        }
+        let short_labels = name_of_octets(NAME_OCTETS, 1);
+        assert_eq!(short_labels.len(), NAME_OCTETS);
+        assert_eq!(read_name(&short_labels).unwrap().0.labels.len(), 127);
+    }
+
+    #[test]
+    fn requests_and_books_are_good() {
+        let mut generator = Generator::new(1);
+        for _ in 0..1_000 {
+            assert!(crate::read_request(&generator.request()).is_ok());
+            assert!(crate::read_book(&generator.book()).is_ok());
+            assert!(crate::read_issuer(&generator.issuer()).is_ok());
+        }
+    }
 }

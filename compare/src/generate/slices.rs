@@ -17,21 +17,21 @@ impl Generator {
             0 | 1 => self.request(),
             2 => [self.owner(), self.owner()].concat(),
             3 => [self.buffer(2), self.name_around_limit(), self.buffer(2)].concat(),
-            4..=6 => [self.record(), self.record()].concat(),
-            7 => self.caa_data(),
+            4 | 5 => [self.record(), self.record()].concat(),
+            6 => self.caa_data(),
+            7 => {
+                let tag = self.one_of(&UNKNOWN_TAGS);
+                self.any_case(tag)
+            }
             8 => {
-                let tag = if self.once_in(3) {
-                    self.one_of(&UNKNOWN_TAGS)
-                } else {
-                    self.one_of(&KNOWN_TAGS)
-                };
+                let tag = self.one_of(&KNOWN_TAGS);
                 self.any_case(tag)
             }
             9..=11 => self.value(),
             12 => self.issuer(),
             13 => self.issuer_around_limit(),
-            14 | 15 => self.from_alphabet(&WIRE_ALPHABET, 24),
-            16 | 17 => self.from_alphabet(&TEXT_ALPHABET, 12),
+            14 | 15 => self.octets_of(&WIRE_ALPHABET, 24),
+            16 | 17 => self.octets_of(&TEXT_ALPHABET, 12),
             18 if self.once_in(8) => self.far(),
             _ => {
                 let length = self.below(24);
@@ -48,7 +48,7 @@ impl Generator {
     /// Two texts, often the same but for letter case, one octet or the end.
     pub fn pair(&mut self) -> (Vec<u8>, Vec<u8>) {
         let length = if self.once_in(16) { 300 } else { 8 };
-        let one = self.from_alphabet(&FOLD_ALPHABET, length);
+        let one = self.octets_of(&FOLD_ALPHABET, length);
         let mut other = self.any_case(&one);
         match self.below(4) {
             0 => {
@@ -70,14 +70,14 @@ impl Generator {
         }
     }
 
-    fn from_alphabet(&mut self, alphabet: &[u8], at_most: usize) -> Vec<u8> {
+    fn octets_of(&mut self, alphabet: &[u8], at_most: usize) -> Vec<u8> {
         let length = self.below(at_most + 1);
         (0..length).map(|_| self.one_of(alphabet)).collect()
     }
 
     /// A record of some 65,536 octets, and names and records behind it at places that need 17 bits.
     fn far(&mut self) -> Vec<u8> {
-        let padding = vec![0; 65_535 - self.below(24)];
+        let padding = vec![0xFF; 65_535 - self.below(24)];
         let mut octets = self.record_of(vec![0], 16, 1, &padding);
         octets.extend(if self.once_in(2) {
             self.request()

@@ -13,6 +13,11 @@ use borrow.Author.Tests.{leb-true, le-leb}
 use Rattle.octets.specs.Reader.{Reader, pure, given, andThen, _>>=_, octet, octets, remainder}
 
 module _ {A : Type 0} where
+  -- what can't have found anything has found nothing
+  pub nothing-found : (o : Option A) → ((a : A) → o ≡ some a → ⊥) → o ≡ none
+  nothing-found none bad = refl
+  nothing-found (some a) bad = absurd (bad a refl)
+
   -- also: both parts of an equation between two found values
   pub pure-some : (a b : A) (s rest : List ℕ) → (pure a s ≡ some (b, rest)) ↔ ((a ≡ b) × (s ≡ rest))
   pure-some a b s rest = (λ h. parts (Option·some-injective _ _ h), λ h. let (p, q) = h in cc)

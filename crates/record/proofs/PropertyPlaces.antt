@@ -1,17 +1,18 @@
 -- CAA data by places: what the places of a property say of the property, and the law of propertyAt for each way out of read_property.
 use Prim.Native.Nat.{ℕ, suc, _≤_, _<_, _+_, _-_}
 use native.Mathlib.Omega.{arith}
-use mathlib.Core.Path.{_≡_, refl, sym, ap, subst, _∙_}
+use mathlib.Core.Path.{_≡_, refl, sym, _∙_}
 use mathlib.Core.Logic.{_↔_}
 use mathlib.Core.Bool.{Bool, true, false, or-true}
-use mathlib.Core.List.{List, [], _∷_, _++_}
+use mathlib.Core.List.{List, [], _∷_}
 use mathlib.Core.Option.{Option, none, some}
 use lib.ListN.{length, take, drop, getD, length-append, length-drop, take-append-drop}
 use lib.Seq.{drop-append-seam, take-at, take-all, length-take-le}
+use Rattle.octets.proofs.ReaderLaws.{nothing-found}
 use Rattle.record.specs.declared.PropertyAt.{PropertyAt}
 use Rattle.record.specs.declared.PropertyRead.{PropertyRead}
 use Rattle.record.specs.declared.PropertyRead.the-variants.{Good, Fault}
-use Rattle.record.specs.Property.{Property, wireProperty, readProperty, property}
+use Rattle.record.specs.Property.{Property, property}
 use Rattle.record.specs.Records.{isCaa, isLaidOut}
 use Rattle.record.specs.Places.{propertyAt, tagPart, valuePart}
 use Rattle.record.proofs.PropertyLaws.{property-is-its-parts}
@@ -106,13 +107,11 @@ module _ (d : List ℕ) where
   laid-out-anyhow type class b e t = rw (← e, t)
 
   unread : ((q : Property) → property d ≡ some q → ⊥) → Fault ≡ propertyAt d
-  unread bad = sym (property-faults .1 (go (property d) refl))
-    where
-      go : (o : Option Property) → property d ≡ o → property d ≡ none
-      go none h = h
-      go (some q) h = absurd (bad q h)
+  unread bad = sym (property-faults .1 (nothing-found (property d) bad))
 
-  lengths : (q : Property) → property d ≡ some q → (length d ≡ 2 + length (q .tag) + length (q .value)) × (getD d 1 0 ≡ length (q .tag)) × (1 ≤ length (q .tag))
+  lengths :
+      (q : Property) → property d ≡ some q →
+      (length d ≡ 2 + length (q .tag) + length (q .value)) × (getD d 1 0 ≡ length (q .tag)) × (1 ≤ length (q .tag))
   lengths q h =
       let (e, l) = property-is-its-parts d q .0 h in
       (rw (e, length-append) (omega arith), rw e refl, l)
@@ -140,6 +139,5 @@ property-stands (x ∷ y ∷ t) f n v g h l e m w = stands (length-take-le n t (
 
     stands : length (take n t) ≡ n → Good (record { flags = f; value = v }) ≡ propertyAt (x ∷ y ∷ t)
     stands k =
-        let there : property (x ∷ y ∷ t) ≡ some q =
-        property-is-its-parts (x ∷ y ∷ t) q .1 (rw (← g, ← h, take-append-drop, k) refl, omega arith) in
-        rw (there, k, w)
+        let parts = property-is-its-parts (x ∷ y ∷ t) q .1 (rw (← g, ← h, take-append-drop, k) refl, omega arith) in
+        rw (parts, k, w)

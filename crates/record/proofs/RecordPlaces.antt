@@ -7,7 +7,6 @@ use mathlib.Core.List.{List}
 use mathlib.Core.Option.{Option, none, some}
 use lib.ListN.{length, take, drop, length-drop}
 use lib.Seq.{length-take-le}
-use Rattle.octets.specs.Reader.{valueFrom}
 use Rattle.octets.proofs.ReaderLaws.{bind-some}
 use Rattle.name.specs.Names.{Name, name, wire}
 use Rattle.name.proofs.NameLaws.{fewer-labels}
@@ -17,7 +16,7 @@ use Rattle.record.specs.declared.RecordRead.{RecordRead}
 use Rattle.record.specs.declared.RecordRead.the-variants.{Good, Fault}
 use Rattle.record.specs.Records.{Record, resourceRecord}
 use Rattle.record.specs.Places.{recordAt}
-use Rattle.record.proofs.RecordFields.{dataLength, recordFrom, Whole, fields-read, fields-stand}
+use Rattle.record.proofs.RecordFields.{dataLength, recordFrom, placesFrom, Whole, fields-read, fields-stand}
 
 module _ (s : List ℕ) (at : ℕ) where
   -- p says where the parts of the record r stand in s
@@ -32,26 +31,18 @@ module _ (s : List ℕ) (at : ℕ) where
     pub inside : p .next ≤ length s
 
   module _ (p : RecordAt) (r : Record) (t : RecordTo p r) where
+    pub data-long : length (r .rdata) ≡ p .next - p .rdata
+    data-long = sym (ap length (t .rdata)) ∙ length-take-le (p .next - p .rdata) (drop (p .rdata) s) (omega (arith, length-drop (p .rdata) s, t .inside))
+
     pub record-at : recordAt s at ≡ Good p
     unfolding recordAt
     record-at =
         let next : length s - length (drop (p .next) s) ≡ p .next = omega (arith, length-drop (p .next) s, t .inside) in
-        let long : length (r .rdata) ≡ p .next - p .rdata =
-        sym (ap length (t .rdata)) ∙ length-take-le (p .next - p .rdata) (drop (p .rdata) s) (omega (arith, length-drop (p .rdata) s, t .inside)) in
-        let begins : p .next - length (r .rdata) ≡ p .rdata = omega (arith, t .order) in
+        let begins : p .next - length (r .rdata) ≡ p .rdata = omega (arith, data-long, t .order) in
         rw (t .found, next, begins, ← t .owner .long, ← t .type, ← t .class)
 
   module _ (owner : Name) (e : ℕ) (k : NameTo s at e owner) (w : Whole s e (recordFrom s owner e)) where
-    abbrev pub places : RecordAt
-    places = record {
-      fixed = e;
-      rtype = valueFrom 0 (take 2 (drop e s));
-      class = valueFrom 0 (take 2 (drop (e + 2) s));
-      rdata = e + 10;
-      next = e + 10 + dataLength s e;
-    }
-
-    pub record-to : RecordTo places (recordFrom s owner e)
+    pub record-to : RecordTo (placesFrom s e) (recordFrom s owner e)
     record-to =
         let long : e + 10 + dataLength s e - (e + 10) ≡ dataLength s e = omega arith in
         record {
@@ -72,7 +63,7 @@ module _ (s : List ℕ) (at : ℕ) where
       to : (owner : Name) (e : ℕ) (k : NameTo s at e owner) → Whole s e (recordFrom s owner e) → recordAt s at ≡ Good p → (r : Record) × RecordTo p r
       to owner e k w g =
           let there = record-to owner e k w in
-          let same : places owner e k w ≡ p = cc (record-at (places owner e k w) (recordFrom s owner e) there) in
+          let same : placesFrom s e ≡ p = cc (record-at (placesFrom s e) (recordFrom s owner e) there) in
           (recordFrom s owner e, rw same at there)
 
       go : (o : Option (Record × List ℕ)) → resourceRecord (drop at s) ≡ o → recordAt s at ≡ Good p → (r : Record) × RecordTo p r

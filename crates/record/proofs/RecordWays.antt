@@ -1,23 +1,23 @@
 -- The law of recordAt for each way out of read_record.
 use Prim.Native.Nat.{ℕ, _≤_, _<_, _+_, _-_}
 use native.Mathlib.Omega.{arith}
-use mathlib.Core.Path.{_≡_, refl, sym, ap, _∙_}
+use mathlib.Core.Path.{_≡_, sym, _∙_}
 use mathlib.Core.Bool.{Bool, not, true, false, true≢false}
 use mathlib.Core.List.{List}
-use mathlib.Core.Option.{Option, none, some}
 use lib.ListN.{length, take, drop}
 use borrow.Author.Tests.{not-true, not-false}
 use Rattle.octets.specs.Reader.{valueFrom}
+use Rattle.octets.proofs.ReaderLaws.{nothing-found}
 use Rattle.name.specs.declared.NameEnd.{NameEnd}
 use Rattle.name.specs.declared.NameEnd.the-variants.{At, Fault as NameFault}
 use Rattle.name.specs.Names.{Name}
 use Rattle.name.specs.Places.{nameEnd}
 use Rattle.name.proofs.PlaceLaws.{name-faults, name-there}
 use Rattle.record.specs.declared.RecordRead.the-variants.{Good, Fault}
-use Rattle.record.specs.Records.{Record, isLaidOut, resourceRecord}
+use Rattle.record.specs.Records.{isLaidOut, resourceRecord}
 use Rattle.record.specs.Places.{recordAt}
-use Rattle.record.proofs.RecordFields.{dataLength, recordFrom, Whole, fields-read}
-use Rattle.record.proofs.RecordPlaces.{record-faults, record-at, record-to, places}
+use Rattle.record.proofs.RecordFields.{dataLength, recordFrom, placesFrom, Whole, fields-read}
+use Rattle.record.proofs.RecordPlaces.{record-faults, record-at, record-to}
 
 module _ (s : List ℕ) (at : ℕ) (o : NameEnd) (f : o ≡ nameEnd s at) where
   pub owner-fault : o ≡ NameFault → Fault ≡ recordAt s at
@@ -27,18 +27,16 @@ module _ (s : List ℕ) (at : ℕ) (o : NameEnd) (f : o ≡ nameEnd s at) where
   module _ (e : ℕ) (g : o ≡ At e) where
     -- what is not whole is not read
     unread : ((owner : Name) → Whole s e (recordFrom s owner e) → ⊥) → Fault ≡ recordAt s at
-    unread bad = sym (record-faults s at .1 (go (resourceRecord (drop at s)) refl))
-      where
-        go : (x : Option (Record × List ℕ)) → resourceRecord (drop at s) ≡ x → resourceRecord (drop at s) ≡ none
-        go none h = h
-        go (some x) h = let (n, k) = name-there s at o e f g in absurd (bad n (fields-read s at n e k (x .0) (x .1) h .0))
+    unread bad =
+        let (m, k) = name-there s at o e f g in
+        sym (record-faults s at .1 (nothing-found (resourceRecord (drop at s)) (λ x h. bad m (fields-read s at m e k (x .0) (x .1) h .0))))
 
     pub fields-cut-off : length s - e < 10 → Fault ≡ recordAt s at
-    fields-cut-off h = unread (λ n w. omega (arith, w .fixed))
+    fields-cut-off h = unread (λ m w. omega (arith, w .fixed))
 
     module _ (n : ℕ) (l : n ≡ valueFrom 0 (take 2 (drop (e + 8) s))) where
       pub data-cut-off : length s - (e + 10) < n → Fault ≡ recordAt s at
-      data-cut-off h = unread (λ n w. omega (arith, w .data-fits))
+      data-cut-off h = unread (λ m w. omega (arith, w .data-fits))
 
       module _ (type class : ℕ) (t : type ≡ valueFrom 0 (take 2 (drop e s))) (c : class ≡ valueFrom 0 (take 2 (drop (e + 2) s))) (b : Bool) where
         abbrev Told : Type 0
@@ -56,4 +54,4 @@ module _ (s : List ℕ) (at : ℕ) (o : NameEnd) (f : o ≡ nameEnd s at) where
         record-read j d h i =
             let (m, k) = name-there s at o e f g in
             let w : Whole s e (recordFrom s m e) = record { fixed = h; data-fits = rw (← l) i; laid-out = sym (layout d m) ∙ not-false b j } in
-            rw (l, t, c) (sym (record-at s at (places s at m e k w) (recordFrom s m e) (record-to s at m e k w)))
+            rw (l, t, c) (sym (record-at s at (placesFrom s e) (recordFrom s m e) (record-to s at m e k w)))

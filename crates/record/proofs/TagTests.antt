@@ -1,6 +1,6 @@
 -- The tag by the comparisons that code makes, one after the other.
 use Prim.Native.Nat.{ℕ}
-use mathlib.Core.Path.{_≡_, refl}
+use mathlib.Core.Path.{_≡_}
 use mathlib.Core.Bool.{Bool, true, false}
 use mathlib.Core.List.{List}
 use Rattle.octets.specs.Octets.{text, equalIgnoringCase}

@@ -3,5 +3,5 @@ pub mod Requests
 pub mod WildcardTests
 pub mod HostNames
 pub mod RequestPlaces
-pub mod Asked
+pub mod BasePlaces
 pub mod RequestWalk

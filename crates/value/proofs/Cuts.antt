@@ -27,11 +27,13 @@ split-more c {p} h s =
     pieces-join c (p ++ (c ∷ s)) (p ∷ split c s) .1
     (ap (λ (l : List ℕ). p ++ (c ∷ l)) (k .0) ∙ sym (join-more c p (split c s) (k .1)), cons≢nil, all-cons h (k .2))
 
--- Cut once, at the place where the first piece ends.
+-- Cut at a place.
 
+-- `&s[n..]` is what is left of s from n on
 pub rest-whole : {A : Type 0} (s : List A) (n : ℕ) → take (length s - n) (drop n s) ≡ drop n s
 rest-whole s n = take-all (length s - n) (drop n s) (omega (arith, length-drop n s))
 
+-- e is where the first piece ends
 module _ (c : ℕ) (s : List ℕ) (e : ℕ) (cut : e ≡ pieceEnd c s 0) where
   pub cut-last : length s ≤ e → split c s ≡ take e s ∷ []
   cut-last h = rw sub-zero at (pieces-last c s 0 e cut h)

@@ -1,7 +1,7 @@
 pub mod Classes
 pub mod Blanks
-pub mod TrimWalk
 pub mod Cuts
+pub mod TrimWalk
 pub mod DomainNames
 pub mod Parameters
 pub mod ParameterTests

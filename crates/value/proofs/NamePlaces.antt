@@ -7,14 +7,12 @@ use mathlib.Core.Bool.{Bool, true, false, cond}
 use mathlib.Core.List.{List, [], _∷_, _++_, append-nil, append-assoc, cons≢nil}
 use lib.ListN.{length, length-append}
 use Rattle.octets.specs.Octets.{isBlank}
-use Rattle.value.specs.declared.NameAt.{NameAt}
-use Rattle.value.specs.declared.ValueRead.{ValueRead}
 use Rattle.value.specs.declared.ValueRead.the-variants.{Malformed, Nameless, Named}
 use Rattle.value.specs.IssueValues.{malformed, nameless, named, trimStart, trimEnd, trim, isDomainName, nameIn}
 use Rattle.value.specs.Places.{namePlaces}
 use Rattle.value.proofs.Blanks.{trimStart-takes, trimEnd-takes}
 
-pub trimStart-shorter : (s : List ℕ) → length (trimStart s) ≤ length s
+trimStart-shorter : (s : List ℕ) → length (trimStart s) ≤ length s
 trimStart-shorter s = let (a, e, blank) = trimStart-takes s in omega (arith, ap length e ∙ length-append a (trimStart s))
 
 -- what stands behind an octet that is no blank is kept
@@ -35,7 +33,7 @@ module _ (f r : List ℕ) (some : trim f ≢ []) where
       let whole : f ++ r ≡ trimEnd f ++ (b ++ r) = ap (λ l. l ++ r) e ∙ append-assoc (trimEnd f) b r in
       (b ++ r, ap trimStart whole ∙ trimStart-front (trimEnd f) (b ++ r) some, ap length whole ∙ length-append (trimEnd f) (b ++ r))
 
-  pub name-place : length (f ++ r) - length (trimStart (f ++ r)) ≡ length (trimEnd f) - length (trim f)
+  name-place : length (f ++ r) - length (trimStart (f ++ r)) ≡ length (trimEnd f) - length (trim f)
   name-place =
       let (b, e, long) = from-name in
       rw (long, e, length-append (trim f) b) (omega arith)

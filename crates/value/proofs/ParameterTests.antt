@@ -8,7 +8,7 @@ use mathlib.Core.List.{List, [], _∷_}
 use lib.ListN.{length, take, drop}
 use Rattle.octets.specs.Lists.{all}
 use Rattle.octets.specs.Octets.{isBlank}
-use Rattle.octets.specs.Pieces.{split, join}
+use Rattle.octets.specs.Pieces.{split}
 use Rattle.octets.specs.Places.{pieceEnd}
 use Rattle.octets.proofs.ListLaws.{all-true, not-passed}
 use Rattle.octets.proofs.PieceLaws.{pieces-join}

@@ -5,17 +5,18 @@ use mathlib.Core.Path.{_≡_, sym, ap, _∙_}
 use mathlib.Core.Bool.{Bool, true, false}
 use mathlib.Core.List.{List, [], _∷_, _++_}
 use lib.ListN.{length, getD, take, drop, length-drop, drop-of-length-le}
-use lib.Seq.{take-suc, take-all, take-length, length-take-le}
+use lib.Seq.{take-suc, take-length, length-take-le}
 use Rattle.octets.specs.Lists.{all-nil, all-cons}
 use Rattle.octets.specs.Octets.{isBlank}
 use Rattle.octets.proofs.Walks.{drop-step}
 use Rattle.value.specs.IssueValues.{trimStart, trimEnd}
 use Rattle.value.proofs.Blanks.{trimEnd-back, trimEnd-upTo}
+use Rattle.value.proofs.Cuts.{rest-whole}
 
 -- From the front.
 
 pub start-less : (t : List ℕ) → 0 < length t → length (take (length t - 1) (drop 1 t)) < length t
-start-less t h = rw (take-all (length t - 1) (drop 1 t) (omega (arith, length-drop 1 t)), length-drop 1 t) (omega arith)
+start-less t h = rw (rest-whole t 1, length-drop 1 t) (omega arith)
 
 module _ (s t : List ℕ) (left : trimStart s ≡ trimStart t) where
   apart : 0 < length t → t ≡ getD t 0 0 ∷ drop 1 t
@@ -23,8 +24,7 @@ module _ (s t : List ℕ) (left : trimStart s ≡ trimStart t) where
 
   pub start-turn : (u : List ℕ) (r : Bool) → 0 < length t → r ≡ isBlank (getD t 0 0) → r ≡ true → u ≡ take (length t - 1) (drop 1 t) →
       trimStart s ≡ trimStart u
-  start-turn u r h e b next =
-      left ∙ ap trimStart (apart h) ∙ rw (← e, b, next, take-all (length t - 1) (drop 1 t) (omega (arith, length-drop 1 t)))
+  start-turn u r h e b next = left ∙ ap trimStart (apart h) ∙ rw (← e, b, next, rest-whole t 1)
 
   pub start-stop : (r : Bool) → 0 < length t → r ≡ isBlank (getD t 0 0) → r ≡ false → t ≡ trimStart s
   start-stop r h e b = sym (left ∙ ap trimStart (apart h) ∙ rw (← e, b) (sym (apart h)))

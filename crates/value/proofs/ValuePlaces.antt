@@ -9,7 +9,7 @@ use lib.Seq.{take-append-seam, drop-at}
 use Rattle.value.specs.declared.NameAt.{NameAt}
 use Rattle.value.specs.declared.ValueRead.{ValueRead}
 use Rattle.value.specs.declared.ValueRead.the-variants.{Malformed, Nameless, Named}
-use Rattle.value.specs.IssueValues.{IssueValue, malformed, nameless, named, trimStart, trim, issueValue}
+use Rattle.value.specs.IssueValues.{IssueValue, malformed, nameless, named, trimStart, issueValue}
 use Rattle.value.specs.Places.{namePlaces, valueAt}
 use Rattle.value.proofs.Blanks.{trimStart-takes}
 use Rattle.value.proofs.Values.{name-in-front}

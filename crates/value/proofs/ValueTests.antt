@@ -1,7 +1,7 @@
 -- A value by tests on its parts, as code makes them.
 use Prim.Native.Nat.{ℕ, _+_, _-_, _≤_, _<_}
 use Prim.Native.Char.{code}
-use mathlib.Core.Path.{_≡_, sym, ap, _∙_}
+use mathlib.Core.Path.{_≡_, sym, _∙_}
 use mathlib.Core.Bool.{Bool, true, false}
 use mathlib.Core.List.{List}
 use lib.ListN.{length, take, drop, take-append-drop}
@@ -9,7 +9,7 @@ use Rattle.octets.specs.Pieces.{split}
 use Rattle.octets.specs.Places.{pieceEnd}
 use Rattle.value.specs.declared.ValueRead.{ValueRead}
 use Rattle.value.specs.declared.ValueRead.the-variants.{Malformed}
-use Rattle.value.specs.IssueValues.{trim, areParameters, nameIn, fromPieces, issueValue}
+use Rattle.value.specs.IssueValues.{trim, areParameters, nameIn, issueValue}
 use Rattle.value.specs.Places.{namePlaces, valueAt}
 use Rattle.value.proofs.Cuts.{rest-whole, cut-last, cut-more}
 use Rattle.value.proofs.NamePlaces.{places-front}

@@ -100,7 +100,7 @@ fn is_domain_name(s: &[u8]) -> bool
     loop {
         let e = octets::piece_end(s, at, b'.');
         if !octets::is_label(&s[at..e]) {
-            return false;
+            return false; // as behind a closing dot
         }
         if s.len() <= e {
             return true;
@@ -139,7 +139,7 @@ fn are_parameters(s: &[u8]) -> bool
     loop {
         let e = octets::piece_end(s, at, b';');
         if !is_parameter(&s[at..e]) {
-            return false;
+            return false; // as behind a closing semicolon
         }
         if s.len() <= e {
             return true;
@@ -157,13 +157,14 @@ fn read_name(s: &[u8]) -> ValueRead
     if name.len() == 0 {
         return ValueRead::Nameless;
     }
-    if !is_domain_name(name) {
-        return ValueRead::Malformed;
+    if is_domain_name(name) {
+        let from = front.len() - name.len();
+        return ValueRead::Named(NameAt {
+            from,
+            to: front.len(),
+        });
     }
-    ValueRead::Named(NameAt {
-        from: front.len() - name.len(),
-        to: front.len(),
-    })
+    ValueRead::Malformed
 }
 
 pub fn read_value(s: &[u8]) -> ValueRead

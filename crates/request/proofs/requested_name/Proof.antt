@@ -1,10 +1,11 @@
--- `request::requested_name` meets its contract. `place` says where X begins, whichever way the code came.
+-- `request::requested_name` meets its contract. Where X begins depends on the way the code came.
 use native.Mathlib.Nat.{le-of-lt}
 use mathlib.Core.Path.{refl}
+use mathlib.Core.Logic.{⊎-elim}
 use borrow.Author.Needs.{needs}
 use borrow.Author.Tests.{not-true, not-false}
 use Rattle.name.proofs.PlaceLaws.{end-after, end-inside}
-use Rattle.request.proofs.Asked.{base-place, no-name, star-inside, base-inside, asked-fault, asked-good}
+use Rattle.request.proofs.BasePlaces.{star-place, plain-place, no-name, star-inside, base-inside, asked-fault, asked-good}
 use Rattle.request.proofs.requested_name.Statement.{statement}
 use Rattle.request.proofs.requested_name.Tie as tie
 
@@ -40,13 +41,13 @@ add-base c =
 
 sub-are-host-labels : tie.Need-sub-are-host-labels
 sub-are-host-labels c =
-    let place = base-place _ _ _ (λ p. p .taken) (λ q. q .left) (c .before .if1 .came) in
-    search (needs, base-inside (c .before .before .is-wildcard .ensures))
+    let inside = base-inside (c .before .before .is-wildcard .ensures) in
+    ⊎-elim (λ p. search (inside, star-place)) (λ q. search (inside, plain-place)) (c .before .if1 .came)
 
 part-are-host-labels-start : tie.Need-part-are-host-labels-start
 part-are-host-labels-start c =
-    let place = base-place _ _ _ (λ p. p .taken) (λ q. q .left) (c .before .if1 .came) in
-    search (needs, base-inside (c .before .before .is-wildcard .ensures))
+    let inside = base-inside (c .before .before .is-wildcard .ensures) in
+    ⊎-elim (λ p. search (inside, star-place)) (λ q. search (inside, plain-place)) (c .before .if1 .came)
 
 part-are-host-labels-end : tie.Need-part-are-host-labels-end
 part-are-host-labels-end c = search (needs, end-inside)
@@ -56,13 +57,15 @@ are-host-labels-requires c κs = search needs
 
 returns-2 : tie.Need-returns-2
 returns-2 c =
-    let place = base-place _ _ _ (λ p. p .taken) (λ q. q .left) (c .before .before .before .before .if1 .came) in
-    search (needs, asked-fault (c .before .before .before .before .before .is-wildcard .ensures) (c .before .are-host-labels .ensures), not-true)
+    let j = c .before .before .before .before in
+    let asked = asked-fault (j .before .is-wildcard .ensures) (c .before .are-host-labels .ensures) (j .if1 .base) in
+    ⊎-elim (λ p. search (asked, star-place, not-true)) (λ q. search (asked, plain-place, not-true)) (j .if1 .came)
 
 returns-3 : tie.Need-returns-3
 returns-3 c =
-    let place = base-place _ _ _ (λ p. p .taken) (λ q. q .left) (c .before .before .before .before .if1 .came) in
-    search (needs, asked-good (c .before .before .before .before .before .is-wildcard .ensures) (c .before .are-host-labels .ensures), not-false)
+    let j = c .before .before .before .before in
+    let asked = asked-good (j .before .is-wildcard .ensures) (c .before .are-host-labels .ensures) (j .if1 .base) in
+    ⊎-elim (λ p. search (asked, star-place, not-false)) (λ q. search (asked, plain-place, not-false)) (j .if1 .came)
 
 pub requested-name-spec : {M : Type 1} → statement M
 requested-name-spec =

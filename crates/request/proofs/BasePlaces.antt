@@ -3,7 +3,6 @@ use Prim.Native.Nat.{ℕ, _≤_, _<_, _+_, _-_}
 use native.Mathlib.Nat.{add-zero}
 use native.Mathlib.Omega.{arith}
 use mathlib.Core.Path.{_≡_, sym, _∙_}
-use mathlib.Core.Logic.{_⊎_, inl, inr}
 use mathlib.Core.Bool.{Bool, true, false}
 use mathlib.Core.List.{List}
 use lib.ListN.{length, drop, take}
@@ -21,10 +20,12 @@ use Rattle.request.proofs.HostNames.{isHostName}
 use Rattle.request.proofs.RequestPlaces.{ahead, good-base, base-octets, base-before, unrequestable, requested-to, requested-ends}
 
 -- X begins behind the asterisk label, where there is one
-pub base-place :
-    {P Q : Type 0} (w : Bool) (at b : ℕ) → (P → w ≡ true) → (Q → w ≡ false) → (P × (b ≡ at + 2)) ⊎ (Q × (b ≡ at)) → b ≡ at + ahead w
-base-place w at b star plain (inl (p, e)) = rw (star p) e
-base-place w at b star plain (inr (q, e)) = rw (plain q, add-zero) e
+module _ (w : Bool) (at b : ℕ) where
+  pub star-place : w ≡ true → b ≡ at + 2 → b ≡ at + ahead w
+  star-place t e = rw t e
+
+  pub plain-place : w ≡ false → b ≡ at → b ≡ at + ahead w
+  plain-place t e = rw (t, add-zero) e
 
 pub no-name : (s : List ℕ) (at : ℕ) (o : NameEnd) → o ≡ nameEnd s at → o ≡ NoName → Fault ≡ requestedAt s at
 unfolding requestedAt requestedName
@@ -48,22 +49,24 @@ module _ {x : List ℕ} {w : Bool} (told : (n : Name) → x ≡ wire n → w ≡
     pub base-inside : b ≤ e
     base-inside = let (n, k) = name-there s at o e f g in omega (arith, base-before s at e n k b (begins n k))
 
--- y is its X, and h what is said of that
+-- y is its X from b on, and h what is said of that
 module _ {x y : List ℕ} {w h : Bool} (told : (n : Name) → x ≡ wire n → w ≡ isWildcard n) (hosts : (m : Name) → GoodName m → y ≡ wire m → h ≡ isHostName m)
-    (s : List ℕ) (at : ℕ) (o : NameEnd) (e : ℕ) (f : o ≡ nameEnd s at) (g : o ≡ At e) (part : x ≡ take (e - at) (drop at s))
-    (b : ℕ) (place : b ≡ at + ahead w) (base-part : y ≡ take (e - b) (drop b s)) where
+    (b : ℕ) (s : List ℕ) (at : ℕ) (o : NameEnd) (e : ℕ) (f : o ≡ nameEnd s at) (g : o ≡ At e)
+    (part : x ≡ take (e - at) (drop at s)) (base-part : y ≡ take (e - b) (drop b s)) (place : b ≡ at + ahead w) where
+  begun : (n : Name) → NameTo s at e n → b ≡ at + ahead (isWildcard n)
+  begun = begins told s at o e f g part b place
+
   requestable : (n : Name) → NameTo s at e n → isRequestable n ≡ h
   unfolding isRequestable
   requestable n k =
       let good = name-is-its-labels (drop at s) n (drop e s) .0 (k .found) .1 in
-      sym (hosts (base n) (good-base n good) (base-part ∙ base-octets s at e n k b (begins told s at o e f g part b place n k)))
+      sym (hosts (base n) (good-base n good) (base-part ∙ base-octets s at e n k b (begun n k)))
 
   pub asked-fault : h ≡ false → Fault ≡ requestedAt s at
-  asked-fault t =
-      let (n, k) = name-there s at o e f g in
-      unrequestable s at e n k (requestable n k ∙ t)
+  asked-fault t = let (n, k) = name-there s at o e f g in unrequestable s at e n k (requestable n k ∙ t)
 
   pub asked-good : h ≡ true → Good (record { wildcard = w; base = b; next = e }) ≡ requestedAt s at
   asked-good t =
       let (n, k) = name-there s at o e f g in
-      sym (requested-ends s at _ .1 (n, requested-to s at e n k b (begins told s at o e f g part b place n k) (requestable n k ∙ t) w (wild told s at o e f g part n k)))
+      let to = requested-to s at e n k b (begun n k) (requestable n k ∙ t) w (wild told s at o e f g part n k) in
+      sym (requested-ends s at _ .1 (n, to))

@@ -1,0 +1,18 @@
+-- A reader tells the number of what it read: o is what the code read, d its definition, a the constructor matched.
+use Prim.Native.Nat.{ℕ}
+use mathlib.Core.Bool.{Bool, cond}
+use mathlib.Core.Path.{_≡_}
+use Rattle.packed.specs.Packed.{packed}
+use Rattle.request.specs.declared.Requested.{Requested}
+use Rattle.request.specs.declared.RequestedRead.{RequestedRead}
+use Rattle.request.specs.declared.RequestedRead.the-variants.{Good}
+use Rattle.readers.specs.Packs.{packedRequested}
+
+pub told : {A : Type 0} (f : A → ℕ) (o d a : A) (r : ℕ) → o ≡ d → o ≡ a → r ≡ f a → r ≡ f d
+told f o d a r od oa ra = cc
+
+-- the code tells a wildcard and any other name by a test t
+pub told-requested :
+    (o d : RequestedRead) (n : Requested) (t : Bool) (r : ℕ) → o ≡ d → o ≡ Good n → n .wildcard ≡ t →
+    r ≡ packed (cond t 2 1) (n .next) (n .base) 0 → r ≡ packedRequested d
+told-requested o d n t r od on nt rt = told packedRequested o d (Good n) r od on cc

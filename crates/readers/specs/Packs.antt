@@ -1,0 +1,47 @@
+-- The answers of the readers as numbers.
+use Prim.Native.Nat.{ℕ}
+use mathlib.Core.Bool.{Bool, true, false, cond}
+use Rattle.packed.specs.Packed.{packed}
+use Rattle.name.specs.declared.NameEnd.{NameEnd}
+use Rattle.name.specs.declared.NameEnd.the-variants.{At, Fault}
+use Rattle.request.specs.declared.RequestedRead.{RequestedRead}
+use Rattle.request.specs.declared.RequestedRead.the-variants.{Good as GoodName, Fault as NameFault}
+use Rattle.record.specs.declared.PropertyRead.{PropertyRead}
+use Rattle.record.specs.declared.PropertyRead.the-variants.{Good as GoodProperty, Fault as PropertyFault}
+use Rattle.record.specs.declared.PropertyTag.{PropertyTag}
+use Rattle.record.specs.declared.PropertyTag.the-variants.{Issue, IssueWild, Iodef, Unknown}
+use Rattle.record.specs.declared.RecordRead.{RecordRead}
+use Rattle.record.specs.declared.RecordRead.the-variants.{Good as GoodRecord, Fault as RecordFault}
+use Rattle.value.specs.declared.ValueRead.{ValueRead}
+use Rattle.value.specs.declared.ValueRead.the-variants.{Malformed, Nameless, Named}
+
+abbrev pub packedBool : Bool → ℕ
+packedBool true = 1
+packedBool false = 0
+
+abbrev pub packedEnd : NameEnd → ℕ
+packedEnd (At e) = packed 1 e 0 0
+packedEnd Fault = 0
+
+abbrev pub packedRequested : RequestedRead → ℕ
+packedRequested (GoodName n) = packed (cond (n .wildcard) 2 1) (n .next) (n .base) 0
+packedRequested NameFault = 0
+
+abbrev pub packedProperty : PropertyRead → ℕ
+packedProperty (GoodProperty p) = packed 1 (p .value) (p .flags) 0
+packedProperty PropertyFault = 0
+
+abbrev pub packedTag : PropertyTag → ℕ
+packedTag Unknown = 0
+packedTag Issue = 1
+packedTag IssueWild = 2
+packedTag Iodef = 3
+
+abbrev pub packedRecord : RecordRead → ℕ
+packedRecord (GoodRecord r) = packed 1 (r .next) (r .fixed) (r .rdata)
+packedRecord RecordFault = 0
+
+abbrev pub packedValue : ValueRead → ℕ
+packedValue Malformed = 0
+packedValue Nameless = 1
+packedValue (Named n) = packed 2 (n .to) (n .from) 0

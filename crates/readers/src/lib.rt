@@ -1,0 +1,124 @@
+// The readers, exported so that a program in another language can hold its own against them.
+use name::NameEnd;
+use record::PropertyRead;
+use record::PropertyTag;
+use record::RecordRead;
+use request::RequestedRead;
+use value::ValueRead;
+ghost use mathlib.Core.Path.{_≡_};
+ghost use Rattle.refusal.specs.Checks.{checked};
+ghost use Rattle.packed.specs.Packed.{packedCheck};
+ghost use Rattle.octets.specs.Octets.{equalIgnoringCase};
+ghost use Rattle.name.specs.Places.{nameEnd};
+ghost use Rattle.request.specs.Request.{requestRefusal};
+ghost use Rattle.request.specs.Places.{requestedAt};
+ghost use Rattle.issuer.specs.Issuer.{issuerRefusal};
+ghost use Rattle.record.specs.Property.{tagOf};
+ghost use Rattle.record.specs.Records.{bookRefusal};
+ghost use Rattle.record.specs.Places.{propertyAt, recordAt};
+ghost use Rattle.value.specs.Places.{valueAt};
+ghost use Rattle.readers.specs.Packs.{packedBool, packedEnd, packedRequested, packedProperty, packedTag, packedRecord, packedValue};
+
+#[no_mangle]
+pub extern "C" fn readers_check_request(s: &[u8]) -> u64
+    ensures { λ r. ⌜ r ≡ packedCheck (checked (requestRefusal (now (s .entry)))) ⌝ }
+{
+    packed::pack_check(request::check_request(s))
+}
+
+#[no_mangle]
+pub extern "C" fn readers_check_issuer(d: &[u8]) -> u64
+    ensures { λ r. ⌜ r ≡ packedCheck (checked (issuerRefusal (now (d .entry)))) ⌝ }
+{
+    packed::pack_check(issuer::check_issuer(d))
+}
+
+#[no_mangle]
+pub extern "C" fn readers_check_book(b: &[u8]) -> u64
+    ensures { λ r. ⌜ r ≡ packedCheck (checked (bookRefusal (now (b .entry)))) ⌝ }
+{
+    packed::pack_check(record::check_book(b))
+}
+
+// 1 where the two are the same.
+#[no_mangle]
+pub extern "C" fn readers_same(a: &[u8], b: &[u8]) -> u64
+    ensures { λ r. ⌜ r ≡ packedBool (equalIgnoringCase (now (a .entry)) (now (b .entry))) ⌝ }
+{
+    if octets::same_ignoring_case(a, b) {
+        return 1;
+    }
+    0
+}
+
+// 0 for a fault; else 1, and in a where the name ends.
+#[no_mangle]
+pub extern "C" fn readers_name_end(s: &[u8], at: usize) -> u64
+    ensures { λ r. ⌜ r ≡ packedEnd (nameEnd (now (s .entry)) at) ⌝ }
+{
+    let NameEnd::At(e) = name::name_end(s, at) else {
+        return 0;
+    };
+    packed::pack(1, e as u64, 0, 0)
+}
+
+// 0 for a fault; else 1, or 2 for a wildcard, in a where the name ends, in b where its X begins.
+#[no_mangle]
+pub extern "C" fn readers_requested_name(s: &[u8], at: usize) -> u64
+    ensures { λ r. ⌜ r ≡ packedRequested (requestedAt (now (s .entry)) at) ⌝ }
+{
+    let RequestedRead::Good(n) = request::requested_name(s, at) else {
+        return 0;
+    };
+    if n.wildcard {
+        return packed::pack(2, n.next as u64, n.base as u64, 0);
+    }
+    packed::pack(1, n.next as u64, n.base as u64, 0)
+}
+
+// 0 for a fault; else 1, in a where the value begins, in b the flags.
+#[no_mangle]
+pub extern "C" fn readers_property(d: &[u8]) -> u64
+    ensures { λ r. ⌜ r ≡ packedProperty (propertyAt (now (d .entry))) ⌝ }
+{
+    let PropertyRead::Good(p) = record::read_property(d) else {
+        return 0;
+    };
+    packed::pack(1, p.value as u64, p.flags as u64, 0)
+}
+
+// 0 unknown, 1 issue, 2 issuewild, 3 iodef.
+#[no_mangle]
+pub extern "C" fn readers_tag(t: &[u8]) -> u64
+    ensures { λ r. ⌜ r ≡ packedTag (tagOf (now (t .entry))) ⌝ }
+{
+    match record::tag_of(t) {
+        PropertyTag::Unknown => 0,
+        PropertyTag::Issue => 1,
+        PropertyTag::IssueWild => 2,
+        PropertyTag::Iodef => 3,
+    }
+}
+
+// 0 for a fault; else 1, in a where the record ends, in b where its owner ends, in c where its data begins.
+#[no_mangle]
+pub extern "C" fn readers_record(s: &[u8], at: usize) -> u64
+    ensures { λ r. ⌜ r ≡ packedRecord (recordAt (now (s .entry)) at) ⌝ }
+{
+    let RecordRead::Good(r) = record::read_record(s, at) else {
+        return 0;
+    };
+    packed::pack(1, r.next as u64, r.fixed as u64, r.rdata as u64)
+}
+
+// 0 malformed; 1 with no name; 2 with a name, in a where it ends, in b where it begins.
+#[no_mangle]
+pub extern "C" fn readers_value(v: &[u8]) -> u64
+    ensures { λ r. ⌜ r ≡ packedValue (valueAt (now (v .entry))) ⌝ }
+{
+    match value::read_value(v) {
+        ValueRead::Malformed => 0,
+        ValueRead::Nameless => 1,
+        ValueRead::Named(n) => packed::pack(2, n.to as u64, n.from as u64, 0),
+    }
+}
