@@ -90,7 +90,11 @@ impl fmt::Display for Comparison {
             writeln!(f, "{line}")?;
         }
         if let Some(report) = &self.stored {
-            writeln!(f, "{report} of those stored")?;
+            for line in &report.wrong {
+                writeln!(f, "wrong: {line}")?;
+            }
+            let (cases, wrong) = (report.cases, report.wrong.len());
+            writeln!(f, "stored: {cases} cases, {wrong} wrong")?;
         }
         let (cases, differ) = (self.cases, self.differences.len());
         write!(f, "compare: {cases} cases, {differ} differ")

@@ -1,0 +1,43 @@
+//! The program's subcommands, as far as they need no archive.
+
+use std::process::{Command, Output};
+
+fn run(arguments: &[&str]) -> Output {
+    Command::new(env!("CARGO_BIN_EXE_compare"))
+        .args(arguments)
+        .output()
+        .unwrap()
+}
+
+#[test]
+fn wrong_arguments_get_the_usage() {
+    for arguments in [
+        &[][..],
+        &["frown"],
+        &["judge"],
+        &["cases", "2"],
+        &["library", "--cases"],
+        &["library", "--cases", "x"],
+        &["library", "--seed", "-1"],
+        &["library", "--frown", "1"],
+    ] {
+        let output = run(arguments);
+        assert_eq!(output.status.code(), Some(2), "{arguments:?}");
+        assert!(output.stderr.starts_with(b"usage: "), "{arguments:?}");
+    }
+}
+
+#[test]
+fn stored_cases_are_run() {
+    let output = run(&["cases"]);
+    assert!(output.status.success());
+    assert!(output.stdout.ends_with(b" cases, 0 wrong\n"));
+}
+
+#[cfg(not(any(feature = "readers", feature = "judge")))]
+#[test]
+fn without_a_library_there_is_nothing_to_compare() {
+    let output = run(&["library", "--seed", "2", "--cases", "1"]);
+    assert_eq!(output.status.code(), Some(2));
+    assert!(output.stderr.starts_with(b"compare: built without"));
+}
