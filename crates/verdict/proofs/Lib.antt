@@ -1,0 +1,2 @@
+pub mod NameWays
+pub mod NameWalk

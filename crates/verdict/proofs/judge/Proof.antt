@@ -1,0 +1,143 @@
+-- `judge` meets its contract. The loop's invariant: with k names permitted, those left from `at` on give the answer.
+use Prim.Native.Nat.{_-_}
+use lib.ListN.{length}
+use borrow.Author.Needs.{needs}
+use Rattle.limits.specs.Limits.{maxNames}
+use Rattle.request.proofs.RequestPlaces.{next-inside, left-less}
+use Rattle.verdict.proofs.NameWalk.{NamesLeft, request-refused, issuer-refused, book-refused, names-start, no-bad-name, base-first, name-critical, name-ungranted, few, name-passed, all-passed}
+use Rattle.verdict.proofs.judge.Statement.{statement}
+use Rattle.verdict.proofs.judge.Tie as tie
+
+abbrev Inv-loop : tie.InvT-loop
+Inv-loop request issuer book at₀ k₀ at k = NamesLeft request issuer book at k
+
+abbrev μ-loop : tie.MeasureT-loop
+μ-loop request issuer book at₀ k₀ at k = length request - at
+
+check-request-requires : tie.Need-check-request-requires Inv-loop μ-loop
+check-request-requires c κs = search needs
+
+enum-known-r : tie.Need-enum-known-r Inv-loop μ-loop
+enum-known-r c = search needs
+
+returns : tie.Need-returns Inv-loop μ-loop
+returns c = search (needs, request-refused)
+
+enum-told : tie.Need-enum-told Inv-loop μ-loop
+enum-told c = search needs
+
+check-issuer-requires : tie.Need-check-issuer-requires Inv-loop μ-loop
+check-issuer-requires c κs = search needs
+
+enum-known-r-2 : tie.Need-enum-known-r-2 Inv-loop μ-loop
+enum-known-r-2 c = search needs
+
+returns-2 : tie.Need-returns-2 Inv-loop μ-loop
+returns-2 c = search (needs, issuer-refused)
+
+enum-told-2 : tie.Need-enum-told-2 Inv-loop μ-loop
+enum-told-2 c = search needs
+
+check-book-requires : tie.Need-check-book-requires Inv-loop μ-loop
+check-book-requires c κs = search needs
+
+enum-known-r-3 : tie.Need-enum-known-r-3 Inv-loop μ-loop
+enum-known-r-3 c = search needs
+
+returns-3 : tie.Need-returns-3 Inv-loop μ-loop
+returns-3 c = search (needs, book-refused)
+
+enum-told-3 : tie.Need-enum-told-3 Inv-loop μ-loop
+enum-told-3 c = search needs
+
+loop-holds : tie.Need-loop-holds Inv-loop μ-loop
+loop-holds c = search (needs, names-start)
+
+requested-name-requires : tie.Need-requested-name-requires Inv-loop μ-loop
+requested-name-requires c κs = search needs
+
+enum-known-n : tie.Need-enum-known-n Inv-loop μ-loop
+enum-known-n c = search needs
+
+enum-told-4 : tie.Need-enum-told-4 Inv-loop μ-loop
+enum-told-4 c = search needs
+
+returns-4 : tie.Need-returns-4 Inv-loop μ-loop
+returns-4 c = search (needs, no-bad-name)
+
+sub-judge-name : tie.Need-sub-judge-name Inv-loop μ-loop
+sub-judge-name c = search (needs, base-first)
+
+part-judge-name-start : tie.Need-part-judge-name-start Inv-loop μ-loop
+part-judge-name-start c = search (needs, base-first)
+
+part-judge-name-end : tie.Need-part-judge-name-end Inv-loop μ-loop
+part-judge-name-end c = search (needs, next-inside)
+
+judge-name-requires : tie.Need-judge-name-requires Inv-loop μ-loop
+judge-name-requires c κs = search needs
+
+enum-told-5 : tie.Need-enum-told-5 Inv-loop μ-loop
+enum-told-5 c = search needs
+
+enum-known-rr : tie.Need-enum-known-rr Inv-loop μ-loop
+enum-known-rr c = search needs
+
+returns-5 : tie.Need-returns-5 Inv-loop μ-loop
+returns-5 c = search (needs, name-critical)
+
+enum-known-rr-2 : tie.Need-enum-known-rr-2 Inv-loop μ-loop
+enum-known-rr-2 c = search needs
+
+returns-6 : tie.Need-returns-6 Inv-loop μ-loop
+returns-6 c = search (needs, name-ungranted)
+
+add-k : tie.Need-add-k Inv-loop μ-loop
+unfolding maxNames
+add-k c = search (needs, few)
+
+loop-less : tie.Need-loop-less Inv-loop μ-loop
+loop-less c = search (needs, left-less)
+
+loop-again : tie.Need-loop-again Inv-loop μ-loop
+loop-again c = search (needs, name-passed)
+
+returns-7 : tie.Need-returns-7 Inv-loop μ-loop
+returns-7 c = search (needs, all-passed)
+
+pub judge-spec : {M : Type 1} → statement M
+judge-spec =
+    tie.close
+    (tie.spec
+    Inv-loop
+    μ-loop
+    check-request-requires
+    enum-known-r
+    returns
+    enum-told
+    check-issuer-requires
+    enum-known-r-2
+    returns-2
+    enum-told-2
+    check-book-requires
+    enum-known-r-3
+    returns-3
+    enum-told-3
+    loop-holds
+    requested-name-requires
+    enum-known-n
+    enum-told-4
+    returns-4
+    sub-judge-name
+    part-judge-name-start
+    part-judge-name-end
+    judge-name-requires
+    enum-told-5
+    enum-known-rr
+    returns-5
+    enum-known-rr-2
+    returns-6
+    add-k
+    loop-less
+    loop-again
+    returns-7)
