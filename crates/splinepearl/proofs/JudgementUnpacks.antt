@@ -1,0 +1,41 @@
+-- Unpacking a packed judgement gives its number and values: each fits its field.
+use Prim.Native.Nat.{_^_, _<_}
+use native.Mathlib.Omega.{arith}
+use Rattle.limits.specs.Limits.{maxNames, maxRecords}
+use Rattle.refusal.specs.declared.Refusal.{Refusal}
+use Rattle.refusal.specs.declared.Refusal.the-variants.{RequestTooLong, BadName, TooManyNames, BadIssuer, BookTooLong, BadRecord, TooManyRecords, NoRoom, BadLine, LineTooLong, BadData}
+use Rattle.refusal.specs.Refusal.{number}
+use Rattle.packed.proofs.Unpacking.{unpacks}
+use Rattle.rule.specs.declared.Judgement.{Judgement}
+use Rattle.rule.specs.declared.Judgement.the-variants.{Permitted, UnknownCritical, NotGranted, Refused}
+use Rattle.rule.specs.Calls.{Told, judge, judgementTold}
+use Rattle.splinepearl.specs.Answers.{valueOf, packedTold, packedJudgement}
+use Rattle.splinepearl.specs.Theorems.{Unpacked, Judgement-unpacks}
+use Rattle.splinepearl.proofs.NumberBounds.{Fits, judge-fits}
+
+told-unpacks : (t : Told) → t .number < 2 ^ 8 → valueOf t 0 < 2 ^ 24 → valueOf t 1 < 2 ^ 16 → Unpacked (packedTold t) t
+told-unpacks t n a b = let u = unpacks (t .number) (valueOf t 0) (valueOf t 1) 0 n a b (omega arith) in (u .0, u .1, u .2, u .3)
+
+number-small : (r : Refusal) → number r < 2 ^ 8
+unfolding number
+number-small RequestTooLong = omega arith
+number-small (BadName k) = omega arith
+number-small TooManyNames = omega arith
+number-small BadIssuer = omega arith
+number-small BookTooLong = omega arith
+number-small (BadRecord r) = omega arith
+number-small TooManyRecords = omega arith
+number-small (NoRoom n) = omega arith
+number-small BadLine = omega arith
+number-small LineTooLong = omega arith
+number-small BadData = omega arith
+
+fitting-unpacks : (j : Judgement) → Fits j → Unpacked (packedJudgement j) (judgementTold j)
+unfolding packedJudgement judgementTold maxNames maxRecords
+fitting-unpacks Permitted h = told-unpacks (judgementTold Permitted) (omega arith) (omega arith) (omega arith)
+fitting-unpacks (UnknownCritical d) h = told-unpacks (judgementTold (UnknownCritical d)) (omega arith) (omega arith) (omega arith)
+fitting-unpacks (NotGranted d) h = told-unpacks (judgementTold (NotGranted d)) (omega arith) (omega arith) (omega arith)
+fitting-unpacks (Refused r) h = told-unpacks (judgementTold (Refused r)) (number-small r) h (omega arith)
+
+pub judgement-unpacks : Judgement-unpacks
+judgement-unpacks request issuer book = fitting-unpacks (judge request issuer book) (judge-fits request issuer book)

@@ -1,0 +1,5 @@
+pub mod ItemRoom
+pub mod RefusalPlaces
+pub mod NumberBounds
+pub mod JudgementUnpacks
+pub mod PackedAnswers

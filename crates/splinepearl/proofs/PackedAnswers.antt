@@ -1,0 +1,27 @@
+-- Each case of a judgement, packed.
+use Prim.Native.Nat.{ℕ}
+use mathlib.Core.Path.{_≡_, refl}
+use Rattle.refusal.specs.declared.Refusal.{Refusal}
+use Rattle.packed.specs.Packed.{packed, packedRefusal}
+use Rattle.rule.specs.declared.Denial.{Denial}
+use Rattle.rule.specs.declared.Judgement.{Judgement}
+use Rattle.rule.specs.declared.Judgement.the-variants.{Permitted, UnknownCritical, NotGranted, Refused}
+use Rattle.rule.specs.Calls.{judgementTold}
+use Rattle.splinepearl.specs.Answers.{packedJudgement}
+
+module _ (x j : Judgement) (is : x ≡ j) where
+  pub permitted-packed : x ≡ Permitted → 0 ≡ packedJudgement j
+  unfolding packedJudgement judgementTold packed
+  permitted-packed e = rw (← is, e) refl
+
+  pub critical-packed : (r : ℕ) (d : Denial) → r ≡ packed 20 (d .name .0) (d .rr .0) 0 → x ≡ UnknownCritical d → r ≡ packedJudgement j
+  unfolding packedJudgement judgementTold
+  critical-packed r d p e = rw (← is, e) p
+
+  pub not-granted-packed : (r : ℕ) (d : Denial) → r ≡ packed 21 (d .name .0) (d .rr .0) 0 → x ≡ NotGranted d → r ≡ packedJudgement j
+  unfolding packedJudgement judgementTold
+  not-granted-packed r d p e = rw (← is, e) p
+
+  pub refused-packed : (r : ℕ) (q : Refusal) → r ≡ packedRefusal q → x ≡ Refused q → r ≡ packedJudgement j
+  unfolding packedJudgement judgementTold packedRefusal
+  refused-packed r q p e = rw (← is, e) p

@@ -1,0 +1,17 @@
+-- What the definitions of this crate mean. Each statement is proved under its name in proofs/.
+use Prim.Native.Nat.{ℕ}
+use mathlib.Core.Path.{_≡_}
+use mathlib.Core.List.{List}
+use Rattle.packed.specs.Packed.{numberIn, fieldA, fieldB, fieldC}
+use Rattle.rule.specs.Calls.{Told, judge, judgementTold}
+use Rattle.splinepearl.specs.Answers.{valueOf, packedJudgement}
+
+-- unpacking gives the number and the values, and nothing else
+abbrev pub Unpacked : ℕ → Told → Type 0
+Unpacked x t = (numberIn x ≡ t .number) × (fieldA x ≡ valueOf t 0) × (fieldB x ≡ valueOf t 1) × (fieldC x ≡ 0)
+
+-- for every input of the call
+abbrev pub Judgement-unpacks : Type 0
+Judgement-unpacks =
+    (request issuer book : List ℕ) →
+    Unpacked (packedJudgement (judge request issuer book)) (judgementTold (judge request issuer book))
