@@ -1,9 +1,18 @@
 #!/usr/bin/env bash
-# All tests: the second program on its stored cases, then the proofs, the must-fail edits and the programs.
+# All tests: the second program on its stored cases, the proved library held against it, then the proofs from nothing, the
+# must-fail edits and the programs.
 set -eu
 cd "$(dirname "$0")"
 
+second_program() {
+    SPLINEPEARL_LIBS="$PWD/target/staticlib" cargo run --quiet --offline --locked --release --manifest-path compare/Cargo.toml "$@"
+}
+
 cargo test --quiet --offline --locked --manifest-path compare/Cargo.toml
-cargo run --quiet --offline --locked --release --manifest-path compare/Cargo.toml -- cases
+second_program -- cases
+
+rt staticlib readers
+rt staticlib splinepearl
+second_program --features readers,judge -- library
 
 exec rt ci

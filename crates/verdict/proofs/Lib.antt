@@ -1,2 +1,3 @@
 pub mod NameWays
 pub mod NameWalk
+pub mod Exactly
