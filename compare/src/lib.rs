@@ -5,7 +5,8 @@
 //! may. Both take raw octets and check everything themselves.
 //!
 //! [`against`] compares the answers of another implementation with those of this one, reader by
-//! reader and call by call; [`library`] is the one it is made for.
+//! reader and call by call; [`library`] is the one it is made for. [`bench`] measures its judge next
+//! to ours.
 //!
 //! A record as a line (the presentation format, refusals 9 to 11) is not here yet. It belongs in a
 //! module `presentation`, over `book::Property`, with its refusals added to `answer`.
@@ -15,6 +16,7 @@
 
 pub mod against;
 pub mod answer;
+pub mod bench;
 pub mod book;
 pub mod cases;
 pub mod desk;

@@ -6,6 +6,7 @@ use std::path::Path;
 use std::process::ExitCode;
 
 use compare::against;
+use compare::bench;
 use compare::cases::{self, Case, Desk};
 use compare::desk::judge_folder;
 use compare::library;
@@ -17,7 +18,9 @@ usage: compare cases          run the stored cases
                               compare the proved library's answers with ours, on the
                               stored cases and on N random ones (20000) from seed S (1);
                               needs a build with --features readers, judge or list and
-                              SPLINEPEARL_LIBS set to the folder of the archives";
+                              SPLINEPEARL_LIBS set to the folder of the archives
+       compare bench          measure the proved library's judge next to ours; needs a
+                              build with --release --features judge and SPLINEPEARL_LIBS";
 
 fn main() -> ExitCode {
     let arguments: Vec<OsString> = env::args_os().skip(1).collect();
@@ -31,6 +34,7 @@ fn main() -> ExitCode {
             Some(run) => compare_library(run),
             None => wrong_use(USAGE),
         },
+        [command] if command == "bench" => run_bench(),
         _ => wrong_use(USAGE),
     }
 }
@@ -77,6 +81,32 @@ fn compare_library(run: Run) -> ExitCode {
         println!("{comparison}");
         comparison.is_good()
     })
+}
+
+fn run_bench() -> ExitCode {
+    let Some(theirs) = library::LINKED.judge else {
+        return wrong_use("compare: built without --features judge");
+    };
+    // Only ours would be slower, and the ratio worth nothing.
+    if cfg!(debug_assertions) {
+        return wrong_use("compare: bench needs a build with --release");
+    }
+    println!("{}", bench::heading());
+    let mut good = true;
+    for load in bench::loads() {
+        match bench::measure(&load, theirs) {
+            Ok(measured) => println!("{measured}"),
+            Err(difference) => {
+                good = false;
+                println!("differ: {difference}");
+            }
+        }
+    }
+    if good {
+        ExitCode::SUCCESS
+    } else {
+        ExitCode::FAILURE
+    }
 }
 
 fn with_stored_cases(succeeds: impl FnOnce(&[Case]) -> bool) -> ExitCode {

@@ -20,6 +20,7 @@ fn wrong_arguments_get_the_usage() {
         &["library", "--cases", "x"],
         &["library", "--seed", "-1"],
         &["library", "--frown", "1"],
+        &["bench", "1"],
     ] {
         let output = run(arguments);
         assert_eq!(output.status.code(), Some(2), "{arguments:?}");
@@ -40,4 +41,15 @@ fn without_a_library_there_is_nothing_to_compare() {
     let output = run(&["library", "--seed", "2", "--cases", "1"]);
     assert_eq!(output.status.code(), Some(2));
     assert!(output.stderr.starts_with(b"compare: built without"));
+}
+
+/// Never a run that measures: those take their time, and what they find is no matter of right or
+/// wrong.
+#[cfg(any(debug_assertions, not(feature = "judge")))]
+#[test]
+fn nothing_is_measured_without_a_library_or_in_a_slow_build() {
+    let output = run(&["bench"]);
+    assert_eq!(output.status.code(), Some(2));
+    assert!(output.stderr.starts_with(b"compare: b"));
+    assert!(output.stdout.is_empty());
 }

@@ -39,6 +39,11 @@ hyphen = code "-"
 unfoldable pub isBlank : ℕ → Bool
 isBlank x = eqb x (code " ") || eqb x (code "\t")
 
+-- a text without the blanks at its front
+abbrev pub trimStart : List ℕ → List ℕ
+trimStart [] = []
+trimStart (x ∷ s) = cond (isBlank x) (trimStart s) (x ∷ s)
+
 -- "A to Z counting as a to z", and no other octet as another one
 unfoldable pub lower : ℕ → ℕ
 lower x = cond (isUpper x) (x + 32) x

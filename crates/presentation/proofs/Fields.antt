@@ -6,25 +6,25 @@ use mathlib.Core.Bool.{Bool, true, false, cond}
 use mathlib.Core.List.{List, [], _∷_, _++_}
 use mathlib.Core.Option.{Option, none, some, Option·none-ne-some}
 use Rattle.octets.specs.Lists.{begins, all-nil, all-cons}
-use Rattle.octets.specs.Octets.{isBlank}
+use Rattle.octets.specs.Octets.{isBlank, trimStart}
 use Rattle.octets.proofs.ReaderLaws.{pure-some}
 use Rattle.octets.proofs.Runs.{Blank, Blankless, many-of, of-many}
-use Rattle.presentation.specs.Read.{withoutBlanks, extendField, field}
+use Rattle.presentation.specs.Read.{extendField, field}
 use Rattle.presentation.specs.Grammar.{someBlanks}
 
 -- rest is s without the blanks at its front
 abbrev Taken : List ℕ → List ℕ → Type 0
 Taken s rest = (b : List ℕ) × (s ≡ b ++ rest) × Blank b × (begins isBlank rest ≡ false)
 
-blanks-taken : (s : List ℕ) → Taken s (withoutBlanks s)
+blanks-taken : (s : List ℕ) → Taken s (trimStart s)
 blanks-taken [] = ([], refl, all-nil, refl)
 blanks-taken (x ∷ s) = go (isBlank x) refl (blanks-taken s)
   where
-    go : (t : Bool) → isBlank x ≡ t → Taken s (withoutBlanks s) → Taken (x ∷ s) (cond t (withoutBlanks s) (x ∷ s))
+    go : (t : Bool) → isBlank x ≡ t → Taken s (trimStart s) → Taken (x ∷ s) (cond t (trimStart s) (x ∷ s))
     go true e k = (x ∷ k .0, ap (_∷_ x) (k .1), all-cons e (k .2), k .3)
     go false e k = ([], refl, all-nil, e)
 
-blanks-off : {b : List ℕ} → Blank b → (s : List ℕ) → begins isBlank s ≡ false → withoutBlanks (b ++ s) ≡ s
+blanks-off : {b : List ℕ} → Blank b → (s : List ℕ) → begins isBlank s ≡ false → trimStart (b ++ s) ≡ s
 blanks-off all-nil [] n = refl
 blanks-off all-nil (x ∷ s) n = rw n
 blanks-off (all-cons h hs) s n = rw h (blanks-off hs s n)
@@ -46,15 +46,15 @@ field-read (x ∷ s) f rest h = go (isBlank x) refl h (field-read s)
     next none e h n more = absurd (Option·none-ne-some _ h)
     next (some r) e h n more = longer (r .0) (r .1) (pure-some (x ∷ r .0) f (r .1) rest .0 h) n (more (r .0) (r .1) e)
 
-    here : ([] ≡ f) × (withoutBlanks s ≡ rest) → isBlank x ≡ true → Apart (x ∷ s) f rest
+    here : ([] ≡ f) × (trimStart s ≡ rest) → isBlank x ≡ true → Apart (x ∷ s) f rest
     here e y =
         let (b, front, blank, n) = blanks-taken s in
         rw (← e .0, ← e .1) (x ∷ b, ap (_∷_ x) front, all-nil, (x ∷ [], b, refl, (x, refl, y), of-many blank), n)
 
     go :
-        (t : Bool) → isBlank x ≡ t → cond t (λ r. some ([], withoutBlanks s)) (extendField x) (field s) ≡ some (f, rest) →
+        (t : Bool) → isBlank x ≡ t → cond t (λ r. some ([], trimStart s)) (extendField x) (field s) ≡ some (f, rest) →
         ((f rest : List ℕ) → field s ≡ some (f, rest) → Apart s f rest) → Apart (x ∷ s) f rest
-    go true e h more = here (pure-some [] f (withoutBlanks s) rest .0 h) e
+    go true e h more = here (pure-some [] f (trimStart s) rest .0 h) e
     go false e h more = next (field s) refl h e more
 
 field-stand :

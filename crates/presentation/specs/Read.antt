@@ -8,7 +8,7 @@ use lib.Dec.{eqb, leb}
 use lib.ListN.{length}
 use Rattle.limits.specs.Limits.{maxTagOctets}
 use Rattle.octets.specs.Lists.{all, isEmpty, ends}
-use Rattle.octets.specs.Octets.{between, isDigit, isLetterOrDigit, isBlank}
+use Rattle.octets.specs.Octets.{between, isDigit, isLetterOrDigit, isBlank, trimStart}
 use Rattle.octets.specs.Reader.{Reader, pure, fault, given, _>>=_, octet}
 use Rattle.octets.specs.Items.{Items, whole, broken, over, items}
 use Rattle.octets.specs.Decimal.{decimalFrom, decimalOctet}
@@ -67,17 +67,13 @@ lineValue (x ∷ s) =
     cond (eqb x quote) (cond (ends (eqb quote) s) (unescaped isInQuotes (dropLast s)) none) (unescaped isBare (x ∷ s))
 
 -- a field up to the next blank, and the blanks behind it
-abbrev pub withoutBlanks : List ℕ → List ℕ
-withoutBlanks [] = []
-withoutBlanks (x ∷ s) = cond (isBlank x) (withoutBlanks s) (x ∷ s)
-
 abbrev pub extendField : ℕ → Option (List ℕ × List ℕ) → Option (List ℕ × List ℕ)
 extendField x none = none
 extendField x (some r) = some (x ∷ r .0, r .1)
 
 abbrev pub field : Reader (List ℕ)
 field [] = none
-field (x ∷ s) = cond (isBlank x) (λ r. some ([], withoutBlanks s)) (extendField x) (field s)
+field (x ∷ s) = cond (isBlank x) (λ r. some ([], trimStart s)) (extendField x) (field s)
 
 -- 1 to 255 letters and digits
 unfoldable pub isLineTag : List ℕ → Bool

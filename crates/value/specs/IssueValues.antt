@@ -6,6 +6,7 @@ use mathlib.Core.List.{List, [], _∷_}
 use lib.Dec.{eqb}
 use Rattle.octets.specs.Lists.{all, isEmpty}
 use Rattle.octets.specs.Octets.{between, isBlank, isLetterOrDigit}
+pub use Rattle.octets.specs.Octets.{trimStart}
 use Rattle.octets.specs.Label.{isLabel}
 use Rattle.octets.specs.Pieces.{split, join}
 
@@ -17,11 +18,7 @@ pub data IssueValue : Type 0 where
   -- it fits and holds this issuer domain name
   named : List ℕ → IssueValue
 
--- a text without the blanks at its front, at its end, at both
-abbrev pub trimStart : List ℕ → List ℕ
-trimStart [] = []
-trimStart (x ∷ s) = cond (isBlank x) (trimStart s) (x ∷ s)
-
+-- a text without the blanks at its end, and without those at both ends
 abbrev pub unlessLastBlank : ℕ → List ℕ → List ℕ
 unlessLastBlank x [] = cond (isBlank x) [] (x ∷ [])
 unlessLastBlank x (y ∷ s) = x ∷ y ∷ s
