@@ -150,7 +150,6 @@ fn time(load: &Load, judge: Judge) -> Duration {
     let start = Instant::now();
     let answer = black_box(judge)(request, issuer, book);
     let taken = start.elapsed();
-    // Whatever letting go of the answer takes is not the judge's time.
     let _ = black_box(answer);
     taken
 }

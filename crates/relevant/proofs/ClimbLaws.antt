@@ -39,7 +39,7 @@ module _ (s : List ℕ) (at u : ℕ) (up : u ≡ parentPlace s at) (other : u �
   pub closer : length s - u < length s - at
   closer = omega (arith, further)
 
--- from `at` on, the search takes no more steps than there are octets left
+-- from `at` on, with as many steps as there are octets left
 pub record Climbing (book s : List ℕ) (at : ℕ) : Type 0 where
   pub steps : ℕ
   pub enough : length s ≤ steps + at
@@ -59,12 +59,13 @@ module _ (book s : List ℕ) where
         go (suc steps) = rw (eq-eqb (parentPlace s at) at (sym up ∙ e))
 
     module _ (other : u ≡ at → ⊥) where
-      step : (steps : ℕ) × (length s ≤ steps + u) × (nearestPlace book s ≡ cond (isEmpty (setOf book (drop at s))) (nearestFrom steps book s u) (At at))
-      step = go (k .steps) (k .enough) (k .left)
+      abbrev Looked : Type 0
+      Looked = (steps : ℕ) × (length s ≤ steps + u) × (nearestPlace book s ≡ cond (isEmpty (setOf book (drop at s))) (nearestFrom steps book s u) (At at))
+
+      looked : Looked
+      looked = go (k .steps) (k .enough) (k .left)
         where
-          go :
-              (n : ℕ) → length s ≤ n + at → nearestPlace book s ≡ nearestFrom n book s at →
-              (steps : ℕ) × (length s ≤ steps + u) × (nearestPlace book s ≡ cond (isEmpty (setOf book (drop at s))) (nearestFrom steps book s u) (At at))
+          go : (n : ℕ) → length s ≤ n + at → nearestPlace book s ≡ nearestFrom n book s at → Looked
           go zero l e = absurd (omega (arith, further s at u up other))
           go (suc steps) l e =
               (steps, omega (arith, further s at u up other), e ∙ rw (ne-eqb (parentPlace s at) at (λ p. other (up ∙ p)), up))
@@ -75,12 +76,12 @@ module _ (book s : List ℕ) where
 
         pub none-owned : o ≡ End → Climbing book s u
         none-owned g =
-            let (steps, enough, left) = step in
+            let (steps, enough, left) = looked in
             let none = whole-set book (drop at s) ∙ walk-ends book (drop at s) _ o (rw rest at f) g in
             record { steps = steps; enough = enough; left = left ∙ rw none }
 
         pub some-owned : (c : SeenAt) → o ≡ Seen c → At at ≡ nearestPlace book s
         some-owned c g =
-            let (steps, enough, left) = step in
+            let (steps, enough, left) = looked in
             let (cr, seen) = seen-there book (drop at s) _ o (rw rest at f) c g in
             sym (left ∙ rw (whole-set book (drop at s), seen .left))

@@ -57,4 +57,6 @@ module _ (d v issuer : List ℕ) (o : ValueRead) (part : v ≡ valuePart d) (f :
     pub name-compared :
         (t : Bool) → not b ≡ false → t ≡ equalIgnoringCase (take (n .to - n .from) (drop (n .from) v)) issuer → t ≡ grantsTo d issuer
     unfolding equalIgnoringCase
-    name-compared t e h = rw (granted, read-named v o f n g _ refl, ← test, not-false b e) (h ∙ same-either-way (lowered (take (n .to - n .from) (drop (n .from) v))) (lowered issuer))
+    name-compared t e h =
+        rw (granted, read-named v o f n g _ refl, ← test, not-false b e)
+        (h ∙ same-either-way (lowered (take (n .to - n .from) (drop (n .from) v))) (lowered issuer))

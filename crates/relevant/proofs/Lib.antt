@@ -4,6 +4,7 @@ pub mod NextWays
 pub mod DataTests
 pub mod GrantTests
 pub mod SetWalk
+pub mod GrantWalk
 pub mod ClimbLaws
 pub mod AcceptedBook
 pub mod ByPlace

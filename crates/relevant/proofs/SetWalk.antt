@@ -1,21 +1,20 @@
--- The loops over an owner's records: an answer over the whole set is the answer over what is left.
+-- The loops over an owner's records: an answer over the whole set is the answer over what is left. The first record that passes a test.
 use Prim.Native.Nat.{ℕ, _-_}
-use mathlib.Core.Path.{_≡_, refl, sym, ap, _∙_}
-use mathlib.Core.Bool.{Bool, true, false, _||_}
+use mathlib.Core.Path.{_≡_, sym, ap, _∙_}
+use mathlib.Core.Bool.{Bool, true, false}
 use mathlib.Core.List.{List, [], _∷_}
-use mathlib.Core.Option.{Option, none, some}
+use mathlib.Core.Option.{some}
 use lib.ListN.{take, drop}
-use Rattle.octets.specs.Lists.{any, select}
-use Rattle.octets.specs.Octets.{same, lowered}
+use Rattle.octets.specs.Lists.{select}
 use Rattle.record.specs.Property.{property}
 use Rattle.rule.specs.RelevantSet.{CaaRecord}
-use Rattle.rule.specs.Authorizations.{isUnknownCritical, grantee, consSome, grantees}
+use Rattle.rule.specs.Authorizations.{isUnknownCritical}
 use Rattle.relevant.specs.declared.Walk.{Walk}
 use Rattle.relevant.specs.declared.Seen.{Seen as SeenAt}
 use Rattle.relevant.specs.declared.Step.{Step}
 use Rattle.relevant.specs.declared.Step.the-variants.{Seen, End}
 use Rattle.relevant.specs.declared.Found.the-variants.{At}
-use Rattle.relevant.specs.Walks.{setOf, nextOwned, firstNumber, hasTag, isCriticalData, tagOfData, isGrantee, grantsTo}
+use Rattle.relevant.specs.Walks.{setOf, nextOwned, firstNumber, hasTag, isCriticalData, tagOfData}
 use Rattle.relevant.proofs.WalkSteps.{remaining, whole-set}
 use Rattle.relevant.proofs.WalkLaws.{Sees, walk-ends, seen-there}
 
@@ -27,16 +26,12 @@ tells-critical : Tells isCriticalData isUnknownCritical
 unfolding isCriticalData isUnknownCritical
 tells-critical d c e = rw e
 
-tells-tag : (wild : Bool) → Tells (tagOfData wild) (hasTag wild)
+pub tells-tag : (wild : Bool) → Tells (tagOfData wild) (hasTag wild)
 unfolding tagOfData
 tells-tag wild d c e = rw e
 
-tells-grant : (issuer : List ℕ) → Tells (λ d. grantsTo d issuer) (λ c. isGrantee issuer (grantee c))
-unfolding grantsTo grantee
-tells-grant issuer d c e = rw e
-
 -- the data of the record that was seen
-abbrev dataOf : List ℕ → SeenAt → List ℕ
+abbrev pub dataOf : List ℕ → SeenAt → List ℕ
 dataOf book c = take (c .walk .at - c .rdata) (drop (c .rdata) book)
 
 module _ {A : Type 0} (answer : List CaaRecord → A) (p : CaaRecord → Bool) where
@@ -52,33 +47,35 @@ module _ {A : Type 0} (answer : List CaaRecord → A) (p : CaaRecord → Bool) w
   set-over book x w o left f g = sym (left ∙ rw (walk-ends book x w o f g))
 
   module _ (q : List ℕ → Bool) where
-    -- the next record does not pass, or does
-    abbrev pub Passed : Type 0
-    Passed =
+    -- what follows once the data of the next record is tested, with the result t
+    abbrev pub Tested : (List ℕ → List ℕ → Walk → SeenAt → Bool → Type 0) → Type 0
+    Tested Follows =
         (book x : List ℕ) (w : Walk) → Left book x w → (o : Step) → o ≡ nextOwned book x w → (c : SeenAt) → o ≡ Seen c →
-        (t : Bool) → t ≡ q (dataOf book c) → t ≡ false → Left book x (c .walk)
+        (t : Bool) → t ≡ q (dataOf book c) → Follows book x w c t
 
-    set-passed : Tells q p → Passed
+    abbrev pub Passed : Type 0
+    Passed = Tested (λ book x w c t. t ≡ false → Left book x (c .walk))
+
+    pub set-passed : Tells q p → Passed
     set-passed tells book x w left o f c g t test e =
         let (cr, s) = seen-there book x w o f c g in
         let fails : p cr ≡ false = sym (tells _ cr (s .holds)) ∙ sym test ∙ e in
         left ∙ rw (s .left, fails)
 
-    set-taken :
-        Tells q p → (book x : List ℕ) (w : Walk) → Left book x w → (o : Step) → o ≡ nextOwned book x w → (c : SeenAt) → o ≡ Seen c →
-        (t : Bool) → t ≡ q (dataOf book c) → t ≡ true →
-        (cr : CaaRecord) × Sees book x (remaining book x w) c cr × (answer (select p (setOf book x)) ≡ answer (cr ∷ select p (remaining book x (c .walk))))
+    pub set-taken :
+        Tells q p →
+        Tested (λ book x w c t. t ≡ true →
+        (cr : CaaRecord) × Sees book x (remaining book x w) c cr
+        × (answer (select p (setOf book x)) ≡ answer (cr ∷ select p (remaining book x (c .walk)))))
     set-taken tells book x w left o f c g t test e =
         let (cr, s) = seen-there book x w o f c g in
         let passes : p cr ≡ true = sym (tells _ cr (s .holds)) ∙ sym test ∙ e in
         (cr, s, left ∙ rw (s .left, passes))
 
--- the first record that passes
 module _ (p : CaaRecord → Bool) (q : List ℕ → Bool) where
+  -- the record that passes is the first
   abbrev pub First : Type 0
-  First =
-      (book x : List ℕ) (w : Walk) → Left firstNumber p book x w → (o : Step) → o ≡ nextOwned book x w → (c : SeenAt) → o ≡ Seen c →
-      (t : Bool) → t ≡ q (dataOf book c) → t ≡ true → At (c .rr) ≡ firstNumber (select p (setOf book x))
+  First = Tested firstNumber p q (λ book x w c t. t ≡ true → At (c .rr) ≡ firstNumber (select p (setOf book x)))
 
   set-first : Tells q p → First
   set-first tells book x w left o f c g t test e =
@@ -97,37 +94,3 @@ module _ (wild : Bool) where
 
   pub tag-first : First (hasTag wild) (tagOfData wild)
   tag-first = set-first (hasTag wild) (tagOfData wild) (tells-tag wild)
-
--- whether any of the records grants the issuer
-abbrev pub grantsAny : List ℕ → List CaaRecord → Bool
-grantsAny issuer cs = any (same (lowered issuer)) (grantees cs)
-
-one-more : (issuer : List ℕ) (o : Option (List ℕ)) (ns : List (List ℕ)) → any (same (lowered issuer)) (consSome o ns) ≡ isGrantee issuer o || any (same (lowered issuer)) ns
-one-more issuer none ns = refl
-one-more issuer (some n) ns = refl
-
-module _ (issuer : List ℕ) (wild : Bool) where
-  abbrev pub GrantsLeft : List ℕ → List ℕ → Walk → Type 0
-  GrantsLeft = Left (grantsAny issuer) (hasTag wild)
-
-  pub no-grant :
-      (book x : List ℕ) (w : Walk) (o : Step) → GrantsLeft book x w → o ≡ nextOwned book x w → o ≡ End →
-      false ≡ grantsAny issuer (select (hasTag wild) (setOf book x))
-  no-grant = set-over (grantsAny issuer) (hasTag wild)
-
-  pub untagged-passed : Passed (grantsAny issuer) (hasTag wild) (tagOfData wild)
-  untagged-passed = set-passed (grantsAny issuer) (hasTag wild) (tagOfData wild) (tells-tag wild)
-
-  module _ (book x : List ℕ) (w : Walk) (left : GrantsLeft book x w) (o : Step) (f : o ≡ nextOwned book x w) (c : SeenAt) (g : o ≡ Seen c) where
-    module _ (t b : Bool) (test : t ≡ tagOfData wild (dataOf book c)) (e : t ≡ true) (h : b ≡ grantsTo (dataOf book c) issuer) where
-      tested : grantsAny issuer (select (hasTag wild) (setOf book x)) ≡ b || grantsAny issuer (select (hasTag wild) (remaining book x (c .walk)))
-      tested =
-          let (cr, s, first) = set-taken (grantsAny issuer) (hasTag wild) (tagOfData wild) (tells-tag wild) book x w left o f c g t test e in
-          let told : isGrantee issuer (grantee cr) ≡ b = sym (tells-grant issuer _ cr (s .holds)) ∙ sym h in
-          first ∙ one-more issuer (grantee cr) _ ∙ rw told
-
-      pub grant-found : b ≡ true → true ≡ grantsAny issuer (select (hasTag wild) (setOf book x))
-      grant-found k = sym (tested ∙ rw k)
-
-      pub grantless-passed : b ≡ false → GrantsLeft book x (c .walk)
-      grantless-passed k = tested ∙ rw k

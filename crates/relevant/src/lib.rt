@@ -195,7 +195,8 @@ pub fn nearest(book: &[u8], name: &[u8]) -> Near
     loop {
         let at = c.at;
         let up = c.up(name);
-        if up.at == at {
+        let parent = up.at;
+        if parent == at {
             return Near::Nowhere;
         }
         let w = Walk { at: 0, number: 0 };

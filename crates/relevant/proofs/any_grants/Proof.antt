@@ -3,7 +3,8 @@ use lib.ListN.{length}
 use borrow.Author.Needs.{needs}
 use Rattle.relevant.proofs.WalkSteps.{remaining}
 use Rattle.relevant.proofs.WalkLaws.{seen-order, seen-inside, fewer-left}
-use Rattle.relevant.proofs.SetWalk.{GrantsLeft, set-start, no-grant, untagged-passed, grant-found, grantless-passed}
+use Rattle.relevant.proofs.SetWalk.{set-start}
+use Rattle.relevant.proofs.GrantWalk.{GrantsLeft, no-grant, untagged-passed, grant-found, grantless-passed}
 use Rattle.relevant.proofs.any_grants.Statement.{statement}
 use Rattle.relevant.proofs.any_grants.Tie as tie
 
