@@ -13,7 +13,7 @@ use Rattle.octets.proofs.ListLaws.{all-true}
 use Rattle.octets.proofs.Labels.{label-parts, begins-without, ends-without, hyphen-is-neither}
 
 -- the last element passes where the one at the last place does
-ends-at : {A : Type 0} (p : A → Bool) (d x : A) (xs : List A) → ends p (x ∷ xs) ≡ p (getD (x ∷ xs) (length xs) d)
+pub ends-at : {A : Type 0} (p : A → Bool) (d x : A) (xs : List A) → ends p (x ∷ xs) ≡ p (getD (x ∷ xs) (length xs) d)
 ends-at p d x [] = refl
 ends-at p d x (y ∷ xs) = ends-at p d y xs
 

@@ -26,7 +26,7 @@ unit-full (numbered a b c) = cons≢nil
 
 module _ (class : ℕ → Bool) where
   -- the good unit u stands at the front of s, and rest follows
-  abbrev Stands : List ℕ → Unit → List ℕ → Type 0
+  abbrev pub Stands : List ℕ → Unit → List ℕ → Type 0
   Stands s u rest = (s ≡ wireUnit u ++ rest) × GoodUnit class u
 
   module _ (u : Unit) (rest : List ℕ) where
@@ -63,7 +63,7 @@ module _ (class : ℕ → Bool) where
   unit-stand (quoted x) rest g = rw (g .2, le-leb 32 x (g .0), le-leb x 126 (g .1))
   unit-stand (numbered a b c) rest g = rw (g .0, g .1, g .2, le-leb (decimalFrom 0 (a ∷ b ∷ c ∷ [])) 255 (g .3))
 
-  unit-reads : (s : List ℕ) (u : Unit) (rest : List ℕ) → (unit class s ≡ some (u, rest)) ↔ Stands s u rest
+  pub unit-reads : (s : List ℕ) (u : Unit) (rest : List ℕ) → (unit class s ≡ some (u, rest)) ↔ Stands s u rest
   unit-reads s u rest = (unit-read u rest s, λ h. rw (h .0) (unit-stand u rest (h .1)))
 
   values-some : (i : Items Unit) (v : List ℕ) → values i ≡ some v → (us : List Unit) × (i ≡ whole us) × (map valueOf us ≡ v)
