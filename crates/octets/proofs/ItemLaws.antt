@@ -28,6 +28,34 @@ module _ {A : Type 0} (read : Reader A) where
   items-step room [] n = absurd (n refl)
   items-step room (x ∷ s) n = refl
 
+-- items that are whole, where any octet is left: one is read, and whole items follow
+module _ {A : Type 0} (read : Reader A) where
+  pub record OneMore (room : ℕ) (s : List ℕ) (xs : List A) : Type 0 where
+    pub fewer : ℕ
+    pub item : A
+    pub rest : List ℕ
+    pub others : List A
+    pub room-left : room ≡ suc fewer
+    pub found : read s ≡ some (item, rest)
+    pub follows : items read fewer rest ≡ whole others
+    pub split : xs ≡ item ∷ others
+
+  pub one-more : (room : ℕ) (s : List ℕ) (xs : List A) → s ≢ [] → items read room s ≡ whole xs → OneMore room s xs
+  one-more zero [] xs n e = absurd (n refl)
+  one-more zero (x ∷ s) xs n e = let z : _≡_ {A = ℕ} 0 1 = cc in absurd (omega arith)
+  one-more (suc room) [] xs n e = absurd (n refl)
+  one-more (suc room) (x ∷ s) xs n e = go (read (x ∷ s)) refl e
+    where
+      more : (a : A) (rest : List ℕ) → read (x ∷ s) ≡ some (a, rest) → (i : Items A) → items read room rest ≡ i → follow a i ≡ whole xs → OneMore (suc room) (x ∷ s) xs
+      more a rest h (whole ys) f e =
+          record { fewer = room; item = a; rest = rest; others = ys; room-left = refl; found = h; follows = f; split = cc }
+      more a rest h (broken k) f e = let z : _≡_ {A = ℕ} 0 1 = cc in absurd (omega arith)
+      more a rest h over f e = let z : _≡_ {A = ℕ} 0 1 = cc in absurd (omega arith)
+
+      go : (r : Option (A × List ℕ)) → read (x ∷ s) ≡ r → before r (λ t. items read room t) ≡ whole xs → OneMore (suc room) (x ∷ s) xs
+      go none h e = let z : _≡_ {A = ℕ} 0 1 = cc in absurd (omega arith)
+      go (some r) h e = more (r .0) (r .1) h (items read room (r .1)) refl e
+
 module _ {A : Type 0} where
   follow-whole : (xs : List A) → foldr follow (whole []) xs ≡ whole xs
   follow-whole [] = refl

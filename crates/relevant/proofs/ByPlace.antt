@@ -16,8 +16,11 @@ use Rattle.name.specs.Theorems.{GoodName}
 use Rattle.name.proofs.NameLaws.{fewer-labels}
 use Rattle.name.proofs.Parents.{root-stays, behind-label, label-passed}
 use Rattle.name.proofs.WholeNames.{whole-names}
+use Rattle.request.specs.Request.{isWildcard, base}
+use Rattle.request.proofs.RequestPlaces.{good-base}
 use Rattle.record.specs.Records.{records, bookRefusal}
 use Rattle.rule.specs.RelevantSet.{CaaRecord, caaRecords, Lookup, asLookup, lookup, firstFound, relevantSet}
+use Rattle.rule.specs.Authorizations.{decided, authorization}
 use Rattle.relevant.specs.declared.Near.{Near}
 use Rattle.relevant.specs.declared.Near.the-variants.{At}
 use Rattle.relevant.specs.Walks.{readable, owned, setOf, nearestFrom, nearestPlace, foundAt, relevantAt}
@@ -41,7 +44,7 @@ module _ (book s : List ℕ) (at : ℕ) where
   first-place [] e after n h = h
   first-place (c ∷ cs) e after n h = rw e
 
-abbrev caasIn : List ℕ → List CaaRecord
+abbrev pub caasIn : List ℕ → List CaaRecord
 caasIn book = caaRecords (records book)
 
 module _ (book : List ℕ) (accepted : bookRefusal book ≡ none) where
@@ -67,3 +70,9 @@ module _ (book : List ℕ) (accepted : bookRefusal book ≡ none) where
 pub relevant-set-by-place : Relevant-set-by-place
 unfolding nearestPlace relevantAt
 relevant-set-by-place book x accepted good = climb book accepted (wire x) (length (wire x)) 0 x refl good (fewer-labels x)
+
+pub authorization-by-place :
+    (book : List ℕ) → bookRefusal book ≡ none → (n : Name) → GoodName n →
+    authorization (caasIn book) n ≡ decided (isWildcard n) (relevantAt book (wire (base n)))
+unfolding authorization
+authorization-by-place book e n good = rw (relevant-set-by-place book (base n) e (good-base n good))

@@ -5,3 +5,4 @@ pub mod HostNames
 pub mod RequestPlaces
 pub mod BasePlaces
 pub mod RequestWalk
+pub mod AcceptedNames

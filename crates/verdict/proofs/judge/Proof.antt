@@ -4,12 +4,12 @@ use lib.ListN.{length}
 use borrow.Author.Needs.{needs}
 use Rattle.limits.specs.Limits.{maxNames}
 use Rattle.request.proofs.RequestPlaces.{next-inside, left-less}
-use Rattle.verdict.proofs.NameWalk.{NamesLeft, request-refused, issuer-refused, book-refused, names-start, no-bad-name, base-first, name-critical, name-ungranted, few, name-passed, all-passed}
+use Rattle.verdict.proofs.NameWalk.{Judged, request-refused, issuer-refused, book-refused, names-start, no-bad-name, base-first, name-critical, name-ungranted, few, name-passed, all-passed}
 use Rattle.verdict.proofs.judge.Statement.{statement}
 use Rattle.verdict.proofs.judge.Tie as tie
 
 abbrev Inv-loop : tie.InvT-loop
-Inv-loop request issuer book at₀ k₀ at k = NamesLeft request issuer book at k
+Inv-loop request issuer book at₀ k₀ at k = Judged request issuer book at k
 
 abbrev μ-loop : tie.MeasureT-loop
 μ-loop request issuer book at₀ k₀ at k = length request - at
