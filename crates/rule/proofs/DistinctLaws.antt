@@ -13,7 +13,7 @@ use Rattle.octets.proofs.Texts.{same-equal}
 use Rattle.rule.specs.IssuerLists.{distinct}
 use Rattle.rule.proofs.OrderLaws.{firstBefore, firstBefore-selects}
 
-abbrev isOther : List ℕ → List ℕ → Bool
+abbrev pub isOther : List ℕ → List ℕ → Bool
 isOther n m = not (same m n)
 
 -- what `distinct` keeps behind n

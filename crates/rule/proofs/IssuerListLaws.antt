@@ -19,10 +19,10 @@ use Rattle.rule.proofs.AuthorizationLaws.{any-same}
 use Rattle.rule.proofs.OrderLaws.{firstBefore, firstBefore-selects, before-exactly}
 use Rattle.rule.proofs.DistinctLaws.{any-distinct, firstBefore-distinct, distinct-all, distinct-distinct}
 
-listed≢anyone : {ns : List (List ℕ)} → listed ns ≡ anyone → ⊥
+pub listed≢anyone : {ns : List (List ℕ)} → listed ns ≡ anyone → ⊥
 listed≢anyone e = let z : _≡_ {A = ℕ} 0 1 = cc in omega arith
 
-one-list : {ms ns : List (List ℕ)} → listed ms ≡ listed ns → ms ≡ ns
+pub one-list : {ms ns : List (List ℕ)} → listed ms ≡ listed ns → ms ≡ ns
 one-list e = cc
 
 pub issuers-anyone : (says : List Authorization) → (issuers says ≡ anyone) ↔ All (λ a. a ≡ unrestricted) says
@@ -38,10 +38,11 @@ pub issuers-past : (front says : List Authorization) → All (λ a. a ≡ unrest
 issuers-past [] says h = refl
 issuers-past (a ∷ front) says (all-cons e h) = rw e (issuers-past front says h)
 
--- of those granted, the ones whom the other authorizations permit too
-permitted-of : (says : List Authorization) (ms : List (List ℕ)) →
-    Selects (λ n. all (permits n) says ≡ true) (distinct ms) (select (λ n. all (permits n) says) (distinct ms))
-permitted-of says ms = selected (λ n. all (permits n) says) (λ n. Iff·rfl) (distinct ms)
+-- those listed are the ones granted, each once, whom the other authorizations permit too
+issuers-selected :
+    (r : ℕ) (ms : List (List ℕ)) (says : List Authorization) (ns : List (List ℕ)) → issuers (granted r ms ∷ says) ≡ listed ns →
+    Selects (λ n. all (permits n) says ≡ true) (distinct ms) ns
+issuers-selected r ms says ns e = rw (← one-list e) (selected (λ n. all (permits n) says) (λ n. Iff·rfl) (distinct ms))
 
 module _ (P : List ℕ → Type 0) where
   -- all that this authorization grants to have P
@@ -52,13 +53,13 @@ module _ (P : List ℕ → Type 0) where
   issuers-all [] ns h e = absurd (listed≢anyone (sym e))
   issuers-all (unrestricted ∷ says) ns h e = issuers-all says ns (All-tail h) e
   issuers-all (forbidden r ∷ says) ns h e = rw (← one-list e) all-nil
-  issuers-all (granted r ms ∷ says) ns h e = rw (← one-list e) (selects-all (permitted-of says ms) (distinct-all (All-head h r ms refl)))
+  issuers-all (granted r ms ∷ says) ns h e = selects-all (issuers-selected r ms says ns e) (distinct-all (All-head h r ms refl))
 
 pub issuers-distinct : (says : List Authorization) (ns : List (List ℕ)) → issuers says ≡ listed ns → Distinct ns
 issuers-distinct [] ns e = absurd (listed≢anyone (sym e))
 issuers-distinct (unrestricted ∷ says) ns e = issuers-distinct says ns e
 issuers-distinct (forbidden r ∷ says) ns e = rw (← one-list e) distinct-nil
-issuers-distinct (granted r ms ∷ says) ns e = rw (← one-list e) (selects-distinct (permitted-of says ms) (distinct-distinct ms))
+issuers-distinct (granted r ms ∷ says) ns e = selects-distinct (issuers-selected r ms says ns e) (distinct-distinct ms)
 
 -- letter case does not matter
 permits-lowered : (d : List ℕ) (a : Authorization) → permits (lowered d) a ≡ permits d a
@@ -88,16 +89,19 @@ issuers-permitted d (granted r ms ∷ says) = (λ e. inr (those, refl, standing 
     those : List (List ℕ)
     those = select (λ n. all (permits n) says) (distinct ms)
 
+    chosen : Selects (λ n. all (permits n) says ≡ true) (distinct ms) those
+    chosen = issuers-selected r ms says those refl
+
     both : (any (same (lowered d)) ms && all (permits d) says ≡ true) ↔ ((any (same (lowered d)) ms ≡ true) × (all (permits d) says ≡ true))
     both = and-eq-true-iff (any (same (lowered d)) ms) (all (permits d) says)
 
     -- whether the others granted are permitted does not matter
     looked-up : all (permits (lowered d)) says ≡ true → any (same (lowered d)) those ≡ any (same (lowered d)) ms
-    looked-up h = any-selects (same (lowered d)) (same-permitted says (lowered d) h) (permitted-of says ms) ∙ any-distinct (same (lowered d)) ms
+    looked-up h = any-selects (same (lowered d)) (same-permitted says (lowered d) h) chosen ∙ any-distinct (same (lowered d)) ms
 
     standing : List·Memᴰ (lowered d) those ↔ ((any (same (lowered d)) ms ≡ true) × (all (permits d) says ≡ true))
     standing = (
-      λ m. let h = All-member (selects-have (permitted-of says ms)) m in
+      λ m. let h = All-member (selects-have chosen) m in
           (sym (looked-up h) ∙ any-same (lowered d) those .1 m, sym (all-permit-lowered d says) ∙ h),
       λ k. any-same (lowered d) those .0 (looked-up (all-permit-lowered d says ∙ k .1) ∙ k .0),
     )
@@ -113,7 +117,7 @@ pub issuers-order :
 issuers-order r ms says ns e a b m l = rw (← kept) (before-exactly a b ns (issuers-distinct (granted r ms ∷ says) ns e))
   where
     those : Selects (λ n. all (permits n) says ≡ true) (distinct ms) ns
-    those = rw (← one-list e) (permitted-of says ms)
+    those = issuers-selected r ms says ns e
 
     kept : firstBefore (same a) (same b) ns ≡ firstBefore (same a) (same b) ms
     kept =

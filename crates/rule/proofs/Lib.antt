@@ -7,9 +7,12 @@ pub mod VerdictLaws
 pub mod OrderLaws
 pub mod DistinctLaws
 pub mod IssuerListLaws
+pub mod Narrowing
 pub mod GranteeLaws
 pub mod PermittedLaws
 pub mod CheckOrder
 pub mod RefusalLaws
 pub mod BufferLaws
 pub mod Room
+pub mod ReadBackLaws
+pub mod CallLaws

@@ -5,6 +5,7 @@ use mathlib.Core.List.{List, [], _∷_, map}
 use lib.ListN.{length}
 use Rattle.octets.specs.Lists.{all, select, concat}
 use Rattle.octets.specs.Octets.{same}
+use Rattle.octets.specs.Reader.{Reader, _>>=_, octet, octets}
 use Rattle.rule.specs.Authorizations.{Authorization, unrestricted, forbidden, granted, permits}
 
 pub data Issuers : Type 0 where
@@ -29,3 +30,9 @@ entry n = length n ∷ n
 
 abbrev pub entries : List (List ℕ) → List ℕ
 entries ns = concat (map entry ns)
+
+-- how a caller reads an entry: the length octet, and then as many octets
+unfoldable pub readEntry : Reader (List ℕ)
+readEntry = do
+  n ← octet
+  octets n

@@ -4,12 +4,13 @@ use mathlib.Core.Path.{_≡_}
 use mathlib.Core.Logic.{_↔_, _≢_, _⊎_}
 use mathlib.Core.List.{List, [], _∷_, _++_, map, List·Memᴰ}
 use mathlib.Core.Option.{none, some}
-use lib.ListN.{length, drop}
+use lib.ListN.{length, take, drop}
 use Rattle.refusal.specs.declared.Refusal.{Refusal}
 use Rattle.refusal.specs.declared.Refusal.the-variants.{RequestTooLong, BadName, TooManyNames, BadIssuer, BookTooLong, BadRecord, TooManyRecords, NoRoom, BadLine, LineTooLong, BadData}
 use Rattle.refusal.specs.Refusal.{number, place}
 use Rattle.octets.specs.Lists.{All, Distinct, Selects}
 use Rattle.octets.specs.Octets.{Octets, lowered}
+use Rattle.octets.specs.Items.{whole, items}
 use Rattle.name.specs.Names.{Name}
 use Rattle.request.specs.Request.{requestedNames, requestRefusal}
 use Rattle.request.specs.Theorems.{Row-1, Row-2, Row-3}
@@ -23,8 +24,8 @@ use Rattle.rule.specs.declared.PermittedIssuers.the-variants.{Anyone, Li
 use Rattle.rule.specs.RelevantSet.{CaaRecord, Lookup, empty, found, caaRecords, lookup, relevantSet}
 use Rattle.rule.specs.Authorizations.{Authorization, unrestricted, forbidden, granted, authorization}
 use Rattle.rule.specs.Verdicts.{denial, verdict}
-use Rattle.rule.specs.IssuerLists.{Issuers, anyone, listed, issuers, entries}
-use Rattle.rule.specs.Calls.{authorizations, judge, listIssuers, judgementTold, permittedIssuersTold}
+use Rattle.rule.specs.IssuerLists.{Issuers, anyone, listed, issuers, entries, readEntry}
+use Rattle.rule.specs.Calls.{authorizations, judge, Listing, listIssuers, judgementTold, permittedIssuersTold}
 use Rattle.rule.specs.Meaning.{CaaRecordsOf, OwnedBy, NearestAt, Unrestricted, PermittedTo, ForbiddenBy, GovernedFrom, GoverningRecords, LowestNot, Before, GrantedBefore}
 
 -- the CAA records are those of type 257 and class 1, numbered from 0 over all records
@@ -142,6 +143,61 @@ abbrev pub Room-of-the-book : Type 0
 Room-of-the-book =
     (request book : List ℕ) → Octets book → bookRefusal book ≡ none → (ns : List (List ℕ)) →
     issuers (authorizations request book) ≡ listed ns → total ns ≤ length book
+
+-- the names of a list are read back from its octets
+abbrev pub Entries-read-back : Type 0
+Entries-read-back = (ns : List (List ℕ)) → items readEntry (length ns) (entries ns) ≡ whole ns
+
+-- the front of the buffer, so many octets, is so many entries and nothing else: those of ns
+abbrev pub ReadsBack : ℕ → ℕ → List ℕ → List (List ℕ) → Type 0
+ReadsBack count octets buffer ns =
+    (octets ≤ length buffer) × (length ns ≡ count) × (items readEntry count (take octets buffer) ≡ whole ns)
+
+-- the answer is a list, and ns are the names that a caller reads from the buffer
+abbrev pub ListsNames : Listing → List (List ℕ) → Type 0
+ListsNames l ns = (count octets : ℕ) × (l .answer ≡ Listed count octets) × ReadsBack count octets (l .buffer) ns
+
+-- Demand 3, of the call itself: what a caller learns from the answer and the buffer's octets, the buffer having been lent as given.
+pub record ListingTells (request book buffer : List ℕ) (l : Listing) : Type 0 where
+  pub anyone-exactly : (l .answer ≡ Anyone) ↔ All (Unrestricted (caaRecords (records book))) (requestedNames request)
+  pub permitted-exactly : (d : List ℕ) → WellFormed d →
+      (judge request d book ≡ Permitted) ↔ ((l .answer ≡ Anyone) ⊎ ((ns : List (List ℕ)) × ListsNames l ns × List·Memᴰ (lowered d) ns))
+  pub never-refused : (r : Refusal) → l .answer ≢ ListRefused r
+  -- whatever count and octets are told, that list is there to be read
+  pub readable : (count octets : ℕ) → l .answer ≡ Listed count octets → (ns : List (List ℕ)) × ReadsBack count octets (l .buffer) ns
+  pub counted : (ns : List (List ℕ)) → ListsNames l ns → l .answer ≡ Listed (length ns) (total ns)
+  pub well-formed : (ns : List (List ℕ)) → ListsNames l ns → All (λ n. WellFormed n × (lowered n ≡ n)) ns
+  pub none-twice : (ns : List (List ℕ)) → ListsNames l ns → Distinct ns
+  -- the order is that of the records that govern the restricted name with the lowest number
+  pub in-order : (ns : List (List ℕ)) → ListsNames l ns → (k : ℕ) (n : Name) (gs : List CaaRecord) →
+      LowestNot (Unrestricted (caaRecords (records book))) (requestedNames request) k n →
+      GoverningRecords (caaRecords (records book)) n gs → (a b : List ℕ) → List·Memᴰ a ns → List·Memᴰ b ns →
+      Before a b ns ↔ GrantedBefore gs a b
+  pub length-stays : length (l .buffer) ≡ length buffer
+  pub rest-stays : (count octets : ℕ) → l .answer ≡ Listed count octets → drop octets (l .buffer) ≡ drop octets buffer
+  pub nothing-written : l .answer ≡ Anyone → l .buffer ≡ buffer
+
+-- in every buffer with room, whatever it held
+abbrev pub Call-lists-the-permitted : Type 0
+Call-lists-the-permitted =
+    (request book buffer : List ℕ) → requestRefusal request ≡ none → bookRefusal book ≡ none →
+    ((n : ℕ) → listIssuers request book buffer .answer ≢ ListRefused (NoRoom n)) →
+    ListingTells request book buffer (listIssuers request book buffer)
+
+-- a buffer as long as the book is room enough
+abbrev pub Book-length-is-room : Type 0
+Book-length-is-room =
+    (request book buffer : List ℕ) → Octets book → requestRefusal request ≡ none → bookRefusal book ≡ none →
+    length book ≤ length buffer → (r : Refusal) → listIssuers request book buffer .answer ≢ ListRefused r
+
+-- Room is enough when the buffer has the octets of the list, whatever buffer these were told for; anyone needs none.
+abbrev pub Room-needed : Type 0
+Room-needed =
+    (request book buffer other : List ℕ) → requestRefusal request ≡ none → bookRefusal book ≡ none →
+    (listIssuers request book other .answer ≡ Anyone → listIssuers request book buffer .answer ≡ Anyone)
+    × ((count octets : ℕ) → listIssuers request book other .answer ≡ Listed count octets →
+    (octets ≤ length buffer → listIssuers request book buffer .answer ≡ Listed count octets)
+    × (length buffer < octets → listIssuers request book buffer ≡ record { answer = ListRefused (NoRoom octets); buffer = buffer }))
 
 -- the numbers of the answers: 0; 20 and 21 with a name's and a record's number; a refusal's own
 abbrev pub Answers-told : Type 0
