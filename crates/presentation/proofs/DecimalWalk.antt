@@ -4,7 +4,7 @@ use native.Mathlib.Omega.{arith}
 use mathlib.Core.Path.{_≡_, refl, sym, _∙_}
 use mathlib.Core.Bool.{Bool, true, false, cond, _&&_, and-false, and-eq-true-iff}
 use mathlib.Core.List.{List, [], _∷_}
-use mathlib.Core.Option.{none, some}
+use mathlib.Core.Option.{Option, none, some}
 use lib.Dec.{leb}
 use lib.ListN.{length, getD, drop, drop-of-length-le}
 use mir.Syntax.{w64}
@@ -72,3 +72,21 @@ module _ (s : List ℕ) where
       number-over m e grown over =
           let rest = drop (i + 1) s in
           sym (digits-turn m (i + 1) e grown refl ∙ rw (lt-leb (decimalFrom m rest) 255 (omega (arith, grows m rest)), and-false))
+
+-- what decimal_octet has told
+module _ (t : List ℕ) (o : OctetRead) (told : o ≡ decimalIn t) where
+  pub octet-there : (n : ℕ) → o ≡ Good n → decimalOctet t ≡ some n
+  unfolding decimalIn
+  octet-there n g = go (decimalOctet t) (sym told ∙ g)
+    where
+      go : (q : Option ℕ) → octetRead q ≡ Good n → q ≡ some n
+      go none k = let z : _≡_ {A = ℕ} 0 1 = cc in absurd (omega arith)
+      go (some m) k = cc
+
+  pub octet-missing : o ≡ Fault → decimalOctet t ≡ none
+  unfolding decimalIn
+  octet-missing g = go (decimalOctet t) (sym told ∙ g)
+    where
+      go : (q : Option ℕ) → octetRead q ≡ Fault → q ≡ none
+      go none k = refl
+      go (some m) k = let z : _≡_ {A = ℕ} 0 1 = cc in absurd (omega arith)

@@ -13,10 +13,10 @@ use Rattle.splinepearl.specs.Answers.{valueOf, packedTold, packedJudgeme
 use Rattle.splinepearl.specs.Theorems.{Unpacked, Judgement-unpacks}
 use Rattle.splinepearl.proofs.NumberBounds.{Fits, judge-fits}
 
-told-unpacks : (t : Told) → t .number < 2 ^ 8 → valueOf t 0 < 2 ^ 24 → valueOf t 1 < 2 ^ 16 → Unpacked (packedTold t) t
+pub told-unpacks : (t : Told) → t .number < 2 ^ 8 → valueOf t 0 < 2 ^ 24 → valueOf t 1 < 2 ^ 16 → Unpacked (packedTold t) t
 told-unpacks t n a b = let u = unpacks (t .number) (valueOf t 0) (valueOf t 1) 0 n a b (omega arith) in (u .0, u .1, u .2, u .3)
 
-number-small : (r : Refusal) → number r < 2 ^ 8
+pub number-small : (r : Refusal) → number r < 2 ^ 8
 unfolding number
 number-small RequestTooLong = omega arith
 number-small (BadName k) = omega arith

@@ -3,3 +3,4 @@ pub mod RefusalPlaces
 pub mod NumberBounds
 pub mod JudgementUnpacks
 pub mod PackedAnswers
+pub mod LineAnswers

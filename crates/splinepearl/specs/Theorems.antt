@@ -3,8 +3,10 @@ use Prim.Native.Nat.{ℕ}
 use mathlib.Core.Path.{_≡_}
 use mathlib.Core.List.{List}
 use Rattle.packed.specs.Packed.{numberIn, fieldA, fieldB, fieldC}
+use Rattle.presentation.specs.Calls.{writeLine, parseLine}
 use Rattle.rule.specs.Calls.{Told, judge, judgementTold}
 use Rattle.splinepearl.specs.Answers.{valueOf, packedJudgement}
+use Rattle.splinepearl.specs.LineAnswers.{madeTold, packedMade}
 
 -- unpacking gives the number and the values, and nothing else
 abbrev pub Unpacked : ℕ → Told → Type 0
@@ -15,3 +17,10 @@ abbrev pub Judgement-unpacks : Type 0
 Judgement-unpacks =
     (request issuer book : List ℕ) →
     Unpacked (packedJudgement (judge request issuer book)) (judgementTold (judge request issuer book))
+
+-- and of the two calls on lines, whose answers are lengths or refusals
+abbrev pub Written-line-unpacks : Type 0
+Written-line-unpacks = (d buffer : List ℕ) → Unpacked (packedMade (writeLine d buffer .answer)) (madeTold (writeLine d buffer .answer))
+
+abbrev pub Read-line-unpacks : Type 0
+Read-line-unpacks = (s buffer : List ℕ) → Unpacked (packedMade (parseLine s buffer .answer)) (madeTold (parseLine s buffer .answer))

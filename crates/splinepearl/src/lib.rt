@@ -1,8 +1,11 @@
 // The calls for C and Rust. Each answers one number of 64 bits: the answer's number in bits 0 to 7, and fields behind it.
+use presentation::Made;
 use rule::Judgement;
 ghost use mathlib.Core.Path.{_≡_};
+ghost use Rattle.presentation.specs.Calls.{writeLine, parseLine};
 ghost use Rattle.rule.specs.Calls.{judge};
 ghost use Rattle.splinepearl.specs.Answers.{packedJudgement};
+ghost use Rattle.splinepearl.specs.LineAnswers.{packedMade};
 
 // May this issuer sign? 0 permitted; 20 and 21 with the name's number in a and the record's in b; a refusal with its place in a.
 #[no_mangle]
@@ -23,4 +26,32 @@ pub extern "C" fn caa_judge(request: &[u8], issuer: &[u8], book: &[u8]) -> u64
         }
         Judgement::Refused(r) => packed::pack_refusal(r),
     }
+}
+
+// What was made: 0 with its length in a, or a refusal with its place in a.
+fn pack_made(m: Made) -> u64
+    ensures { λ r. ⌜ r ≡ packedMade m ⌝ }
+{
+    match m {
+        Made::Length(n) => packed::pack(0, n as u64, 0, 0),
+        Made::Refused(r) => packed::pack_refusal(r),
+    }
+}
+
+// CAA data to its line, at the front of the lent buffer.
+#[no_mangle]
+pub extern "C" fn caa_write_line(d: &[u8], buffer: &mut [u8]) -> u64
+    ensures answer { λ r. ⌜ r ≡ packedMade (writeLine (now (d .entry)) (now (buffer .entry)) .answer) ⌝ }
+    ensures octets { λ r. ⌜ now (buffer .exit) ≡ writeLine (now (d .entry)) (now (buffer .entry)) .buffer ⌝ }
+{
+    pack_made(line_writer::write_line(d, buffer))
+}
+
+// A line to its CAA data, at the front of the lent buffer.
+#[no_mangle]
+pub extern "C" fn caa_read_line(line: &[u8], buffer: &mut [u8]) -> u64
+    ensures answer { λ r. ⌜ r ≡ packedMade (parseLine (now (line .entry)) (now (buffer .entry)) .answer) ⌝ }
+    ensures octets { λ r. ⌜ now (buffer .exit) ≡ parseLine (now (line .entry)) (now (buffer .entry)) .buffer ⌝ }
+{
+    pack_made(line_reader::read_line(line, buffer))
 }

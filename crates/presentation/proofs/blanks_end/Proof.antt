@@ -10,8 +10,6 @@ use Rattle.presentation.proofs.RunEnds.{blank-is, run-turn, run-stop, r
 use Rattle.presentation.proofs.blanks_end.Statement.{statement}
 use Rattle.presentation.proofs.blanks_end.Tie as tie
 
--- `blanks_end` meets its contract. The loop's invariant: the blanks end where what is left of them ends.
-
 abbrev Inv-loop : tie.InvT-loop
 Inv-loop s at e₀ e = runEnd isBlank s at ≡ runEnd isBlank s e
 

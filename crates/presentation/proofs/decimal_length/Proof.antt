@@ -5,8 +5,6 @@ use Rattle.presentation.specs.Written.{decimal}
 use Rattle.presentation.proofs.decimal_length.Statement.{statement}
 use Rattle.presentation.proofs.decimal_length.Tie as tie
 
--- `decimal_length` meets its contract.
-
 returns : tie.Need-returns
 unfolding decimal
 returns c = search (needs, tests)

@@ -9,8 +9,6 @@ use Rattle.presentation.proofs.DecimalWalk.{digitsLeft, no-digits, many
 use Rattle.presentation.proofs.decimal_octet.Statement.{statement}
 use Rattle.presentation.proofs.decimal_octet.Tie as tie
 
--- `decimal_octet` meets its contract. The loop's invariant: the number so far and the digits left give the answer.
-
 abbrev Inv-loop : tie.InvT-loop
 Inv-loop s n₀ i₀ n i = (n ≤ 255) × (decimalIn s ≡ digitsLeft n (drop i s))
 

@@ -8,8 +8,6 @@ use Rattle.presentation.proofs.RunEnds.{blank-no-octet, unblank-octet, 
 use Rattle.presentation.proofs.field_end.Statement.{statement}
 use Rattle.presentation.proofs.field_end.Tie as tie
 
--- `field_end` meets its contract. The loop's invariant: the field ends where what is left of it ends.
-
 abbrev Inv-loop : tie.InvT-loop
 Inv-loop s at e₀ e = runEnd isUnblank s at ≡ runEnd isUnblank s e
 

@@ -2,11 +2,12 @@
 use native.Mathlib.Omega.{arith}
 use lib.ListN.{length-set}
 use borrow.Author.Needs.{needs}
-use Rattle.presentation.proofs.SmallPieces.{digits-put}
+use Rattle.presentation.proofs.DecimalPieces.{none-of-three-answer, none-of-three-octets, three-digits-answer, three-digits-octets}
 use Rattle.presentation.proofs.put_three_digits.Statement.{statement}
 use Rattle.presentation.proofs.put_three_digits.Tie as tie
 
--- `put_three_digits` meets its contract.
+returns : tie.Need-returns
+returns c = search (needs, none-of-three-answer, none-of-three-octets)
 
 add-out : tie.Need-add-out
 add-out c = search needs
@@ -29,13 +30,14 @@ slice-write-out-3 c = search needs
 same-length : tie.Need-same-length
 same-length c = search needs
 
-returns : tie.Need-returns
-returns c = search (needs, digits-put)
+returns-2 : tie.Need-returns-2
+returns-2 c = search (needs, three-digits-answer, three-digits-octets)
 
 pub put-three-digits-spec : {M : Type 1} → statement M
 put-three-digits-spec =
     tie.close
     (tie.spec
+    returns
     add-out
     slice-write-out
     add-out-2
@@ -43,4 +45,4 @@ put-three-digits-spec =
     add-out-3
     slice-write-out-3
     same-length
-    returns)
+    returns-2)

@@ -4,8 +4,6 @@ use Rattle.presentation.proofs.FieldPlaces.{field-open, field-closed}
 use Rattle.presentation.proofs.read_field.Statement.{statement}
 use Rattle.presentation.proofs.read_field.Tie as tie
 
--- `read_field` meets its contract.
-
 field-end-requires : tie.Need-field-end-requires
 field-end-requires c κs = search needs
 

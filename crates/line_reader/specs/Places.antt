@@ -1,0 +1,71 @@
+-- Definitions for code: the parts of a line by their places.
+use Prim.Native.Nat.{ℕ, suc, _+_}
+use mathlib.Core.Bool.{Bool, true, false, cond}
+use mathlib.Core.List.{List, [], _∷_}
+use mathlib.Core.Option.{Option, none, some}
+use lib.Dec.{eqb}
+use lib.ListN.{length}
+use Rattle.octets.specs.Lists.{ends}
+use Rattle.octets.specs.Decimal.{decimalOctet}
+use Rattle.octets.specs.Places.{placeOf}
+use Rattle.record.specs.Property.{wireProperty}
+use Rattle.presentation.specs.Written.{quote}
+use Rattle.presentation.specs.Read.{unescaped, field, isLineTag}
+use Rattle.line_unit.specs.declared.Style.{Style}
+use Rattle.line_unit.specs.declared.Style.the-variants.{Quoted, Bare}
+use Rattle.line_unit.specs.Places.{plainIn}
+use Rattle.line_reader.specs.declared.LineRead.{LineRead}
+use Rattle.line_reader.specs.declared.LineRead.the-variants.{Good as GoodLine, Fault as NoLine}
+use Rattle.line_reader.specs.declared.UnitCount.{UnitCount}
+use Rattle.line_reader.specs.declared.UnitCount.the-variants.{Octets, Fault as NoCount}
+use Rattle.line_reader.specs.declared.ValueRead.{ValueRead}
+use Rattle.line_reader.specs.declared.ValueRead.the-variants.{Good as GoodValue, Fault as NoValue}
+
+-- the fields of a line by their places
+abbrev pub linePlaces : List ℕ → Option ℕ → List ℕ → List ℕ → List ℕ → LineRead
+linePlaces s none s₁ t s₂ = NoLine
+linePlaces s (some f) s₁ t s₂ =
+    cond (isLineTag t) (GoodLine (record { flags = f; tag = placeOf s s₁; end = placeOf s s₁ + length t; value = placeOf s s₂ })) NoLine
+
+abbrev pub withField : Option (List ℕ × List ℕ) → (List ℕ → List ℕ → LineRead) → LineRead
+withField none k = NoLine
+withField (some r) k = k (r .0) (r .1)
+
+unfoldable pub lineAt : List ℕ → LineRead
+lineAt s = withField (field s) (λ f s₁. withField (field s₁) (λ t s₂. linePlaces s (decimalOctet f) s₁ t s₂))
+
+-- the octets that units stand for: how many, whether all of s is units, and themselves
+abbrev pub countRead : Option (List ℕ) → UnitCount
+countRead none = NoCount
+countRead (some v) = Octets (length v)
+
+unfoldable pub unitCount : Style → List ℕ → UnitCount
+unitCount style s = countRead (unescaped (plainIn style) s)
+
+abbrev pub isSome : Option (List ℕ) → Bool
+isSome none = false
+isSome (some v) = true
+
+abbrev pub isUnits : Style → List ℕ → Bool
+isUnits style s = isSome (unescaped (plainIn style) s)
+
+abbrev pub octetsIn : Option (List ℕ) → List ℕ
+octetsIn none = []
+octetsIn (some v) = v
+
+abbrev pub unitOctets : Style → List ℕ → List ℕ
+unitOctets style s = octetsIn (unescaped (plainIn style) s)
+
+-- where the units of a value stand
+unfoldable pub valueAt : List ℕ → ValueRead
+valueAt [] = NoValue
+valueAt (x ∷ v) =
+    cond (eqb x quote) (cond (ends (eqb quote) v) (GoodValue (record { from = 1; end = length v; style = Quoted })) NoValue)
+    (GoodValue (record { from = 0; end = suc (length v); style = Bare }))
+
+-- the data of a property, by its parts
+abbrev pub dataHead : ℕ → List ℕ → List ℕ
+dataHead f t = f ∷ length t ∷ t
+
+abbrev pub dataOf : ℕ → List ℕ → List ℕ → List ℕ
+dataOf f t v = wireProperty (record { flags = f; tag = t; value = v })

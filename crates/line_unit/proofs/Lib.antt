@@ -1,0 +1,2 @@
+pub mod UnitPlaces
+pub mod UnitWalk

@@ -1,0 +1,112 @@
+// What stands for one octet of a value in a line: the octet itself, a backslash and an octet, or a backslash and three digits.
+use presentation::OctetRead;
+ghost use mathlib.Core.Path.{_≡_};
+ghost use Rattle.presentation.specs.Read.{isInQuotes, isBare};
+ghost use Rattle.line_unit.specs.Places.{plainIn, escapeAt, unitAt};
+
+// How a value is written: between quotes, or bare.
+pub enum Style {
+    Quoted,
+    Bare,
+}
+
+// Octets that stand for themselves between quotes, and bare.
+fn is_in_quotes(b: u8) -> bool
+    ensures { λ r. ⌜ r ≡ isInQuotes b ⌝ }
+{
+    if b < 32 {
+        return false;
+    }
+    if 126 < b {
+        return false;
+    }
+    if b == b'"' {
+        return false;
+    }
+    b != b'\\'
+}
+
+fn is_bare(b: u8) -> bool
+    ensures { λ r. ⌜ r ≡ isBare b ⌝ }
+{
+    if b < 33 {
+        return false;
+    }
+    if b == b';' {
+        return false;
+    }
+    if b == b'(' {
+        return false;
+    }
+    if b == b')' {
+        return false;
+    }
+    is_in_quotes(b)
+}
+
+fn stands_for_itself(b: u8, style: Style) -> bool
+    ensures { λ r. ⌜ r ≡ plainIn style b ⌝ }
+{
+    match style {
+        Style::Quoted => is_in_quotes(b),
+        Style::Bare => is_bare(b),
+    }
+}
+
+// What stands for one octet of a value: that octet, and where it ends.
+pub struct UnitAt {
+    pub octet: u8,
+    pub next: usize,
+}
+
+pub enum UnitRead {
+    Good(UnitAt),
+    Fault,
+}
+
+// What stands behind a backslash: three digits up to 255, or an octet 32 to 126 that is no digit.
+fn read_escape(s: &[u8], at: usize) -> UnitRead
+    ensures { λ r. ⌜ r ≡ escapeAt (now (s .entry)) at ⌝ }
+{
+    if s.len() <= at {
+        return UnitRead::Fault;
+    }
+    let x = s[at];
+    if octets::is_digit(x) {
+        if s.len() - at < 3 {
+            return UnitRead::Fault;
+        }
+        let next: usize = at + 3;
+        let OctetRead::Good(octet) = presentation::decimal_octet(&s[at..next]) else {
+            return UnitRead::Fault;
+        };
+        return UnitRead::Good(UnitAt { octet, next });
+    }
+    if x < 32 {
+        return UnitRead::Fault;
+    }
+    if 126 < x {
+        return UnitRead::Fault;
+    }
+    UnitRead::Good(UnitAt {
+        octet: x,
+        next: at + 1,
+    })
+}
+
+pub fn read_unit(s: &[u8], at: usize, style: Style) -> UnitRead
+    ensures { λ r. ⌜ r ≡ unitAt style (now (s .entry)) at ⌝ }
+{
+    if s.len() <= at {
+        return UnitRead::Fault;
+    }
+    let x = s[at];
+    let next: usize = at + 1;
+    if x == b'\\' {
+        return read_escape(s, next);
+    }
+    if !stands_for_itself(x, style) {
+        return UnitRead::Fault;
+    }
+    UnitRead::Good(UnitAt { octet: x, next })
+}

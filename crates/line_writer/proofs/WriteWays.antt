@@ -1,0 +1,78 @@
+-- The ways out of write_line: what writeLine is at each, from what the code has found.
+use Prim.Native.Nat.{ℕ, _≤_, _<_}
+use native.Mathlib.Omega.{arith}
+use mathlib.Core.Path.{_≡_, refl, ap, _∙_}
+use mathlib.Core.Bool.{Bool, true, false}
+use mathlib.Core.List.{List}
+use mathlib.Core.Option.{Option, none, some}
+use lib.ListN.{length, length-append}
+use borrow.Author.Tests.{le-leb, lt-leb}
+use Rattle.limits.specs.Limits.{maxDataOctets}
+use Rattle.refusal.specs.declared.Refusal.the-variants.{NoRoom, LineTooLong, BadData}
+use Rattle.octets.specs.Lists.{all}
+use Rattle.octets.specs.Octets.{isLetterOrDigit}
+use Rattle.buffer.specs.Buffer.{Put}
+use Rattle.record.specs.Places.{propertyAt, tagIn, valueIn, tagPart, valuePart}
+use Rattle.record.specs.Property.{Property, property}
+use Rattle.record.specs.declared.PropertyAt.{PropertyAt}
+use Rattle.record.specs.declared.PropertyRead.{PropertyRead}
+use Rattle.record.specs.declared.PropertyRead.the-variants.{Good, Fault}
+use Rattle.record.proofs.PropertyLaws.{property-is-its-parts}
+use Rattle.record.proofs.PropertyPlaces.{PropertyTo, property-there, no-property}
+use Rattle.presentation.specs.declared.Made.the-variants.{Length}
+use Rattle.presentation.specs.Calls.{refused, placed, writeLine}
+use Rattle.presentation.proofs.Placed.{placed-there, placed-nowhere}
+use Rattle.line_writer.specs.Places.{lineOf}
+
+module _ (d b : List ℕ) where
+  pub data-too-long : 4096 < length d → writeLine d b ≡ refused LineTooLong b
+  unfolding writeLine maxDataOctets
+  data-too-long h = rw (lt-leb (length d) 4096 h)
+
+  module _ (fits : length d ≤ 4096) where
+    -- the parts are no longer than the whole
+    parts-short : (o : Option Property) → property d ≡ o → (length (tagIn o) ≤ 4096) × (length (valueIn o) ≤ 4096)
+    parts-short none e = (omega arith, omega arith)
+    parts-short (some q) e =
+        let whole = property-is-its-parts d q .0 e .0 in
+        let long = length-append (q .tag) (q .value) in
+        (omega (arith, ap length whole), omega (arith, ap length whole))
+
+    pub tag-short : (t : List ℕ) → t ≡ tagPart d → length t ≤ maxDataOctets
+    unfolding tagPart maxDataOctets
+    tag-short t e = rw e (parts-short (property d) refl .0)
+
+    pub value-short : (v : List ℕ) → v ≡ valuePart d → length v ≤ maxDataOctets
+    unfolding valuePart maxDataOctets
+    value-short v e = rw e (parts-short (property d) refl .1)
+
+    module _ (o : PropertyRead) (f : o ≡ propertyAt d) where
+      pub no-data : o ≡ Fault → writeLine d b ≡ refused BadData b
+      unfolding writeLine maxDataOctets
+      no-data g = rw (le-leb (length d) 4096 fits, no-property d o f g)
+
+      module _ (p : PropertyAt) (g : o ≡ Good p) (t : List ℕ) (tag : t ≡ tagPart d) (r : Bool) (plain : r ≡ all isLetterOrDigit t) where
+        pub not-plain : r ≡ false → writeLine d b ≡ refused BadData b
+        unfolding writeLine maxDataOctets tagPart
+        not-plain h =
+            let (q, k) = property-there d o f p g in
+            let same : t ≡ q .tag = tag ∙ rw (k .found) in
+            rw (le-leb (length d) 4096 fits, k .found, ← same, ← plain, h)
+
+        module _ (h : r ≡ true) (v : List ℕ) (value : v ≡ valuePart d) where
+          is-placed : writeLine d b ≡ placed (lineOf (p .flags) t v) b
+          unfolding writeLine maxDataOctets tagPart valuePart
+          is-placed = let (q, k) = property-there d o f p g in go q k
+            where
+              go : (q : Property) → PropertyTo d p q → writeLine d b ≡ placed (lineOf (p .flags) t v) b
+              go q k =
+                  let same : t ≡ q .tag = tag ∙ rw (k .found) in
+                  let rest : v ≡ q .value = value ∙ rw (k .found) in
+                  rw (le-leb (length d) 4096 fits, k .found, ← same, ← plain, h, k .flags, rest)
+
+          module _ (n : ℕ) (m : n ≡ length (lineOf (p .flags) t v)) where
+            pub no-room : length b < n → writeLine d b ≡ refused (NoRoom n) b
+            no-room l = is-placed ∙ placed-nowhere (lineOf (p .flags) t v) b n m l
+
+            pub line-stands : (x : List ℕ) (k : ℕ) → n ≤ length b → Put (lineOf (p .flags) t v) b x k → writeLine d b ≡ record { answer = Length n; buffer = x }
+            line-stands x k l q = is-placed ∙ placed-there (lineOf (p .flags) t v) b x n k m l q

@@ -1,0 +1,71 @@
+-- `write_line` meets its contract: a law of writeLine for each way out.
+use borrow.Author.Needs.{needs}
+use borrow.Author.Tests.{not-true, not-false}
+use Rattle.refusal.specs.declared.Refusal.the-variants.{NoRoom, LineTooLong, BadData}
+use Rattle.presentation.specs.declared.Made.the-variants.{Length}
+use Rattle.presentation.specs.Calls.{refused, writeLine}
+use Rattle.presentation.proofs.Placed.{told}
+use Rattle.line_writer.proofs.WriteWays.{data-too-long, tag-short, value-short, no-data, not-plain, no-room, line-stands}
+use Rattle.line_writer.proofs.write_line.Statement.{statement}
+use Rattle.line_writer.proofs.write_line.Tie as tie
+
+returns : tie.Need-returns
+returns c = told writeLine _ _ (refused LineTooLong _) (search (needs, data-too-long))
+
+read-property-requires : tie.Need-read-property-requires
+read-property-requires c κs = search needs
+
+enum-known-p : tie.Need-enum-known-p
+enum-known-p c = search needs
+
+enum-told : tie.Need-enum-told
+enum-told c = search needs
+
+returns-2 : tie.Need-returns-2
+returns-2 c = told writeLine _ _ (refused BadData _) (search (needs, no-data))
+
+tag-part-requires : tie.Need-tag-part-requires
+tag-part-requires c κs = search needs
+
+is-letters-and-digits-requires : tie.Need-is-letters-and-digits-requires
+is-letters-and-digits-requires c κs = search needs
+
+returns-3 : tie.Need-returns-3
+returns-3 c = told writeLine _ _ (refused BadData _) (search (needs, not-plain, not-true))
+
+value-part-requires : tie.Need-value-part-requires
+value-part-requires c κs = search needs
+
+line-length-requires : tie.Need-line-length-requires
+line-length-requires c κs = search (needs, tag-short, value-short)
+
+returns-4 : tie.Need-returns-4
+returns-4 c = told writeLine _ _ (refused (NoRoom _) _) (search (needs, no-room, not-false))
+
+put-line-requires : tie.Need-put-line-requires
+put-line-requires c κs = search needs
+
+same-length : tie.Need-same-length
+same-length c = search needs
+
+returns-5 : tie.Need-returns-5
+returns-5 c = told writeLine _ _ (record { answer = Length _; buffer = _ }) (search (needs, line-stands, not-false))
+
+pub write-line-spec : {M : Type 1} → statement M
+write-line-spec =
+    tie.close
+    (tie.spec
+    returns
+    read-property-requires
+    enum-known-p
+    enum-told
+    returns-2
+    tag-part-requires
+    is-letters-and-digits-requires
+    returns-3
+    value-part-requires
+    line-length-requires
+    returns-4
+    put-line-requires
+    same-length
+    returns-5)

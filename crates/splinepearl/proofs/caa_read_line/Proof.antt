@@ -1,0 +1,20 @@
+-- The call's answer, packed.
+use borrow.Author.Needs.{needs}
+use Rattle.splinepearl.proofs.LineAnswers.{made-told}
+use Rattle.splinepearl.proofs.caa_read_line.Statement.{statement}
+use Rattle.splinepearl.proofs.caa_read_line.Tie as tie
+
+read-line-requires : tie.Need-read-line-requires
+read-line-requires c κs = search needs
+
+pack-made-requires : tie.Need-pack-made-requires
+pack-made-requires c κs = search needs
+
+same-length : tie.Need-same-length
+same-length c = search needs
+
+returns : tie.Need-returns
+returns c = search (needs, made-told)
+
+pub caa-read-line-spec : {M : Type 1} → statement M
+caa-read-line-spec = tie.close (tie.spec read-line-requires pack-made-requires same-length returns)

@@ -1,0 +1,20 @@
+-- The call's answer, packed.
+use borrow.Author.Needs.{needs}
+use Rattle.splinepearl.proofs.LineAnswers.{made-told}
+use Rattle.splinepearl.proofs.caa_write_line.Statement.{statement}
+use Rattle.splinepearl.proofs.caa_write_line.Tie as tie
+
+write-line-requires : tie.Need-write-line-requires
+write-line-requires c κs = search needs
+
+pack-made-requires : tie.Need-pack-made-requires
+pack-made-requires c κs = search needs
+
+same-length : tie.Need-same-length
+same-length c = search needs
+
+returns : tie.Need-returns
+returns c = search (needs, made-told)
+
+pub caa-write-line-spec : {M : Type 1} → statement M
+caa-write-line-spec = tie.close (tie.spec write-line-requires pack-made-requires same-length returns)
