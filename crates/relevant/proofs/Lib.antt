@@ -7,4 +7,5 @@ pub mod SetWalk
 pub mod GrantWalk
 pub mod ClimbLaws
 pub mod AcceptedBook
+pub mod DecidedLaws
 pub mod ByPlace

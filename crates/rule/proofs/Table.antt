@@ -13,7 +13,7 @@ use Rattle.rule.specs.RelevantSet.{lookup, relevantSet}
 use Rattle.rule.specs.Authorizations.{isUnknownCritical, governing, grantee, authorization}
 use Rattle.rule.specs.Calls.{judgementTold, permittedIssuersTold}
 use Rattle.rule.specs.Edges.{Edges-agree}
-use Rattle.rule.specs.Theorems.{Answers-told}
+use Rattle.rule.specs.Theorems.{Answers-told, List-told}
 
 pub edges-agree : Edges-agree
 unfolding maxLabelOctets maxIssuerOctets isDigit isUpper isLower isLetterOrDigit isBlank lower equalIgnoringCase
@@ -25,3 +25,7 @@ edges-agree = refl
 pub answers-told : Answers-told
 unfolding judgementTold permittedIssuersTold
 answers-told = (refl, λ k r. (refl, refl), λ r. (refl, refl))
+
+pub list-told : List-told
+unfolding permittedIssuersTold
+list-told = (refl, λ count octets. refl)

@@ -208,6 +208,12 @@ Answers-told =
     × ((r : Refusal) → (judgementTold (Refused r) ≡ record { number = number r; values = place r ∷ [] })
     × (permittedIssuersTold (ListRefused r) ≡ record { number = number r; values = place r ∷ [] }))
 
+-- those of the list are this project's own: 30, and 31 with count and octets
+abbrev pub List-told : Type 0
+List-told =
+    (permittedIssuersTold Anyone ≡ record { number = 30; values = [] })
+    × ((count octets : ℕ) → permittedIssuersTold (Listed count octets) ≡ record { number = 31; values = count ∷ octets ∷ [] })
+
 -- Deciding never computes with record numbers: other numbers change those in the answer and nothing else.
 abbrev pub renumbered : (ℕ → ℕ) → CaaRecord → CaaRecord
 renumbered f r = record { number = f (r .number); owner = r .owner; property = r .property }

@@ -1,3 +1,4 @@
 pub mod Answers
+pub mod ListAnswers
 pub mod LineAnswers
 pub mod Theorems

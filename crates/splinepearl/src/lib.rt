@@ -1,10 +1,12 @@
 // The calls for C and Rust. Each answers one number of 64 bits: the answer's number in bits 0 to 7, and fields behind it.
 use presentation::Made;
 use rule::Judgement;
+use rule::PermittedIssuers;
 ghost use mathlib.Core.Path.{_≡_};
 ghost use Rattle.presentation.specs.Calls.{writeLine, parseLine};
-ghost use Rattle.rule.specs.Calls.{judge};
+ghost use Rattle.rule.specs.Calls.{judge, listIssuers};
 ghost use Rattle.splinepearl.specs.Answers.{packedJudgement};
+ghost use Rattle.splinepearl.specs.ListAnswers.{packedIssuers};
 ghost use Rattle.splinepearl.specs.LineAnswers.{packedMade};
 
 // May this issuer sign? 0 permitted; 20 and 21 with the name's number in a and the record's in b; a refusal with its place in a.
@@ -25,6 +27,25 @@ pub extern "C" fn caa_judge(request: &[u8], issuer: &[u8], book: &[u8]) -> u64
             packed::pack(21, name.0 as u64, rr.0 as u64, 0)
         }
         Judgement::Refused(r) => packed::pack_refusal(r),
+    }
+}
+
+// Who may sign? 30 anyone; 31 a list at the front of the lent buffer, with its octets in a and its count in b; a refusal with its
+// place in a.
+#[no_mangle]
+pub extern "C" fn caa_permitted_issuers(request: &[u8], book: &[u8], buffer: &mut [u8]) -> u64
+    ensures answer { λ r. ⌜ r ≡ packedIssuers (listIssuers (now (request .entry)) (now (book .entry)) (now (buffer .entry)) .answer) ⌝ }
+    ensures octets { λ r. ⌜ now (buffer .exit) ≡ listIssuers (now (request .entry)) (now (book .entry)) (now (buffer .entry)) .buffer ⌝ }
+{
+    match issuers::permitted_issuers(request, book, buffer) {
+        PermittedIssuers::Anyone => packed::pack(30, 0, 0, 0),
+        PermittedIssuers::Listed { count, octets } => packed::pack(
+            31,
+            octets as u64,
+            count as u64,
+            0,
+        ),
+        PermittedIssuers::Refused(r) => packed::pack_refusal(r),
     }
 }
 

@@ -1,7 +1,8 @@
 -- `judge_name` meets its contract.
 use borrow.Author.Needs.{needs}
 use borrow.Author.Tests.{not-true, not-false}
-use Rattle.verdict.proofs.NameWays.{nowhere, near-inside, critical-there, plain-by-issue, star-by-issue, star-granted, star-not-granted}
+use Rattle.relevant.proofs.DecidedLaws.{near-inside}
+use Rattle.verdict.proofs.NameWays.{nowhere, critical-there, plain-by-issue, star-by-issue, star-granted, star-not-granted}
 use Rattle.verdict.proofs.judge_name.Statement.{statement}
 use Rattle.verdict.proofs.judge_name.Tie as tie
 
