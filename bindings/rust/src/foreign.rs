@@ -1,0 +1,67 @@
+//! The calls of libsplinepearl.a (include/splinepearl.h). All unsafe code of this crate is here.
+
+// What the library asks of a caller, and why these functions meet it with any arguments:
+// - A pointer is good for its length and not null, even where the length is 0: it is a slice's.
+// - A buffer has no octet in common with what is read: it is borrowed by `&mut`.
+// - Nobody writes what is read, or touches the buffer, until the call returns: both are borrowed for
+//   the call, and the library keeps no pointer after it.
+#![allow(unsafe_code)]
+
+extern "C" {
+    fn caa_judge(
+        request: *const u8,
+        request_len: usize,
+        issuer: *const u8,
+        issuer_len: usize,
+        book: *const u8,
+        book_len: usize,
+    ) -> u64;
+    fn caa_permitted_issuers(
+        request: *const u8,
+        request_len: usize,
+        book: *const u8,
+        book_len: usize,
+        buffer: *mut u8,
+        buffer_len: usize,
+    ) -> u64;
+    fn caa_write_line(data: *const u8, data_len: usize, buffer: *mut u8, buffer_len: usize) -> u64;
+    fn caa_read_line(line: *const u8, line_len: usize, buffer: *mut u8, buffer_len: usize) -> u64;
+}
+
+pub fn judge(request: &[u8], issuer: &[u8], book: &[u8]) -> u64 {
+    // SAFETY: three live slices, only read; see above.
+    unsafe {
+        caa_judge(
+            request.as_ptr(),
+            request.len(),
+            issuer.as_ptr(),
+            issuer.len(),
+            book.as_ptr(),
+            book.len(),
+        )
+    }
+}
+
+pub fn permitted_issuers(request: &[u8], book: &[u8], buffer: &mut [u8]) -> u64 {
+    // SAFETY: two live slices, only read, and a buffer lent by `&mut`; see above.
+    unsafe {
+        caa_permitted_issuers(
+            request.as_ptr(),
+            request.len(),
+            book.as_ptr(),
+            book.len(),
+            buffer.as_mut_ptr(),
+            buffer.len(),
+        )
+    }
+}
+
+pub fn write_line(data: &[u8], buffer: &mut [u8]) -> u64 {
+    // SAFETY: a live slice, only read, and a buffer lent by `&mut`; see above.
+    unsafe { caa_write_line(data.as_ptr(), data.len(), buffer.as_mut_ptr(), buffer.len()) }
+}
+
+pub fn read_line(line: &[u8], buffer: &mut [u8]) -> u64 {
+    // SAFETY: a live slice, only read, and a buffer lent by `&mut`; see above.
+    unsafe { caa_read_line(line.as_ptr(), line.len(), buffer.as_mut_ptr(), buffer.len()) }
+}

@@ -1,0 +1,135 @@
+//! May this issuer sign?
+
+use std::fmt;
+
+use crate::foreign;
+use crate::word::Word;
+use crate::Refusal;
+
+/// The answer of [`judge`]: a verdict, or a refusal to decide. Issue on [`Judgement::Permitted`] alone.
+///
+/// Displayed as the desk's line, as `verdict 21 name 1 record 3`; `{:#}` adds the reason.
+#[derive(Clone, Copy, Debug, PartialEq, Eq, Hash)]
+#[must_use = "anything but `Permitted` means: don't issue"]
+pub enum Judgement {
+    /// Verdict 0: each name is unrestricted or granted to this issuer.
+    Permitted,
+    /// Verdict 20: a record with an unknown tag and the critical flag forbids.
+    UnknownCritical {
+        /// The lowest name number that isn't permitted, from 0.
+        name: usize,
+        /// The first unknown critical record of its relevant set, by its number in the book.
+        record: usize,
+    },
+    /// Verdict 21: a name is restricted, and not granted to this issuer.
+    NotGranted {
+        /// The lowest name number that isn't permitted, from 0.
+        name: usize,
+        /// The first record that governs it, by its number in the book.
+        record: usize,
+    },
+    /// Nothing was decided.
+    Refused(Refusal),
+}
+
+impl Judgement {
+    /// May this issuer sign?
+    pub fn is_permitted(self) -> bool {
+        self == Judgement::Permitted
+    }
+
+    /// The number of the verdict or of the refusal.
+    pub fn number(self) -> u8 {
+        match self {
+            Judgement::Permitted => 0,
+            Judgement::UnknownCritical { .. } => 20,
+            Judgement::NotGranted { .. } => 21,
+            Judgement::Refused(refusal) => refusal.number(),
+        }
+    }
+
+    /// What the verdict or the refusal means, in words.
+    pub fn reason(self) -> &'static str {
+        match self {
+            Judgement::Permitted => "each name is unrestricted or granted to this issuer",
+            Judgement::UnknownCritical { .. } => {
+                "this record has an unknown tag and is critical for this name"
+            }
+            Judgement::NotGranted { .. } => {
+                "this record governs this name, and nothing grants it to this issuer"
+            }
+            Judgement::Refused(refusal) => refusal.reason(),
+        }
+    }
+
+    fn of(word: Word) -> Judgement {
+        match word {
+            Word { number: 0, .. } => Judgement::Permitted,
+            Word {
+                number: 20,
+                a: name,
+                b: record,
+            } => Judgement::UnknownCritical { name, record },
+            Word {
+                number: 21,
+                a: name,
+                b: record,
+            } => Judgement::NotGranted { name, record },
+            _ => Judgement::Refused(word.refusal()),
+        }
+    }
+}
+
+impl fmt::Display for Judgement {
+    fn fmt(&self, f: &mut fmt::Formatter<'_>) -> fmt::Result {
+        match self {
+            Judgement::Permitted => write!(f, "verdict 0")?,
+            Judgement::UnknownCritical { name, record }
+            | Judgement::NotGranted { name, record } => {
+                let number = self.number();
+                write!(f, "verdict {number} name {name} record {record}")?;
+            }
+            Judgement::Refused(refusal) => return refusal.fmt(f),
+        }
+        if f.alternate() {
+            write!(f, ": {}", self.reason())?;
+        }
+        Ok(())
+    }
+}
+
+/// May `issuer` sign for every name of `request`, by the records of `book`?
+///
+/// - `request`: 1 to 100 names in wire form, end to end, at most 8,192 octets.
+/// - `issuer`: an issuer domain name as text, with no closing dot and no line end.
+/// - `book`: 0 to 256 resource records in wire form without compression, end to end, at most 32,768
+///   octets.
+pub fn judge(request: &[u8], issuer: &[u8], book: &[u8]) -> Judgement {
+    Judgement::of(Word::unpacked(foreign::judge(request, issuer, book)))
+}
+
+#[cfg(test)]
+mod tests {
+    use super::*;
+
+    #[test]
+    fn a_number_of_a_newer_library_is_no_permission() {
+        for number in [12, 22, 30, 255] {
+            let judgement = Judgement::of(Word { number, a: 1, b: 2 });
+            let unknown = Refusal::Unknown { number, place: 1 };
+            assert_eq!(judgement, Judgement::Refused(unknown));
+            assert!(!judgement.is_permitted());
+        }
+    }
+
+    #[test]
+    fn the_desk_s_line_and_the_reason() {
+        let judgement = Judgement::NotGranted { name: 1, record: 3 };
+        assert_eq!(judgement.to_string(), "verdict 21 name 1 record 3");
+        assert_eq!(Judgement::Permitted.to_string(), "verdict 0");
+        assert_eq!(
+            format!("{:#}", Judgement::Permitted),
+            "verdict 0: each name is unrestricted or granted to this issuer"
+        );
+    }
+}

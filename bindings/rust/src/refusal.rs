@@ -1,0 +1,169 @@
+//! The numbered refusals.
+
+use std::error::Error;
+use std::fmt;
+
+/// What was handed in breaks a rule, so nothing was decided and no lent octet changed.
+///
+/// Displayed as the desk's line, `refused 6 at 4`; `{:#}` adds the reason.
+#[derive(Clone, Copy, Debug, PartialEq, Eq, Hash)]
+#[non_exhaustive]
+pub enum Refusal {
+    /// 1: the request is over 8,192 octets.
+    RequestTooLong,
+    /// 2: the request is empty, or a name of it breaks a rule.
+    BadName {
+        /// The number of that name, from 0; 0 where the request is empty.
+        name: usize,
+    },
+    /// 3: octets remain after the names allowed.
+    TooManyNames {
+        /// How many names that is: 100.
+        read: usize,
+    },
+    /// 4: the issuer name breaks a rule.
+    BadIssuer,
+    /// 5: the book is over 32,768 octets.
+    BookTooLong,
+    /// 6: a record, or its CAA data, is laid out wrongly.
+    BadRecord {
+        /// The number of that record, from 0.
+        record: usize,
+    },
+    /// 7: octets remain after the records allowed.
+    TooManyRecords {
+        /// How many records that is: 256.
+        read: usize,
+    },
+    /// 8: the lent buffer is shorter than the output.
+    NoRoom {
+        /// How many octets the output takes.
+        needed: usize,
+    },
+    /// 9: the line breaks a rule.
+    BadLine,
+    /// 10: the line is over 16,384 octets, or the data given or made over 4,096.
+    LineTooLong,
+    /// 11: the CAA data is laid out wrongly, or its tag holds more than letters and digits.
+    BadData,
+    /// An answer that this crate doesn't know, of a library that is newer. Don't issue.
+    Unknown {
+        /// The number of the answer.
+        number: u8,
+        /// What stands where a refusal has its place.
+        place: usize,
+    },
+}
+
+impl Refusal {
+    pub(crate) fn of(number: u8, place: usize) -> Refusal {
+        match number {
+            1 => Refusal::RequestTooLong,
+            2 => Refusal::BadName { name: place },
+            3 => Refusal::TooManyNames { read: place },
+            4 => Refusal::BadIssuer,
+            5 => Refusal::BookTooLong,
+            6 => Refusal::BadRecord { record: place },
+            7 => Refusal::TooManyRecords { read: place },
+            8 => Refusal::NoRoom { needed: place },
+            9 => Refusal::BadLine,
+            10 => Refusal::LineTooLong,
+            11 => Refusal::BadData,
+            _ => Refusal::Unknown { number, place },
+        }
+    }
+
+    /// The number of the refusal.
+    pub fn number(self) -> u8 {
+        match self {
+            Refusal::RequestTooLong => 1,
+            Refusal::BadName { .. } => 2,
+            Refusal::TooManyNames { .. } => 3,
+            Refusal::BadIssuer => 4,
+            Refusal::BookTooLong => 5,
+            Refusal::BadRecord { .. } => 6,
+            Refusal::TooManyRecords { .. } => 7,
+            Refusal::NoRoom { .. } => 8,
+            Refusal::BadLine => 9,
+            Refusal::LineTooLong => 10,
+            Refusal::BadData => 11,
+            Refusal::Unknown { number, .. } => number,
+        }
+    }
+
+    /// The one place of the refusal; 0 where it has no use for one.
+    pub fn place(self) -> usize {
+        match self {
+            Refusal::BadName { name } => name,
+            Refusal::BadRecord { record } => record,
+            Refusal::TooManyNames { read } | Refusal::TooManyRecords { read } => read,
+            Refusal::NoRoom { needed } => needed,
+            Refusal::Unknown { place, .. } => place,
+            Refusal::RequestTooLong
+            | Refusal::BadIssuer
+            | Refusal::BookTooLong
+            | Refusal::BadLine
+            | Refusal::LineTooLong
+            | Refusal::BadData => 0,
+        }
+    }
+
+    /// What is wrong, in words.
+    pub fn reason(self) -> &'static str {
+        match self {
+            Refusal::RequestTooLong => "the request is over 8,192 octets",
+            Refusal::BadName { .. } => "the request is empty, or this name breaks a rule",
+            Refusal::TooManyNames { .. } => "octets remain after the last name allowed",
+            Refusal::BadIssuer => "the issuer name breaks a rule",
+            Refusal::BookTooLong => "the book is over 32,768 octets",
+            Refusal::BadRecord { .. } => "this record, or its CAA data, is laid out wrongly",
+            Refusal::TooManyRecords { .. } => "octets remain after the last record allowed",
+            Refusal::NoRoom { .. } => "the buffer is shorter than the octets needed",
+            Refusal::BadLine => "the line breaks a rule",
+            Refusal::LineTooLong => "the line is over 16,384 octets, or its data over 4,096",
+            Refusal::BadData => {
+                "the CAA data is laid out wrongly, or its tag isn't letters and digits alone"
+            }
+            Refusal::Unknown { .. } => "an answer of a newer library; don't issue",
+        }
+    }
+}
+
+impl fmt::Display for Refusal {
+    fn fmt(&self, f: &mut fmt::Formatter<'_>) -> fmt::Result {
+        write!(f, "refused {} at {}", self.number(), self.place())?;
+        if f.alternate() {
+            write!(f, ": {}", self.reason())?;
+        }
+        Ok(())
+    }
+}
+
+impl Error for Refusal {}
+
+#[cfg(test)]
+mod tests {
+    use super::*;
+
+    #[test]
+    fn number_and_place_come_back() {
+        for number in [2, 3, 6, 7, 8, 0, 12, 20, 255] {
+            let refusal = Refusal::of(number, 5);
+            assert_eq!((refusal.number(), refusal.place()), (number, 5));
+        }
+        for number in [1, 4, 5, 9, 10, 11] {
+            let refusal = Refusal::of(number, 0);
+            assert_eq!((refusal.number(), refusal.place()), (number, 0));
+        }
+    }
+
+    #[test]
+    fn the_desk_s_line_and_the_reason() {
+        let refusal = Refusal::BadRecord { record: 4 };
+        assert_eq!(refusal.to_string(), "refused 6 at 4");
+        assert_eq!(
+            format!("{refusal:#}"),
+            "refused 6 at 4: this record, or its CAA data, is laid out wrongly"
+        );
+    }
+}

@@ -1,0 +1,45 @@
+//! The one number of 64 bits that every call answers with.
+
+use crate::Refusal;
+
+/// Number in bits 0 to 7, `a` in bits 8 to 31, `b` in bits 32 to 47. Bits 48 to 63 are in use by no
+/// answer yet.
+#[derive(Clone, Copy, Debug, PartialEq, Eq)]
+pub struct Word {
+    pub number: u8,
+    pub a: usize,
+    pub b: usize,
+}
+
+impl Word {
+    pub fn unpacked(word: u64) -> Word {
+        Word {
+            number: (word & 0xFF) as u8,
+            a: (word >> 8 & 0xFF_FFFF) as usize,
+            b: (word >> 32 & 0xFFFF) as usize,
+        }
+    }
+
+    /// What the word says where it isn't an answer that the caller looks for.
+    pub fn refusal(self) -> Refusal {
+        Refusal::of(self.number, self.a)
+    }
+}
+
+#[cfg(test)]
+mod tests {
+    use super::*;
+
+    #[test]
+    fn every_field_has_its_bits() {
+        let word = Word::unpacked(0x0123_4567_89AB_CDEF);
+        assert_eq!(
+            word,
+            Word {
+                number: 0xEF,
+                a: 0x89_ABCD,
+                b: 0x4567
+            }
+        );
+    }
+}

@@ -1,0 +1,54 @@
+//! Requests and books from readable names.
+
+// Each test program uses its own part of this.
+#![allow(dead_code)]
+
+/// A name in wire form.
+pub fn name(text: &str) -> Vec<u8> {
+    let mut wire = Vec::new();
+    for label in text.split('.') {
+        wire.push(label.len() as u8);
+        wire.extend(label.bytes());
+    }
+    wire.push(0);
+    wire
+}
+
+/// Names in wire form, end to end.
+pub fn request(names: &[&str]) -> Vec<u8> {
+    names.iter().flat_map(|text| name(text)).collect()
+}
+
+/// CAA data.
+pub fn data(flags: u8, tag: &str, value: &[u8]) -> Vec<u8> {
+    let mut data = vec![flags, tag.len() as u8];
+    data.extend(tag.bytes());
+    data.extend(value);
+    data
+}
+
+/// A resource record of class 1 with a time to live of 0.
+pub fn record(owner: &str, rr_type: u16, data: &[u8]) -> Vec<u8> {
+    let mut record = name(owner);
+    record.extend(rr_type.to_be_bytes());
+    record.extend([0, 1, 0, 0, 0, 0]);
+    record.extend((data.len() as u16).to_be_bytes());
+    record.extend(data);
+    record
+}
+
+/// A CAA record without flags.
+pub fn caa(owner: &str, tag: &str, value: &str) -> Vec<u8> {
+    record(owner, 257, &data(0, tag, value.as_bytes()))
+}
+
+/// The book of the requirements' whole case.
+pub fn whole_case_book() -> Vec<u8> {
+    [
+        caa("example.com", "issue", "CA1.example.net"),
+        caa("example.com", "issue", "ca2.example.org; account=230123"),
+        caa("example.com", "issue", "ca1.example.net"),
+        caa("pay.example.com", "issue", "ca2.example.org"),
+    ]
+    .concat()
+}
