@@ -1,6 +1,6 @@
 #!/usr/bin/env bash
-# All tests: the second program on its stored cases, the proved library held against it, then the proofs from nothing, the
-# must-fail edits and the programs.
+# All tests: the second program on its stored cases, the proved library held against it and linked from C and Rust, the desk program
+# on its folders, the tools, then the proofs from nothing, the must-fail edits and the programs.
 set -eu
 cd "$(dirname "$0")"
 
@@ -13,6 +13,11 @@ second_program -- cases
 
 rt staticlib readers
 rt staticlib splinepearl
-second_program --features readers,judge -- library
+second_program --features readers,judge,list -- library
+bash examples/link.sh
+
+rt check desk
+bash desk-runs/test.sh
+python3 tools/test_caa_files.py
 
 exec rt ci

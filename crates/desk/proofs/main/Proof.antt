@@ -1,0 +1,90 @@
+-- `main` is safe and ends: what it lends on is a front of each buffer.
+use borrow.Author.Needs.{needs}
+use Rattle.desk.proofs.Taking.{line-within, line-front}
+use Rattle.desk.proofs.main.Statement.{statement}
+use Rattle.desk.proofs.main.Tie as tie
+
+slice-aggregate-read-file : tie.Need-slice-aggregate-read-file
+slice-aggregate-read-file c = search needs
+
+slice-aggregate-read-file-2 : tie.Need-slice-aggregate-read-file-2
+slice-aggregate-read-file-2 c = search needs
+
+read-file-requires : tie.Need-read-file-requires
+read-file-requires c κs = search needs
+
+slice-aggregate-read-file-3 : tie.Need-slice-aggregate-read-file-3
+slice-aggregate-read-file-3 c = search needs
+
+slice-aggregate-read-file-4 : tie.Need-slice-aggregate-read-file-4
+slice-aggregate-read-file-4 c = search needs
+
+read-file-requires-2 : tie.Need-read-file-requires-2
+read-file-requires-2 c κs = search needs
+
+slice-aggregate-read-file-5 : tie.Need-slice-aggregate-read-file-5
+slice-aggregate-read-file-5 c = search needs
+
+slice-aggregate-read-file-6 : tie.Need-slice-aggregate-read-file-6
+slice-aggregate-read-file-6 c = search needs
+
+read-file-requires-3 : tie.Need-read-file-requires-3
+read-file-requires-3 c κs = search needs
+
+array-share-prefix-request : tie.Need-array-share-prefix-request
+array-share-prefix-request c = search needs
+
+slice-aggregate-put-desk-line : tie.Need-slice-aggregate-put-desk-line
+slice-aggregate-put-desk-line c = search needs
+
+array-share-prefix-issuer : tie.Need-array-share-prefix-issuer
+array-share-prefix-issuer c = search needs
+
+slice-aggregate-put-desk-line-2 : tie.Need-slice-aggregate-put-desk-line-2
+slice-aggregate-put-desk-line-2 c = search needs
+
+array-share-prefix-book : tie.Need-array-share-prefix-book
+array-share-prefix-book c = search needs
+
+slice-aggregate-put-desk-line-3 : tie.Need-slice-aggregate-put-desk-line-3
+slice-aggregate-put-desk-line-3 c = search needs
+
+put-desk-line-requires : tie.Need-put-desk-line-requires
+put-desk-line-requires c κs = search needs
+
+array-share-prefix-line : tie.Need-array-share-prefix-line
+array-share-prefix-line c = search (needs, line-within)
+
+slice-aggregate-write-all : tie.Need-slice-aggregate-write-all
+slice-aggregate-write-all c = search (needs, line-front)
+
+write-all-requires : tie.Need-write-all-requires
+write-all-requires c κs = search needs
+
+returns : tie.Need-returns
+returns c = search needs
+
+pub main-spec : {M : Type 1} → statement M
+main-spec =
+    tie.close
+    (tie.spec
+    slice-aggregate-read-file
+    slice-aggregate-read-file-2
+    read-file-requires
+    slice-aggregate-read-file-3
+    slice-aggregate-read-file-4
+    read-file-requires-2
+    slice-aggregate-read-file-5
+    slice-aggregate-read-file-6
+    read-file-requires-3
+    array-share-prefix-request
+    slice-aggregate-put-desk-line
+    array-share-prefix-issuer
+    slice-aggregate-put-desk-line-2
+    array-share-prefix-book
+    slice-aggregate-put-desk-line-3
+    put-desk-line-requires
+    array-share-prefix-line
+    slice-aggregate-write-all
+    write-all-requires
+    returns)

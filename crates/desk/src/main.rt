@@ -1,0 +1,87 @@
+// The desk program: reads request.bin, issuer.txt and book.bin in the current folder, and writes the desk's line.
+//
+// Proved: from the octets that were read, the line is that of desk_line's definition. Assumed, since no contract can speak of the outside:
+// open and read hand over what stands in the files, and write puts the line out.
+use desk_line::LINE_OCTETS;
+use libc::STDOUT_FILENO;
+use limits::MAX_BOOK_OCTETS;
+use limits::MAX_ISSUER_OCTETS;
+use limits::MAX_REQUEST_OCTETS;
+ghost use Rattle.desk.specs.Files.{Taken};
+
+// One octet more than the limit, so that a file over it is refused and not cut.
+const REQUEST_ROOM: usize = MAX_REQUEST_OCTETS + 1;
+
+const ISSUER_ROOM: usize = MAX_ISSUER_OCTETS + 1;
+
+const BOOK_ROOM: usize = MAX_BOOK_OCTETS + 1;
+
+// A file as it was read: whether it is there, and how many octets of it now stand at the front of the buffer.
+struct FileRead {
+    pub found: bool,
+    pub length: usize,
+}
+
+// Reads to the file's end, or until the buffer is full. A read that fails makes the file a missing one, never a short one.
+fn read_open(fd: i32, out: &mut [u8]) -> FileRead
+    ensures { λ r. ⌜ Taken r (now (out .exit)) ⌝ }
+{
+    let mut n: usize = 0;
+    while n < out.len() {
+        let got = libc::read(fd, &mut out[n..]);
+        if got < 0 {
+            return FileRead {
+                found: false,
+                length: 0,
+            };
+        }
+        let more = io::count(got, &out[n..]);
+        if more == 0 {
+            return FileRead {
+                found: true,
+                length: n,
+            };
+        }
+        n += more;
+    }
+    FileRead {
+        found: true,
+        length: n,
+    }
+}
+
+// A file of the current folder.
+fn read_file(path: &[u8], out: &mut [u8]) -> FileRead
+    ensures { λ r. ⌜ Taken r (now (out .exit)) ⌝ }
+{
+    let fd = os::open_read(path);
+    if fd < 0 {
+        return FileRead {
+            found: false,
+            length: 0,
+        };
+    }
+    let file = read_open(fd, out);
+    libc::close(fd);
+    file
+}
+
+fn main() {
+    let mut request = [0u8; REQUEST_ROOM];
+    let mut issuer = [0u8; ISSUER_ROOM];
+    let mut book = [0u8; BOOK_ROOM];
+    let requested = read_file(b"request.bin", &mut request).length;
+    let named = read_file(b"issuer.txt", &mut issuer).length;
+    let answers = read_file(b"book.bin", &mut book);
+    let booked = answers.length;
+    let mut line = [0u8; LINE_OCTETS];
+    let n = desk_line::put_desk_line(
+        answers.found,
+        &request[..requested],
+        &issuer[..named],
+        &book[..booked],
+        &mut line,
+    );
+    // A failed write can be told to nobody.
+    io::write_all(STDOUT_FILENO, &line[..n]);
+}

@@ -1,0 +1,5 @@
+pub mod AnswerLines
+pub mod Decimals
+pub mod Texts
+pub mod Puts
+pub mod Answers

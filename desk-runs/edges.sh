@@ -1,0 +1,208 @@
+# Both sides of each limit. A good request and a good issuer name with a book that restricts no name give `verdict 0`; over a limit its
+# refusal is told. Each answer is worked out from the requirements' limits and their table of refusals.
+
+# Request: a label has 1 to 63 octets.
+begin 'a label of 63'
+labels 63 3 > request.bin
+expect 'verdict 0'
+
+begin 'a label of 64'
+labels 64 3 > request.bin
+expect 'refused 2 at 0'
+
+begin 'a label of 64 in the third name'
+{ labels 63; labels 3 3; labels 64 3; } > request.bin
+expect 'refused 2 at 2'
+
+# A name has at most 255 octets with its zero: labels of 63, 63, 63 and 61 take 64 + 64 + 64 + 62 + 1 = 255.
+begin 'a name of 255'
+labels 63 63 63 61 > request.bin
+expect 'verdict 0'
+
+begin 'a name of 256'
+labels 63 63 63 62 > request.bin
+expect 'refused 2 at 0'
+
+# The star is a label of one octet and counts: 2 + 64 + 64 + 64 + 60 + 1 = 255.
+begin 'a star name of 255'
+{ name '*' | head -c 2; labels 63 63 63 59; } > request.bin
+expect 'verdict 0'
+
+begin 'a star name of 256'
+{ name '*' | head -c 2; labels 63 63 63 60; } > request.bin
+expect 'refused 2 at 0'
+
+# "nor is `*` with only the root after it"
+begin 'a star alone'
+name '*' > request.bin
+expect 'refused 2 at 0'
+
+begin 'a star before one label'
+name '*.com' > request.bin
+expect 'verdict 0'
+
+begin 'the root for a name'
+octets 0 > request.bin
+expect 'refused 2 at 0'
+
+# At most 100 names; what remains after 100 good ones is refusal 3, a bad name among them refusal 2.
+begin '100 names'
+repeated 100 labels 1 > request.bin
+expect 'verdict 0'
+
+begin '101 names'
+repeated 101 labels 1 > request.bin
+expect 'refused 3 at 100'
+
+begin 'an octet after 100 names'
+{ repeated 100 labels 1; octets 64; } > request.bin
+expect 'refused 3 at 100'
+
+begin 'a bad 100th name'
+{ repeated 99 labels 1; octets 64; } > request.bin
+expect 'refused 2 at 99'
+
+# At most 8,192 octets: 32 names of 255 take 8,160; a name of 32 is a label of 30, and one of 33 a label of 31.
+begin 'a request of 8,192'
+{ repeated 32 labels 63 63 63 61; labels 30; } > request.bin
+expect 'verdict 0'
+
+begin 'a request of 8,193'
+{ repeated 32 labels 63 63 63 61; labels 31; } > request.bin
+expect 'refused 1 at 0'
+
+# refusal 1 comes before 2
+begin 'a request of 8,193 zeros'
+head -c 8193 /dev/zero > request.bin
+expect 'refused 1 at 0'
+
+begin 'a request of 8,192 zeros'
+head -c 8192 /dev/zero > request.bin
+expect 'refused 2 at 0'
+
+begin 'a request of 100,000'
+head -c 100000 /dev/zero > request.bin
+expect 'refused 1 at 0'
+
+# Issuer name: 1 to 253 octets, labels of 1 to 63. 63 + 1 + 63 + 1 + 63 + 1 + 61 = 253.
+begin 'an issuer name of 1'
+letters 1 > issuer.txt
+expect 'verdict 0'
+
+begin 'an issuer name of 253'
+{ repeated 3 printf '%s.' "$(letters 63)"; letters 61; } > issuer.txt
+expect 'verdict 0'
+
+begin 'an issuer name of 254'
+{ repeated 3 printf '%s.' "$(letters 63)"; letters 62; } > issuer.txt
+expect 'refused 4 at 0'
+
+begin 'an issuer name of 100,000'
+letters 100000 > issuer.txt
+expect 'refused 4 at 0'
+
+begin 'an issuer name with a label of 63'
+{ letters 63; printf .net; } > issuer.txt
+expect 'verdict 0'
+
+begin 'an issuer name with a label of 64'
+{ letters 64; printf .net; } > issuer.txt
+expect 'refused 4 at 0'
+
+begin 'an issuer name with a closing dot'
+printf ca1.example.net. > issuer.txt
+expect 'refused 4 at 0'
+
+# Book: at most 256 records; what remains after 256 good ones is refusal 7, a bad one among them refusal 6.
+begin '256 records'
+repeated 256 other > book.bin
+expect 'verdict 0'
+
+begin '257 records'
+repeated 257 other > book.bin
+expect 'refused 7 at 256'
+
+begin 'an octet after 256 records'
+{ repeated 256 other; octets 64; } > book.bin
+expect 'refused 7 at 256'
+
+begin 'a bad 256th record'
+{ repeated 255 other; octets 64; } > book.bin
+expect 'refused 6 at 255'
+
+# records are numbered over the whole book, CAA or not
+begin 'the 256th record governs'
+{ repeated 255 other; caa example.com 0 issue ca2.example.org; } > book.bin
+expect 'verdict 21 name 0 record 255'
+
+# At most 32,768 octets: a root owner and the fields take 11, and the data the rest.
+begin 'a book of 32,768'
+{ octets 0; fields 16 32757; letters 32757; } > book.bin
+expect 'verdict 0'
+
+begin 'a book of 32,769'
+{ octets 0; fields 16 32758; letters 32758; } > book.bin
+expect 'refused 5 at 0'
+
+# refusal 5 comes before 6 and 7
+begin 'a book of 32,769 bad octets'
+head -c 32769 /dev/zero | tr '\0' '\377' > book.bin
+expect 'refused 5 at 0'
+
+begin 'a book of 32,768 bad octets'
+head -c 32768 /dev/zero | tr '\0' '\377' > book.bin
+expect 'refused 6 at 0'
+
+begin 'a book of 100,000'
+head -c 100000 /dev/zero > book.bin
+expect 'refused 5 at 0'
+
+# An owner has at most 255 octets, labels of at most 63, and may be the root.
+begin 'an owner of 255'
+{ labels 63 63 63 61; fields 1 0; } > book.bin
+expect 'verdict 0'
+
+begin 'an owner of 256'
+{ labels 63 63 63 62; fields 1 0; } > book.bin
+expect 'refused 6 at 0'
+
+begin 'an owner with a label of 63'
+{ other; labels 63 3; fields 1 0; } > book.bin
+expect 'verdict 0'
+
+begin 'an owner with a label of 64'
+{ other; labels 64 3; fields 1 0; } > book.bin
+expect 'refused 6 at 1'
+
+# the longest name is found under the longest owner
+begin 'a name and an owner of 255'
+labels 63 63 63 61 > request.bin
+{ labels 63 63 63 61; fields 257 7; octets 0 5; printf issue; } > book.bin
+expect 'verdict 21 name 0 record 0'
+
+# CAA data has at least 2 octets, a tag of at least one, and the tag within it. A tag that fills it leaves an empty value, which
+# governs and grants nobody.
+begin 'CAA data of 1'
+{ name example.com; fields 257 1; octets 0; } > book.bin
+expect 'refused 6 at 0'
+
+begin 'a tag of 0'
+{ name example.com; fields 257 2; octets 0 0; } > book.bin
+expect 'refused 6 at 0'
+
+begin 'a tag that fills the data'
+{ name example.com; fields 257 7; octets 0 5; printf issue; } > book.bin
+expect 'verdict 21 name 0 record 0'
+
+begin 'a tag past the data'
+{ name example.com; fields 257 7; octets 0 6; printf issue; } > book.bin
+expect 'refused 6 at 0'
+
+# The critical flag is the bit worth 128.
+begin 'an unknown tag with flags 128'
+caa example.com 128 tbs Unknown > book.bin
+expect 'verdict 20 name 0 record 0'
+
+begin 'an unknown tag with flags 127'
+caa example.com 127 tbs Unknown > book.bin
+expect 'verdict 0'
