@@ -13,7 +13,7 @@ second_program -- cases
 
 rt staticlib readers
 rt staticlib splinepearl
-second_program --features readers,judge,list -- library
+second_program --features readers,judge,list,lines -- library
 bash examples/link.sh
 
 rt check desk

@@ -8,17 +8,20 @@ use std::path::PathBuf;
 /// The environment variable that names the folder of the archives.
 const FOLDER: &str = "SPLINEPEARL_LIBS";
 
-/// A feature, as cargo tells build scripts of it, and the archive that it needs.
-const ARCHIVES: [(&str, &str); 2] = [
-    ("CARGO_FEATURE_READERS", "readers"),
-    ("CARGO_FEATURE_JUDGE", "splinepearl"),
+/// An archive, and the features that need it, as cargo tells build scripts of them.
+const ARCHIVES: [(&str, &[&str]); 2] = [
+    ("readers", &["CARGO_FEATURE_READERS"]),
+    (
+        "splinepearl",
+        &["CARGO_FEATURE_JUDGE", "CARGO_FEATURE_LINES"],
+    ),
 ];
 
 fn main() {
     println!("cargo::rerun-if-changed=build.rs");
     println!("cargo::rerun-if-env-changed={FOLDER}");
-    for (feature, library) in ARCHIVES {
-        if env::var_os(feature).is_some() {
+    for (library, features) in ARCHIVES {
+        if features.iter().any(|name| env::var_os(name).is_some()) {
             if let Err(why) = link(library) {
                 println!("cargo::error={why}");
             }

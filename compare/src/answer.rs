@@ -1,4 +1,4 @@
-//! What the two calls answer, with the numbers and places of the requirements.
+//! What the calls answer, with the numbers and places of the requirements.
 
 use std::fmt;
 
@@ -26,6 +26,12 @@ pub enum Refusal {
     BufferTooShort {
         needed: usize,
     },
+    BadLine,
+    /// The line or the data, whichever is given or made.
+    LineOrDataTooLong,
+    /// CAA data that can't be written as a line: laid out wrongly, or its tag holds something other
+    /// than letters and digits.
+    BadData,
 }
 
 impl Refusal {
@@ -39,12 +45,20 @@ impl Refusal {
             Refusal::BadRecord { .. } => 6,
             Refusal::TooManyRecords { .. } => 7,
             Refusal::BufferTooShort { .. } => 8,
+            Refusal::BadLine => 9,
+            Refusal::LineOrDataTooLong => 10,
+            Refusal::BadData => 11,
         }
     }
 
     pub fn place(self) -> usize {
         match self {
-            Refusal::RequestTooLong | Refusal::BadIssuer | Refusal::BookTooLong => 0,
+            Refusal::RequestTooLong
+            | Refusal::BadIssuer
+            | Refusal::BookTooLong
+            | Refusal::BadLine
+            | Refusal::LineOrDataTooLong
+            | Refusal::BadData => 0,
             Refusal::BadRequestedName { name } => name,
             Refusal::TooManyNames { read } | Refusal::TooManyRecords { read } => read,
             Refusal::BadRecord { record } => record,
@@ -110,6 +124,24 @@ impl fmt::Display for Permitted {
             Permitted::Anyone => write!(f, "anyone"),
             Permitted::List { count, octets } => write!(f, "list of {count} in {octets} octets"),
             Permitted::Refused(refusal) => refusal.fmt(f),
+        }
+    }
+}
+
+/// The answer of [`write_line`](crate::write_line) and [`read_line`](crate::read_line). What was
+/// made is in the buffer.
+#[derive(Clone, Copy, Debug, PartialEq, Eq)]
+pub enum Made {
+    /// So many octets at the front of the buffer.
+    Octets(usize),
+    Refused(Refusal),
+}
+
+impl fmt::Display for Made {
+    fn fmt(&self, f: &mut fmt::Formatter<'_>) -> fmt::Result {
+        match self {
+            Made::Octets(octets) => write!(f, "made {octets} octets"),
+            Made::Refused(refusal) => refusal.fmt(f),
         }
     }
 }

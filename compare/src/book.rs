@@ -12,27 +12,27 @@ const TYPE_CAA: u16 = 257;
 const CRITICAL: u8 = 128;
 
 #[derive(Clone, Debug)]
-pub struct Record {
-    pub owner: Name,
-    pub data: RecordData,
+pub struct Record<'a> {
+    pub owner: Name<'a>,
+    pub data: RecordData<'a>,
 }
 
 /// Records other than CAA keep no data: they are counted and passed over.
 #[derive(Clone, Debug)]
-pub enum RecordData {
-    Caa(Property),
+pub enum RecordData<'a> {
+    Caa(Property<'a>),
     Other,
 }
 
 /// What one CAA record says (RFC 8659 section 4.1).
-#[derive(Clone, Debug, PartialEq, Eq)]
-pub struct Property {
+#[derive(Clone, Copy, Debug, PartialEq, Eq)]
+pub struct Property<'a> {
     pub flags: u8,
-    pub tag: Vec<u8>,
-    pub value: Vec<u8>,
+    pub tag: &'a [u8],
+    pub value: &'a [u8],
 }
 
-impl Property {
+impl Property<'_> {
     pub fn is_critical(&self) -> bool {
         self.flags & CRITICAL != 0
     }
@@ -43,7 +43,7 @@ impl Property {
     }
 }
 
-pub fn read_book(octets: &[u8]) -> Result<Vec<Record>, Refusal> {
+pub fn read_book(octets: &[u8]) -> Result<Vec<Record<'_>>, Refusal> {
     if octets.len() > BOOK_OCTETS {
         return Err(Refusal::BookTooLong);
     }
@@ -61,7 +61,7 @@ pub fn read_book(octets: &[u8]) -> Result<Vec<Record>, Refusal> {
     Ok(records)
 }
 
-fn read_record(octets: &[u8]) -> Option<(Record, &[u8])> {
+fn read_record(octets: &[u8]) -> Option<(Record<'_>, &[u8])> {
     let (raw, rest) = read_raw_record(octets)?;
     let data = raw.data()?;
     let owner = raw.owner;
@@ -71,15 +71,15 @@ fn read_record(octets: &[u8]) -> Option<(Record, &[u8])> {
 /// A record as it is laid out, its data not looked into.
 #[derive(Clone, Debug)]
 pub struct RawRecord<'a> {
-    pub owner: Name,
+    pub owner: Name<'a>,
     pub rtype: u16,
     pub class: u16,
     pub rdata: &'a [u8],
 }
 
-impl RawRecord<'_> {
+impl<'a> RawRecord<'a> {
     /// `None` when CAA data is laid out wrongly.
-    pub fn data(&self) -> Option<RecordData> {
+    pub fn data(&self) -> Option<RecordData<'a>> {
         if self.class == CLASS_IN && self.rtype == TYPE_CAA {
             read_property(self.rdata).map(RecordData::Caa)
         } else {
@@ -111,17 +111,13 @@ fn read_number(octets: &[u8]) -> Option<(u16, &[u8])> {
 }
 
 /// Reads CAA data.
-pub fn read_property(rdata: &[u8]) -> Option<Property> {
+pub fn read_property(rdata: &[u8]) -> Option<Property<'_>> {
     let (&[flags, tag_length], rest) = rdata.split_first_chunk()?;
     let (tag, value) = rest.split_at_checked(usize::from(tag_length))?;
     if tag.is_empty() {
         return None;
     }
-    Some(Property {
-        flags,
-        tag: tag.to_vec(),
-        value: value.to_vec(),
-    })
+    Some(Property { flags, tag, value })
 }
 
 #[cfg(test)]
@@ -139,25 +135,26 @@ mod tests {
         octets
     }
 
-    fn only_property(octets: &[u8]) -> Property {
-        match &read_book(octets).unwrap()[..] {
+    fn only_property(octets: &[u8]) -> Property<'_> {
+        match read_book(octets).unwrap()[..] {
             [Record {
                 data: RecordData::Caa(property),
                 ..
-            }] => property.clone(),
-            other => panic!("not one CAA record: {other:?}"),
+            }] => property,
+            ref other => panic!("not one CAA record: {other:?}"),
         }
     }
 
     #[test]
     fn caa_data_is_flags_tag_and_value() {
-        let property = only_property(&record(257, 1, b"\x80\x05Issueca.net"));
+        let octets = record(257, 1, b"\x80\x05Issueca.net");
+        let property = only_property(&octets);
         assert_eq!(
             property,
             Property {
                 flags: 128,
-                tag: b"Issue".to_vec(),
-                value: b"ca.net".to_vec(),
+                tag: b"Issue",
+                value: b"ca.net",
             }
         );
         assert!(property.is_critical());

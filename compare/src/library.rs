@@ -7,9 +7,9 @@
 #![allow(unsafe_code)]
 
 use crate::against::Other;
-use crate::cases::{Judge, PermittedIssuers};
+use crate::calls::{Judge, Lines, PermittedIssuers};
 use crate::readers::Readers;
-#[cfg(any(feature = "readers", feature = "judge"))]
+#[cfg(any(feature = "readers", feature = "judge", feature = "lines"))]
 use crate::word::Word;
 
 /// What this build is linked with.
@@ -17,6 +17,7 @@ pub const LINKED: Other = Other {
     readers: READERS,
     judge: JUDGE,
     permitted_issuers: PERMITTED_ISSUERS,
+    lines: LINES,
 };
 
 #[allow(dead_code)] // What no feature links is never called.
@@ -47,6 +48,18 @@ extern "C" {
         request_length: usize,
         book: *const u8,
         book_length: usize,
+        buffer: *mut u8,
+        buffer_length: usize,
+    ) -> u64;
+    fn caa_write_line(
+        data: *const u8,
+        data_length: usize,
+        buffer: *mut u8,
+        buffer_length: usize,
+    ) -> u64;
+    fn caa_read_line(
+        line: *const u8,
+        line_length: usize,
         buffer: *mut u8,
         buffer_length: usize,
     ) -> u64;
@@ -103,3 +116,19 @@ const PERMITTED_ISSUERS: Option<PermittedIssuers> = Some(|request, book, buffer|
 });
 #[cfg(not(feature = "list"))]
 const PERMITTED_ISSUERS: Option<PermittedIssuers> = None;
+
+#[cfg(feature = "lines")]
+const LINES: Option<Lines> = Some(Lines {
+    write: |data, buffer| {
+        let (room, length) = (buffer.as_mut_ptr(), buffer.len());
+        let word = unsafe { caa_write_line(data.as_ptr(), data.len(), room, length) };
+        Word::unpacked(word).made()
+    },
+    read: |line, buffer| {
+        let (room, length) = (buffer.as_mut_ptr(), buffer.len());
+        let word = unsafe { caa_read_line(line.as_ptr(), line.len(), room, length) };
+        Word::unpacked(word).made()
+    },
+});
+#[cfg(not(feature = "lines"))]
+const LINES: Option<Lines> = None;

@@ -7,7 +7,8 @@ use std::process::ExitCode;
 
 use compare::against;
 use compare::bench;
-use compare::cases::{self, Case, Desk};
+use compare::calls::Desk;
+use compare::cases::{self, Case};
 use compare::desk::judge_folder;
 use compare::library;
 
@@ -17,10 +18,11 @@ usage: compare cases          run the stored cases
        compare library [--cases N] [--seed S]
                               compare the proved library's answers with ours, on the
                               stored cases and on N random ones (20000) from seed S (1);
-                              needs a build with --features readers, judge or list and
-                              SPLINEPEARL_LIBS set to the folder of the archives
-       compare bench          measure the proved library's judge next to ours; needs a
-                              build with --release --features judge and SPLINEPEARL_LIBS";
+                              needs a build with --features readers, judge, list or
+                              lines and SPLINEPEARL_LIBS set to the folder of the archives
+       compare bench          measure the proved library's calls next to ours; needs a
+                              build with --release, --features judge, list or lines and
+                              SPLINEPEARL_LIBS";
 
 fn main() -> ExitCode {
     let arguments: Vec<OsString> = env::args_os().skip(1).collect();
@@ -74,7 +76,7 @@ fn run_of(options: &[OsString]) -> Option<Run> {
 
 fn compare_library(run: Run) -> ExitCode {
     if library::LINKED.is_nothing() {
-        return wrong_use("compare: built without --features readers, judge or list");
+        return wrong_use("compare: built without --features readers, judge, list or lines");
     }
     with_stored_cases(|cases| {
         let comparison = against::compare(&library::LINKED, cases, run.cases, run.seed);
@@ -84,24 +86,22 @@ fn compare_library(run: Run) -> ExitCode {
 }
 
 fn run_bench() -> ExitCode {
-    let Some(theirs) = library::LINKED.judge else {
-        return wrong_use("compare: built without --features judge");
-    };
+    if !library::LINKED.has_calls() {
+        return wrong_use("compare: built without --features judge, list or lines");
+    }
     // Only ours would be slower, and the ratio worth nothing.
     if cfg!(debug_assertions) {
         return wrong_use("compare: bench needs a build with --release");
     }
     println!("{}", bench::heading());
     let mut good = true;
-    for load in bench::loads() {
-        match bench::measure(&load, theirs) {
-            Ok(measured) => println!("{measured}"),
-            Err(difference) => {
-                good = false;
-                println!("differ: {difference}");
-            }
+    bench::run(&library::LINKED, |measured| match measured {
+        Ok(measured) => println!("{measured}"),
+        Err(difference) => {
+            good = false;
+            println!("differ: {difference}");
         }
-    }
+    });
     if good {
         ExitCode::SUCCESS
     } else {

@@ -1,53 +1,67 @@
 //! Domain names in the wire form of RFC 1035 section 3.1, without compression.
 
+use std::iter::successors;
+
 use crate::limits::{LABEL_OCTETS, NAME_OCTETS};
 
-/// A label holds any octets here; who needs letters, digits and hyphens asks [`is_ldh_label`].
-pub type Label = Vec<u8>;
-
-/// A name as its labels, leftmost first. No label at all is the root.
-#[derive(Clone, Debug)]
-pub struct Name {
-    pub labels: Vec<Label>,
+/// A name of any octets, laid out rightly; who needs letters, digits and hyphens asks
+/// [`is_ldh_label`].
+#[derive(Clone, Copy, Debug)]
+pub struct Name<'a> {
+    /// Each label behind its length octet, and the closing zero.
+    wire: &'a [u8],
 }
 
-impl Name {
+impl<'a> Name<'a> {
     /// The name itself, its parent, and so on up to its top label. The root is not among them.
-    pub fn ancestors(&self) -> impl Iterator<Item = &[Label]> {
-        (0..self.labels.len()).map(|taken_off| &self.labels[taken_off..])
+    pub fn ancestors(self) -> impl Iterator<Item = Name<'a>> {
+        let climb = successors(Some(self), |name| Some(name.split_first()?.1));
+        climb.take_while(|name| !name.is_root())
     }
 
-    /// Whether both names are the same whole name, `A` to `Z` counting as `a` to `z`.
-    pub fn is(&self, other: &[Label]) -> bool {
-        self.labels.len() == other.len()
-            && self
-                .labels
-                .iter()
-                .zip(other)
-                .all(|(mine, others)| mine.eq_ignore_ascii_case(others))
+    /// Leftmost first.
+    pub fn labels(self) -> impl Iterator<Item = &'a [u8]> {
+        self.ancestors()
+            .filter_map(|name| Some(name.split_first()?.0))
+    }
+
+    pub fn is_root(self) -> bool {
+        self.wire == [0]
+    }
+
+    /// The first label and the name under it; `None` for the root.
+    pub fn split_first(self) -> Option<(&'a [u8], Name<'a>)> {
+        if self.is_root() {
+            return None;
+        }
+        let (&length, rest) = self.wire.split_first()?;
+        let (label, wire) = rest.split_at(usize::from(length));
+        Some((label, Name { wire }))
+    }
+
+    /// Whether both are the same whole name, `A` to `Z` counting as `a` to `z`. No length octet is a
+    /// letter, so the folding can't make one label of two.
+    pub fn is(self, other: Name) -> bool {
+        self.wire.len() == other.wire.len() && self.wire.eq_ignore_ascii_case(other.wire)
     }
 }
 
 /// Reads one name at the front of `octets` and hands back what stands behind it. `None` when the
 /// octets end within the name, a length octet is above 63 or the name is over 255 octets.
-pub fn read_name(octets: &[u8]) -> Option<(Name, &[u8])> {
-    let mut labels = Vec::new();
-    let mut rest = octets;
+pub fn read_name(octets: &[u8]) -> Option<(Name<'_>, &[u8])> {
+    let mut end = 0;
     loop {
-        let (&length, behind) = rest.split_first()?;
-        let length = usize::from(length);
+        let length = usize::from(*octets.get(end)?);
         if length > LABEL_OCTETS {
             return None;
         }
-        let (label, behind) = behind.split_at_checked(length)?;
-        rest = behind;
+        end += 1 + length;
         if length == 0 {
             break;
         }
-        labels.push(label.to_vec());
     }
-    let wire_octets = octets.len() - rest.len();
-    (wire_octets <= NAME_OCTETS).then_some((Name { labels }, rest))
+    let (wire, rest) = octets.split_at(end);
+    (end <= NAME_OCTETS).then_some((Name { wire }, rest))
 }
 
 /// Letters, digits and hyphens, no hyphen first or last (the `label` of RFC 8659 section 4.2). The
@@ -65,24 +79,25 @@ pub fn is_ldh_label(label: &[u8]) -> bool {
 mod tests {
     use super::*;
 
-    fn name(labels: &[&[u8]]) -> Name {
-        Name {
-            labels: labels.iter().map(|label| label.to_vec()).collect(),
+    fn name(wire: &[u8]) -> Name<'_> {
+        match read_name(wire) {
+            Some((name, b"")) => name,
+            other => panic!("not one name: {other:?}"),
         }
     }
 
     #[test]
     fn reads_one_name_and_leaves_the_rest() {
         let (read, rest) = read_name(b"\x03www\x02at\x00\x01x").unwrap();
-        assert_eq!(read.labels, [b"www".to_vec(), b"at".to_vec()]);
+        assert!(read.labels().eq([&b"www"[..], b"at"]));
         assert_eq!(rest, b"\x01x");
     }
 
     #[test]
     fn reads_the_root() {
-        let (read, rest) = read_name(b"\x00").unwrap();
-        assert!(read.labels.is_empty());
-        assert!(rest.is_empty());
+        let root = name(b"\x00");
+        assert!(root.is_root());
+        assert_eq!(root.labels().count(), 0);
     }
 
     #[test]
@@ -99,24 +114,27 @@ mod tests {
 
     #[test]
     fn only_a_to_z_fold() {
-        assert!(name(&[b"AZ", b"m"]).is(&name(&[b"az", b"M"]).labels));
-        assert!(!name(&[b"@"]).is(&name(&[b"`"]).labels));
-        assert!(!name(&[b"["]).is(&name(&[b"{"]).labels));
-        assert!(!name(&[b"a\x0Db"]).is(&name(&[b"a-b"]).labels));
-        assert!(!name(&[b"\xC4"]).is(&name(&[b"\xE4"]).labels));
+        let same = |one, other| name(one).is(name(other));
+        assert!(same(b"\x02AZ\x01m\x00", b"\x02az\x01M\x00"));
+        assert!(!same(b"\x01@\x00", b"\x01`\x00"));
+        assert!(!same(b"\x01[\x00", b"\x01{\x00"));
+        assert!(!same(b"\x03a\x0Db\x00", b"\x03a-b\x00"));
+        assert!(!same(b"\x01\xC4\x00", b"\x01\xE4\x00"));
     }
 
     #[test]
     fn names_are_compared_whole_and_by_label() {
-        assert!(!name(&[b"a", b"b"]).is(&name(&[b"b"]).labels));
-        assert!(!name(&[b"a", b"b"]).is(&name(&[b"a"]).labels));
-        assert!(!name(&[b"a.b"]).is(&name(&[b"a", b"b"]).labels));
+        let same = |one, other| name(one).is(name(other));
+        assert!(!same(b"\x01a\x01b\x00", b"\x01b\x00"));
+        assert!(!same(b"\x01a\x01b\x00", b"\x01a\x00"));
+        assert!(!same(b"\x03a.b\x00", b"\x01a\x01b\x00"));
+        assert!(!same(b"\x03a\x01b\x00", b"\x01b\x00"));
     }
 
     #[test]
     fn ancestors_stop_before_the_root() {
-        let read = name(&[b"a", b"b", b"c"]);
-        let lengths: Vec<usize> = read.ancestors().map(<[Label]>::len).collect();
+        let read = name(b"\x01a\x01b\x01c\x00");
+        let lengths: Vec<usize> = read.ancestors().map(|name| name.labels().count()).collect();
         assert_eq!(lengths, [3, 2, 1]);
     }
 

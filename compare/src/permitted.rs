@@ -1,10 +1,13 @@
 //! Who may sign this request?
 
+use std::collections::HashSet;
+
 use crate::answer::{Permitted, Refusal};
 use crate::book::read_book;
 use crate::issuer::IssuerName;
+use crate::lent::put_at_front;
 use crate::request::read_request;
-use crate::rule::{standing, Standing};
+use crate::rule::{caa_records, standing, Standing};
 
 /// Writes the permitted issuer names to the front of `buffer`, each as a length octet and the name
 /// in small letters. Nothing else of the buffer changes; on a refusal and on "anyone" nothing does.
@@ -15,41 +18,44 @@ pub fn permitted_issuers(request: &[u8], book: &[u8], buffer: &mut [u8]) -> Perm
 fn list(request: &[u8], book: &[u8], buffer: &mut [u8]) -> Result<Permitted, Refusal> {
     let names = read_request(request)?;
     let book = read_book(book)?;
-    let restricted: Vec<Standing> = names
+    let records = caa_records(&book);
+    let mut restricted = names
         .iter()
-        .map(|name| standing(&book, name))
-        .filter(|standing| *standing != Standing::Unrestricted)
-        .collect();
-    let Some(lowest) = restricted.first() else {
+        .map(|name| standing(&records, name))
+        .filter(|standing| *standing != Standing::Unrestricted);
+    let Some(lowest) = restricted.next() else {
         return Ok(Permitted::Anyone);
     };
-    let issuers = granted_by_all(lowest, &restricted);
+    let issuers = granted_by_all(lowest, restricted);
     let encoded: Vec<u8> = issuers.iter().flat_map(list_entry).collect();
-    let needed = encoded.len();
-    buffer
-        .get_mut(..needed)
-        .ok_or(Refusal::BufferTooShort { needed })?
-        .copy_from_slice(&encoded);
+    put_at_front(&encoded, buffer)?;
     Ok(Permitted::List {
         count: issuers.len(),
-        octets: needed,
+        octets: encoded.len(),
     })
 }
 
-/// The grantees of the lowest restricted name that every restricted name permits, each once, in the
-/// order of the first record that grants it.
-fn granted_by_all<'a>(lowest: &'a Standing, restricted: &[Standing]) -> Vec<&'a IssuerName> {
-    let candidates = match lowest {
-        Standing::Governed { grantees, .. } => grantees.as_slice(),
-        Standing::Unrestricted | Standing::UnknownCritical { .. } => &[],
-    };
-    let mut listed = Vec::new();
-    for candidate in candidates {
-        if !listed.contains(&candidate) && restricted.iter().all(|s| s.permits(candidate)) {
-            listed.push(candidate);
-        }
+/// The grantees of the lowest restricted name that the others grant too, each once, in the order of
+/// the first record that grants it.
+fn granted_by_all<'a>(
+    lowest: Standing<'a>,
+    others: impl Iterator<Item = Standing<'a>>,
+) -> Vec<&'a IssuerName> {
+    let mut seen = HashSet::new();
+    let mut issuers = grantees(lowest);
+    issuers.retain(|issuer| seen.insert(*issuer));
+    for other in others {
+        let granted: HashSet<&IssuerName> = grantees(other).into_iter().collect();
+        issuers.retain(|issuer| granted.contains(issuer));
     }
-    listed
+    issuers
+}
+
+fn grantees(restricted: Standing<'_>) -> Vec<&IssuerName> {
+    match restricted {
+        Standing::Governed { grantees, .. } => grantees,
+        Standing::Unrestricted | Standing::UnknownCritical { .. } => Vec::new(),
+    }
 }
 
 /// An issuer name is at most 253 octets, so its length always fits one octet.

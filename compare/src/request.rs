@@ -6,14 +6,14 @@ use crate::name::{is_ldh_label, read_name, Name};
 
 /// A requested name X or `*.X`.
 #[derive(Clone, Debug)]
-pub struct RequestedName {
+pub struct RequestedName<'a> {
     /// Whether `*.X` was asked for (a Wildcard Domain Name, RFC 8659 section 2.2).
     pub wildcard: bool,
     /// X; never the root.
-    pub fqdn: Name,
+    pub fqdn: Name<'a>,
 }
 
-pub fn read_request(octets: &[u8]) -> Result<Vec<RequestedName>, Refusal> {
+pub fn read_request(octets: &[u8]) -> Result<Vec<RequestedName<'_>>, Refusal> {
     if octets.len() > REQUEST_OCTETS {
         return Err(Refusal::RequestTooLong);
     }
@@ -36,13 +36,13 @@ pub fn read_request(octets: &[u8]) -> Result<Vec<RequestedName>, Refusal> {
 }
 
 /// Reads one requested name at the front of `octets` and hands back what stands behind it.
-pub fn read_requested_name(octets: &[u8]) -> Option<(RequestedName, &[u8])> {
-    let (mut fqdn, rest) = read_name(octets)?;
-    let wildcard = fqdn.labels.first().is_some_and(|label| label == b"*");
-    if wildcard {
-        fqdn.labels.remove(0);
-    }
-    let good = !fqdn.labels.is_empty() && fqdn.labels.iter().all(|label| is_ldh_label(label));
+pub fn read_requested_name(octets: &[u8]) -> Option<(RequestedName<'_>, &[u8])> {
+    let (name, rest) = read_name(octets)?;
+    let (wildcard, fqdn) = match name.split_first()? {
+        (b"*", under_it) => (true, under_it),
+        _ => (false, name),
+    };
+    let good = !fqdn.is_root() && fqdn.labels().all(is_ldh_label);
     good.then_some((RequestedName { wildcard, fqdn }, rest))
 }
 
@@ -59,9 +59,9 @@ mod tests {
         let names = read_request(b"\x01*\x01a\x02bc\x00\x01a\x00").unwrap();
         assert_eq!(names.len(), 2);
         assert!(names[0].wildcard);
-        assert_eq!(names[0].fqdn.labels, [b"a".to_vec(), b"bc".to_vec()]);
+        assert!(names[0].fqdn.labels().eq([&b"a"[..], b"bc"]));
         assert!(!names[1].wildcard);
-        assert_eq!(names[1].fqdn.labels, [b"a".to_vec()]);
+        assert!(names[1].fqdn.labels().eq([b"a"]));
     }
 
     #[test]

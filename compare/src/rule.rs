@@ -2,7 +2,7 @@
 
 use crate::book::{Property, Record, RecordData};
 use crate::issuer::IssuerName;
-use crate::name::Label;
+use crate::name::Name;
 use crate::request::RequestedName;
 use crate::value::read_value;
 
@@ -11,12 +11,76 @@ const ISSUEWILD: &str = "issuewild";
 const IODEF: &str = "iodef";
 pub const KNOWN_TAGS: [&str; 3] = [ISSUE, ISSUEWILD, IODEF];
 
-/// A property with the number of its record.
-type Numbered<'a> = (usize, &'a Property);
+/// A CAA record as the rule sees it, read once for all requested names.
+#[derive(Debug)]
+pub struct CaaRecord<'a> {
+    number: usize,
+    owner: Name<'a>,
+    says: Says,
+}
+
+/// What a CAA record says on issuing. A grant names whom it grants, if anybody: one that grants
+/// nobody still governs.
+#[derive(Debug)]
+enum Says {
+    Issue(Option<IssuerName>),
+    IssueWild(Option<IssuerName>),
+    UnknownCritical,
+    Nothing,
+}
+
+/// A record that governs: its number, and whom it grants.
+type Governing<'a> = (usize, Option<&'a IssuerName>);
+
+impl CaaRecord<'_> {
+    fn issue(&self) -> Option<Governing<'_>> {
+        match &self.says {
+            Says::Issue(grantee) => Some((self.number, grantee.as_ref())),
+            _ => None,
+        }
+    }
+
+    fn issuewild(&self) -> Option<Governing<'_>> {
+        match &self.says {
+            Says::IssueWild(grantee) => Some((self.number, grantee.as_ref())),
+            _ => None,
+        }
+    }
+
+    fn is_unknown_critical(&self) -> bool {
+        matches!(self.says, Says::UnknownCritical)
+    }
+}
+
+/// The CAA records of a book, under the numbers that they have there.
+pub fn caa_records<'a>(book: &'a [Record<'a>]) -> Vec<CaaRecord<'a>> {
+    let caa = |(number, record): (usize, &'a Record<'a>)| match &record.data {
+        RecordData::Caa(property) => Some(CaaRecord {
+            number,
+            owner: record.owner,
+            says: said_by(property),
+        }),
+        RecordData::Other => None,
+    };
+    book.iter().enumerate().filter_map(caa).collect()
+}
+
+fn said_by(property: &Property) -> Says {
+    let grantee = || read_value(property.value).grantee();
+    if property.has_tag(ISSUE) {
+        Says::Issue(grantee())
+    } else if property.has_tag(ISSUEWILD) {
+        Says::IssueWild(grantee())
+    } else if property.is_critical() && !property.has_tag(IODEF) {
+        Says::UnknownCritical
+    } else {
+        Says::Nothing
+    }
+}
 
 /// How a requested name stands. In all cases but the first it is restricted.
 #[derive(Clone, Debug, PartialEq, Eq)]
-pub enum Standing {
+pub enum Standing<'a> {
     Unrestricted,
     /// Granted to nobody; `record` is the first unknown critical one.
     UnknownCritical {
@@ -26,27 +90,16 @@ pub enum Standing {
     /// the first record that governs, whether or not it grants anybody.
     Governed {
         first_governing: usize,
-        grantees: Vec<IssuerName>,
+        grantees: Vec<&'a IssuerName>,
     },
 }
 
-impl Standing {
-    pub fn permits(&self, issuer: &IssuerName) -> bool {
-        match self {
-            Standing::Unrestricted => true,
-            Standing::UnknownCritical { .. } => false,
-            Standing::Governed { grantees, .. } => grantees.contains(issuer),
-        }
-    }
-}
-
-pub fn standing(book: &[Record], name: &RequestedName) -> Standing {
-    let relevant = relevant_set(book, name);
-    let unknown_critical = relevant
-        .iter()
-        .find(|(_, property)| property.is_critical() && !is_known(property));
-    if let Some(&(record, _)) = unknown_critical {
-        return Standing::UnknownCritical { record };
+pub fn standing<'a>(records: &'a [CaaRecord], name: &RequestedName) -> Standing<'a> {
+    let relevant = relevant_set(records, name);
+    if let Some(record) = relevant.iter().find(|record| record.is_unknown_critical()) {
+        return Standing::UnknownCritical {
+            record: record.number,
+        };
     }
     let governing = governing_records(&relevant, name.wildcard);
     match governing.first() {
@@ -55,7 +108,7 @@ pub fn standing(book: &[Record], name: &RequestedName) -> Standing {
             first_governing,
             grantees: governing
                 .iter()
-                .filter_map(|(_, property)| read_value(&property.value).grantee())
+                .filter_map(|(_, grantee)| *grantee)
                 .collect(),
         },
     }
@@ -63,42 +116,25 @@ pub fn standing(book: &[Record], name: &RequestedName) -> Standing {
 
 /// The CAA records of the nearest name that has any; empty when none has (RFC 8659 section 3). What
 /// they say plays no part: a set of `iodef` alone ends the climb too.
-fn relevant_set<'a>(book: &'a [Record], name: &RequestedName) -> Vec<Numbered<'a>> {
+fn relevant_set<'a>(records: &'a [CaaRecord<'a>], name: &RequestedName) -> Vec<&'a CaaRecord<'a>> {
     name.fqdn
         .ancestors()
-        .map(|ancestor| caa_records(book, ancestor))
+        .map(|ancestor| owned_by(ancestor, records))
         .find(|found| !found.is_empty())
         .unwrap_or_default()
 }
 
-fn caa_records<'a>(book: &'a [Record], owner: &[Label]) -> Vec<Numbered<'a>> {
-    book.iter()
-        .enumerate()
-        .filter(|(_, record)| record.owner.is(owner))
-        .filter_map(|(number, record)| match &record.data {
-            RecordData::Caa(property) => Some((number, property)),
-            RecordData::Other => None,
-        })
-        .collect()
-}
-
-fn is_known(property: &Property) -> bool {
-    KNOWN_TAGS.iter().any(|tag| property.has_tag(tag))
+fn owned_by<'a>(owner: Name, records: &'a [CaaRecord<'a>]) -> Vec<&'a CaaRecord<'a>> {
+    let owned = |record: &&CaaRecord| record.owner.is(owner);
+    records.iter().filter(owned).collect()
 }
 
 /// Once there is an `issuewild`, no `issue` counts for a wildcard (RFC 8659 section 4.3).
-fn governing_records<'a>(relevant: &[Numbered<'a>], wildcard: bool) -> Vec<Numbered<'a>> {
-    let with_tag = |tag: &str| -> Vec<Numbered<'a>> {
-        relevant
-            .iter()
-            .filter(|(_, property)| property.has_tag(tag))
-            .copied()
-            .collect()
-    };
-    let issuewild = with_tag(ISSUEWILD);
+fn governing_records<'a>(relevant: &[&'a CaaRecord], wildcard: bool) -> Vec<Governing<'a>> {
+    let issuewild: Vec<_> = relevant.iter().filter_map(|r| r.issuewild()).collect();
     if wildcard && !issuewild.is_empty() {
         issuewild
     } else {
-        with_tag(ISSUE)
+        relevant.iter().filter_map(|r| r.issue()).collect()
     }
 }

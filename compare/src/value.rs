@@ -73,7 +73,8 @@ pub fn leading_blanks(octets: &[u8]) -> usize {
         .unwrap_or(octets.len())
 }
 
-fn is_blank(octet: u8) -> bool {
+/// Blanks are space and tab.
+pub fn is_blank(octet: u8) -> bool {
     matches!(octet, b' ' | b'\t')
 }
 

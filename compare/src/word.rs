@@ -2,7 +2,7 @@
 
 use std::fmt;
 
-use crate::answer::{Answer, Permitted, Refusal};
+use crate::answer::{Answer, Made, Permitted, Refusal};
 
 /// Number in bits 0 to 7, `a` in bits 8 to 31, `b` in bits 32 to 47, `c` in bits 48 to 63. A field
 /// that an answer has no use for is 0.
@@ -60,6 +60,15 @@ impl Word {
         }
     }
 
+    /// What the word says as an answer of writing or reading a line; the word itself where it says
+    /// none.
+    pub fn made(self) -> Result<Made, Word> {
+        match self.fields() {
+            (0, octets, 0, 0) => Ok(Made::Octets(octets)),
+            _ => self.refused().map(Made::Refused).ok_or(self),
+        }
+    }
+
     fn refused(self) -> Option<Refusal> {
         match self.fields() {
             (1, 0, 0, 0) => Some(Refusal::RequestTooLong),
@@ -70,6 +79,9 @@ impl Word {
             (6, record, 0, 0) => Some(Refusal::BadRecord { record }),
             (7, read, 0, 0) => Some(Refusal::TooManyRecords { read }),
             (8, needed, 0, 0) => Some(Refusal::BufferTooShort { needed }),
+            (9, 0, 0, 0) => Some(Refusal::BadLine),
+            (10, 0, 0, 0) => Some(Refusal::LineOrDataTooLong),
+            (11, 0, 0, 0) => Some(Refusal::BadData),
             _ => None,
         }
     }
@@ -130,12 +142,17 @@ mod tests {
                 octets: 32
             })
         );
+        assert_eq!(Word::with(0, [23, 0, 0]).made(), Ok(Made::Octets(23)));
+        assert_eq!(
+            Word::with(8, [23, 0, 0]).made(),
+            Ok(Made::Refused(Refusal::BufferTooShort { needed: 23 }))
+        );
     }
 
     #[test]
     fn what_is_no_answer_stays_a_word() {
         for word in [
-            Word::number(9),
+            Word::number(12),
             Word::number(30),
             Word::with(0, [1, 0, 0]),
             Word::with(4, [1, 0, 0]),
@@ -146,6 +163,9 @@ mod tests {
         }
         for word in [Word::number(0), Word::number(20), Word::with(30, [1, 0, 0])] {
             assert_eq!(word.permitted(), Err(word));
+        }
+        for word in [Word::number(12), Word::with(9, [1, 0, 0])] {
+            assert_eq!(word.made(), Err(word));
         }
     }
 }

@@ -35,7 +35,21 @@ fn stored_cases_are_run() {
     assert!(output.stdout.ends_with(b" cases, 0 wrong\n"));
 }
 
-#[cfg(not(any(feature = "readers", feature = "judge")))]
+/// One line closed by octet 10.
+#[test]
+fn a_folder_is_judged() {
+    for (folder, line) in [
+        ("../examples/whole-case", "verdict 21 name 1 record 3\n"),
+        ("../examples/no-such-folder", "no book\n"),
+    ] {
+        let output = run(&["judge", folder]);
+        assert!(output.status.success());
+        assert_eq!(String::from_utf8(output.stdout).unwrap(), line);
+        assert!(output.stderr.is_empty());
+    }
+}
+
+#[cfg(not(any(feature = "readers", feature = "judge", feature = "lines")))]
 #[test]
 fn without_a_library_there_is_nothing_to_compare() {
     let output = run(&["library", "--seed", "2", "--cases", "1"]);
@@ -45,7 +59,7 @@ fn without_a_library_there_is_nothing_to_compare() {
 
 /// Never a run that measures: those take their time, and what they find is no matter of right or
 /// wrong.
-#[cfg(any(debug_assertions, not(feature = "judge")))]
+#[cfg(any(debug_assertions, not(any(feature = "judge", feature = "lines"))))]
 #[test]
 fn nothing_is_measured_without_a_library_or_in_a_slow_build() {
     let output = run(&["bench"]);

@@ -4,8 +4,9 @@ use std::collections::HashSet;
 use std::fs;
 use std::path::Path;
 
-use compare::cases::{self, run, Desk};
-use compare::{permitted_issuers, Answer, Permitted, Word};
+use compare::calls::{Convert, Desk, Lines};
+use compare::cases::{self, run};
+use compare::{permitted_issuers, read_line, write_line, Answer, Made, Permitted, Word};
 
 #[test]
 fn every_stored_case_is_answered_rightly() {
@@ -86,5 +87,57 @@ fn a_touched_octet_is_found_out() {
                 ..Desk::OWN
             }) > 50
         );
+    }
+}
+
+#[test]
+fn wrong_lines_are_found_out() {
+    let nothing: Convert = |_, _| Ok(Made::Octets(0));
+    let small_tags: Convert = |line, buffer| {
+        let made = read_line(line, buffer);
+        if let Made::Octets(octets) = made {
+            buffer[..octets].make_ascii_lowercase();
+        }
+        Ok(made)
+    };
+    let clears_the_rest: Convert = |data, buffer| {
+        let made = write_line(data, buffer);
+        if let Made::Octets(octets) = made {
+            buffer[octets..].fill(0);
+        }
+        Ok(made)
+    };
+    let own = Desk::OWN.lines;
+    for (lines, at_least) in [
+        (
+            Lines {
+                write: nothing,
+                ..own
+            },
+            10,
+        ),
+        (
+            Lines {
+                read: nothing,
+                ..own
+            },
+            20,
+        ),
+        (
+            Lines {
+                read: small_tags,
+                ..own
+            },
+            3,
+        ),
+        (
+            Lines {
+                write: clears_the_rest,
+                ..own
+            },
+            10,
+        ),
+    ] {
+        assert!(wrong_cases(Desk { lines, ..Desk::OWN }) >= at_least);
     }
 }

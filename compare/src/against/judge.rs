@@ -1,8 +1,10 @@
 //! The judge against ours.
 
 use super::log::{Call, Differences, Tally};
+use super::Part;
 use crate::answer::Answer;
-use crate::cases::{told, Judge};
+use crate::calls::{told, Judge};
+use crate::cases::Case;
 use crate::generate::Inputs;
 use crate::judge::judge;
 
@@ -35,25 +37,42 @@ impl JudgeComparison {
         }
     }
 
-    pub fn into_tally(self) -> Tally {
-        self.tally
+    fn compare(
+        &mut self,
+        request: &[u8],
+        issuer: &[u8],
+        book: &[u8],
+        differences: &mut Differences,
+    ) {
+        let ours = judge(request, issuer, book);
+        let theirs = (self.theirs)(request, issuer, book);
+        self.tally.count(kind(ours));
+        if theirs != Ok(ours) {
+            let inputs = [("request", request), ("issuer", issuer), ("book", book)];
+            differences.tell(&JUDGE, &inputs, told(theirs), ours);
+        }
+    }
+}
+
+impl Part for JudgeComparison {
+    fn stored(&mut self, case: &Case, differences: &mut Differences) {
+        for issuer in case.issuers() {
+            self.compare(&case.request, issuer, &case.book, differences);
+        }
     }
 
-    pub fn random(&mut self, inputs: &Inputs, differences: &mut Differences) {
+    fn random(&mut self, inputs: &Inputs, differences: &mut Differences) {
         let Inputs {
             request,
             issuer,
             book,
             ..
         } = inputs;
-        let ours = judge(request, issuer, book);
-        let theirs = (self.theirs)(request, issuer, book);
-        self.tally.count(kind(ours));
-        if theirs != Ok(ours) {
-            let inputs: [(&str, &[u8]); 3] =
-                [("request", request), ("issuer", issuer), ("book", book)];
-            differences.tell(&JUDGE, &inputs, told(theirs), ours);
-        }
+        self.compare(request, issuer, book, differences);
+    }
+
+    fn into_tallies(self: Box<Self>) -> Vec<Tally> {
+        vec![self.tally]
     }
 }
 

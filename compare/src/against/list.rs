@@ -1,10 +1,11 @@
 //! Who may issue against ours: the answer and every octet of the buffer.
 
-use std::ops::Range;
-
+use super::lent::{sizes_to_try, Lent};
 use super::log::{Call, Differences, Tally};
+use super::Part;
 use crate::answer::{Permitted, Refusal};
-use crate::cases::{told, PermittedIssuers};
+use crate::calls::{told, PermittedIssuers};
+use crate::cases::Case;
 use crate::generate::{Generator, Inputs};
 use crate::permitted::permitted_issuers;
 
@@ -30,11 +31,6 @@ const LIST_OF_NONE: u8 = 31;
 /// A list of so many names or more is one kind.
 const MANY: u8 = 3;
 
-/// Octets on both sides of a lent buffer, which have to stay as well.
-const MARGIN: usize = 16;
-/// How far the tried sizes are from the size needed.
-const AROUND: usize = 3;
-
 pub struct ListComparison {
     theirs: PermittedIssuers,
     generator: Generator,
@@ -50,73 +46,74 @@ impl ListComparison {
         }
     }
 
-    pub fn into_tally(self) -> Tally {
-        self.tally
-    }
-
-    /// Counts the answer for the inputs' own buffer; then the sizes around the one needed.
-    pub fn random(&mut self, inputs: &Inputs, differences: &mut Differences) {
-        let answer = self.with_buffer(inputs, &inputs.buffer, differences);
+    /// Counts the answer for the buffer given; then tries the sizes around the one needed.
+    fn compare(
+        &mut self,
+        request: &[u8],
+        book: &[u8],
+        buffer: &[u8],
+        differences: &mut Differences,
+    ) {
+        let answer = self.with_buffer(request, book, buffer, differences);
         self.tally.count(kind(answer));
-        for size in sizes_to_try(answer) {
+        for size in sizes_to_try(needed(answer)) {
             let buffer = self.generator.buffer(size);
-            self.with_buffer(inputs, &buffer, differences);
+            self.with_buffer(request, book, &buffer, differences);
         }
     }
 
     fn with_buffer(
         &mut self,
-        inputs: &Inputs,
+        request: &[u8],
+        book: &[u8],
         buffer: &[u8],
         differences: &mut Differences,
     ) -> Permitted {
-        let Inputs { request, book, .. } = inputs;
-        let margins = [self.generator.buffer(MARGIN), self.generator.buffer(MARGIN)];
-        let lent = MARGIN..MARGIN + buffer.len();
-        let mut our_octets = [&margins[0], buffer, &margins[1]].concat();
-        let mut their_octets = our_octets.clone();
-        let ours = permitted_issuers(request, book, &mut our_octets[lent.clone()]);
-        let theirs = (self.theirs)(request, book, &mut their_octets[lent.clone()]);
-        if theirs != Ok(ours) || their_octets != our_octets {
-            let inputs: [(&str, &[u8]); 3] =
-                [("request", request), ("book", book), ("buffer", buffer)];
-            let left = |octets: &[u8]| left_behind(octets, &their_octets, &our_octets, &lent);
+        let mut lent = Lent::new(buffer, &mut self.generator);
+        let ours = permitted_issuers(request, book, lent.ours());
+        let theirs = (self.theirs)(request, book, lent.theirs());
+        let left = lent.difference();
+        if theirs != Ok(ours) || left.is_some() {
+            let inputs = [("request", request), ("book", book), ("buffer", buffer)];
+            let [they_left, we_left] = left.unwrap_or_default();
             differences.tell(
                 &LIST,
                 &inputs,
-                format!("{}{}", told(theirs), left(&their_octets)),
-                format!("{ours}{}", left(&our_octets)),
+                format!("{}{they_left}", told(theirs)),
+                format!("{ours}{we_left}"),
             );
         }
         ours
     }
 }
 
-/// What stands at the first place where the octets differ, if they do.
-fn left_behind(octets: &[u8], theirs: &[u8], ours: &[u8], lent: &Range<usize>) -> String {
-    match (0..ours.len()).find(|&place| theirs[place] != ours[place]) {
-        None => String::new(),
-        Some(place) => {
-            let octet = octets[place];
-            if place < lent.start {
-                format!("; {octet:02X} {} before the buffer", lent.start - place)
-            } else if place < lent.end {
-                format!("; {octet:02X} at {} of the buffer", place - lent.start)
-            } else {
-                format!("; {octet:02X} {} behind the buffer", place - lent.end)
-            }
-        }
+impl Part for ListComparison {
+    fn stored(&mut self, case: &Case, differences: &mut Differences) {
+        let buffer = self.generator.buffer(case.book.len());
+        self.compare(&case.request, &case.book, &buffer, differences);
+    }
+
+    fn random(&mut self, inputs: &Inputs, differences: &mut Differences) {
+        let Inputs {
+            request,
+            book,
+            buffer,
+            ..
+        } = inputs;
+        self.compare(request, book, buffer, differences);
+    }
+
+    fn into_tallies(self: Box<Self>) -> Vec<Tally> {
+        vec![self.tally]
     }
 }
 
-/// Nothing needs no room, so for "anyone" and the refusals before room, no room at all.
-fn sizes_to_try(answer: Permitted) -> Range<usize> {
+/// The room that the answer needs, where it can need any.
+fn needed(answer: Permitted) -> Option<usize> {
     match answer {
-        Permitted::List { octets: needed, .. }
-        | Permitted::Refused(Refusal::BufferTooShort { needed }) => {
-            needed.saturating_sub(AROUND)..needed + AROUND + 1
-        }
-        Permitted::Anyone | Permitted::Refused(_) => 0..1,
+        Permitted::List { octets, .. } => Some(octets),
+        Permitted::Refused(Refusal::BufferTooShort { needed }) => Some(needed),
+        Permitted::Anyone | Permitted::Refused(_) => None,
     }
 }
 

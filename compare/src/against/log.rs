@@ -88,3 +88,24 @@ impl Differences {
         self.told.push(lines);
     }
 }
+
+#[cfg(test)]
+mod tests {
+    use super::*;
+
+    #[test]
+    fn what_came_too_seldom_is_told() {
+        static CALL: Call = Call {
+            name: "check",
+            kinds: &[(0, "accepted"), (4, "refused 4")],
+        };
+        let mut tally = Tally::new(&CALL);
+        for kind in [0, 4, 0] {
+            tally.count(kind);
+        }
+        assert_eq!(tally.rarer_than(1).count(), 0);
+        let told: Vec<String> = tally.rarer_than(2).collect();
+        assert_eq!(told, ["too rare: check refused 4: 1 times of 2"]);
+        assert_eq!(tally.rarer_than(3).count(), 2);
+    }
+}

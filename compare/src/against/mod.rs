@@ -1,22 +1,26 @@
 //! Another implementation's answers against ours, on the stored cases and on random ones.
 
 mod judge;
+mod lent;
+mod lines;
 mod list;
 mod log;
 mod readers;
 
 use std::fmt;
 
-use crate::cases::{self, Case, Desk, Judge, PermittedIssuers, Report};
-use crate::generate::Generator;
+use crate::calls::{Desk, Judge, Lines, PermittedIssuers};
+use crate::cases::{self, Case, Report};
+use crate::generate::{Generator, Inputs};
 use crate::readers::Readers;
 use judge::JudgeComparison;
+use lines::LinesComparison;
 use list::ListComparison;
 use log::{Differences, Tally};
 use readers::ReadersComparison;
 
 /// A run of so many cases or more is worth something only if each kind of answer comes
-/// [`WANTED_TIMES`].
+/// `WANTED_TIMES`.
 pub const LONG_RUN: usize = 20_000;
 const WANTED_TIMES: usize = 100;
 
@@ -26,30 +30,46 @@ pub struct Other {
     pub readers: Option<Readers>,
     pub judge: Option<Judge>,
     pub permitted_issuers: Option<PermittedIssuers>,
+    pub lines: Option<Lines>,
 }
 
 impl Other {
+    pub const NOTHING: Other = Other {
+        readers: None,
+        judge: None,
+        permitted_issuers: None,
+        lines: None,
+    };
+
     /// This package's own.
     pub const OWN: Other = Other {
         readers: Some(Readers::OWN),
         judge: Some(Desk::OWN.judge),
         permitted_issuers: Some(Desk::OWN.permitted_issuers),
+        lines: Some(Desk::OWN.lines),
     };
 
     pub fn is_nothing(&self) -> bool {
-        self.readers.is_none() && self.desk().is_none()
+        self.readers.is_none() && !self.has_calls()
     }
 
-    /// Its calls, with ours for the one it has not; `None` without any.
+    /// Whether there is more than readers.
+    pub fn has_calls(&self) -> bool {
+        self.judge.is_some() || self.permitted_issuers.is_some() || self.lines.is_some()
+    }
+
+    /// Its calls, with ours for those it has not; `None` without any.
     fn desk(&self) -> Option<Desk> {
         let Other {
             judge,
             permitted_issuers,
+            lines,
             ..
         } = *self;
-        (judge.is_some() || permitted_issuers.is_some()).then(|| Desk {
+        self.has_calls().then(|| Desk {
             judge: judge.unwrap_or(Desk::OWN.judge),
             permitted_issuers: permitted_issuers.unwrap_or(Desk::OWN.permitted_issuers),
+            lines: lines.unwrap_or(Desk::OWN.lines),
         })
     }
 }
@@ -101,45 +121,47 @@ impl fmt::Display for Comparison {
     }
 }
 
-/// Compares all that the other has: on the stored cases, and on so many random ones. Each part has a
-/// generator of its own, so that its cases don't depend on the other parts.
-pub fn compare(other: &Other, stored: &[Case], cases: usize, seed: u64) -> Comparison {
-    let mut generator = Generator::new(seed);
-    let mut readers = other.readers.map(|r| ReadersComparison::new(r, seed));
-    let mut judge = other.judge.map(JudgeComparison::new);
-    let mut list = other
-        .permitted_issuers
-        .map(|call| ListComparison::new(call, seed));
-    let mut differences = Differences::default();
+/// A part of the other implementation, compared by itself. Each has a generator of its own where it
+/// needs one, so that its cases don't depend on the other parts.
+trait Part {
+    /// All short inputs of some kinds, for parts that take short ones.
+    fn short_ones(&mut self, _: &mut Differences) {}
 
-    if let Some(readers) = &mut readers {
-        readers.short_slices(&mut differences);
+    fn stored(&mut self, case: &Case, differences: &mut Differences);
+
+    fn random(&mut self, inputs: &Inputs, differences: &mut Differences);
+
+    /// What was found out about the part, apart from its answers.
+    fn remark(&self) -> Option<String> {
+        None
+    }
+
+    fn into_tallies(self: Box<Self>) -> Vec<Tally>;
+}
+
+/// Compares all that the other has: on short inputs, on the stored cases, and on so many random
+/// ones.
+pub fn compare(other: &Other, stored: &[Case], cases: usize, seed: u64) -> Comparison {
+    let mut parts = parts(other, seed);
+    let mut differences = Differences::default();
+    for part in &mut parts {
+        part.short_ones(&mut differences);
         for case in stored {
-            readers.stored(case, &mut differences);
+            part.stored(case, &mut differences);
         }
     }
+    let mut generator = Generator::new(seed);
     let mut done = 0;
     while done < cases && !differences.are_enough() {
         let inputs = generator.inputs();
-        if let Some(readers) = &mut readers {
-            readers.random(&inputs, &mut differences);
-        }
-        if let Some(judge) = &mut judge {
-            judge.random(&inputs, &mut differences);
-        }
-        if let Some(list) = &mut list {
-            list.random(&inputs, &mut differences);
+        for part in &mut parts {
+            part.random(&inputs, &mut differences);
         }
         done += 1;
     }
 
-    let remarks = readers.iter().map(|readers| readers.remark()).collect();
-    let tallies: Vec<Tally> = readers
-        .into_iter()
-        .flat_map(ReadersComparison::into_tallies)
-        .chain(judge.map(JudgeComparison::into_tally))
-        .chain(list.map(ListComparison::into_tally))
-        .collect();
+    let remarks = parts.iter().filter_map(|part| part.remark()).collect();
+    let tallies: Vec<Tally> = parts.into_iter().flat_map(|p| p.into_tallies()).collect();
     let wanted = if done < LONG_RUN { 0 } else { WANTED_TIMES };
     let too_rare = tallies.iter().flat_map(|t| t.rarer_than(wanted)).collect();
     Comparison {
@@ -150,4 +172,21 @@ pub fn compare(other: &Other, stored: &[Case], cases: usize, seed: u64) -> Compa
         remarks,
         tallies,
     }
+}
+
+fn parts(other: &Other, seed: u64) -> Vec<Box<dyn Part>> {
+    let mut parts: Vec<Box<dyn Part>> = Vec::new();
+    if let Some(readers) = other.readers {
+        parts.push(Box::new(ReadersComparison::new(readers, seed)));
+    }
+    if let Some(judge) = other.judge {
+        parts.push(Box::new(JudgeComparison::new(judge)));
+    }
+    if let Some(list) = other.permitted_issuers {
+        parts.push(Box::new(ListComparison::new(list, seed)));
+    }
+    if let Some(lines) = other.lines {
+        parts.push(Box::new(LinesComparison::new(lines, seed)));
+    }
+    parts
 }

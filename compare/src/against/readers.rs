@@ -1,8 +1,9 @@
 //! The readers against ours.
 
 use super::log::{Call, Differences, Tally};
+use super::Part;
 use crate::cases::Case;
-use crate::generate::{Generator, Inputs};
+use crate::generate::{every_slice, Generator, Inputs};
 use crate::readers::{AtPlace, OfOctets, Readers};
 use crate::word::Word;
 
@@ -108,65 +109,6 @@ impl ReadersComparison {
         }
     }
 
-    pub fn into_tallies(self) -> impl Iterator<Item = Tally> {
-        let Self {
-            of_octets,
-            at_place,
-            same,
-            ..
-        } = self;
-        of_octets.into_iter().chain(at_place).chain([same])
-    }
-
-    pub fn remark(&self) -> String {
-        let is = if self.caa_data_is_read {
-            "is"
-        } else {
-            "is not"
-        };
-        format!("record: wrong CAA data {is} a fault of the record")
-    }
-
-    /// Every slice of up to two octets, every pair of octets, and every slice of some octets more.
-    pub fn short_slices(&mut self, differences: &mut Differences) {
-        let every_octet: Vec<u8> = (0..=255).collect();
-        for octets in every_slice(&every_octet, 2) {
-            self.look(&octets, differences);
-            if let [one, other] = octets[..] {
-                self.same(&[one], &[other], differences);
-            }
-        }
-        for (alphabet, up_to) in EXHAUSTED {
-            for octets in every_slice(alphabet, up_to) {
-                self.look(&octets, differences);
-            }
-        }
-    }
-
-    pub fn stored(&mut self, case: &Case, differences: &mut Differences) {
-        self.look_closely(&case.request, differences);
-        self.look_closely(&case.book, differences);
-        for octets in case.issuers().chain(case.values()) {
-            self.look_closely(octets, differences);
-        }
-    }
-
-    pub fn random(&mut self, inputs: &Inputs, differences: &mut Differences) {
-        for octets in [&inputs.request, &inputs.issuer, &inputs.book] {
-            self.look(octets, differences);
-        }
-        let octets = self.generator.slice();
-        self.look_closely(&octets, differences);
-        if octets.len() <= SHORT {
-            // Behind each of these stands what belongs there, so that reading on would find it.
-            for end in 0..octets.len() {
-                self.look(&octets[..end], differences);
-            }
-        }
-        let (one, other) = self.generator.pair();
-        self.same(&one, &other, differences);
-    }
-
     /// The readers of octets, and those of a place from 0 on to where each says that the next is.
     fn look(&mut self, octets: &[u8], differences: &mut Differences) {
         for reader in 0..OF_OCTETS.len() {
@@ -248,6 +190,77 @@ impl ReadersComparison {
     }
 }
 
+impl Part for ReadersComparison {
+    /// Every slice of up to two octets, every pair of octets, and every slice of some octets more.
+    fn short_ones(&mut self, differences: &mut Differences) {
+        let every_octet: Vec<u8> = (0..=255).collect();
+        for octets in every_slice(&every_octet, 2) {
+            if differences.are_enough() {
+                return;
+            }
+            self.look(&octets, differences);
+            if let [one, other] = octets[..] {
+                self.same(&[one], &[other], differences);
+            }
+        }
+        for (alphabet, up_to) in EXHAUSTED {
+            for octets in every_slice(alphabet, up_to) {
+                if differences.are_enough() {
+                    return;
+                }
+                self.look(&octets, differences);
+            }
+        }
+    }
+
+    fn stored(&mut self, case: &Case, differences: &mut Differences) {
+        self.look_closely(&case.request, differences);
+        self.look_closely(&case.book, differences);
+        for octets in case.issuers().chain(case.values()) {
+            self.look_closely(octets, differences);
+        }
+    }
+
+    fn random(&mut self, inputs: &Inputs, differences: &mut Differences) {
+        for octets in [&inputs.request, &inputs.issuer, &inputs.book] {
+            self.look(octets, differences);
+        }
+        let octets = self.generator.slice();
+        self.look_closely(&octets, differences);
+        if octets.len() <= SHORT {
+            // Behind each of these stands what belongs there, so that reading on would find it.
+            for end in 0..octets.len() {
+                self.look(&octets[..end], differences);
+            }
+        }
+        let (one, other) = self.generator.pair();
+        self.same(&one, &other, differences);
+    }
+
+    fn remark(&self) -> Option<String> {
+        let is = if self.caa_data_is_read {
+            "is"
+        } else {
+            "is not"
+        };
+        Some(format!("record: wrong CAA data {is} a fault of the record"))
+    }
+
+    fn into_tallies(self: Box<Self>) -> Vec<Tally> {
+        let Self {
+            of_octets,
+            at_place,
+            same,
+            ..
+        } = *self;
+        of_octets
+            .into_iter()
+            .chain(at_place)
+            .chain([same])
+            .collect()
+    }
+}
+
 fn of_octets(readers: &Readers) -> [OfOctets; 6] {
     [
         readers.check_request,
@@ -261,31 +274,4 @@ fn of_octets(readers: &Readers) -> [OfOctets; 6] {
 
 fn at_place(readers: &Readers) -> [AtPlace; 3] {
     [readers.name_end, readers.requested_name, readers.record]
-}
-
-/// Every slice of octets of the alphabet, up to that length.
-fn every_slice(alphabet: &[u8], up_to: usize) -> impl Iterator<Item = Vec<u8>> + '_ {
-    (0..=up_to).flat_map(move |length| {
-        (0..alphabet.len().pow(length as u32)).map(move |number| {
-            let mut rest = number;
-            let next_digit = |_| {
-                let digit = rest % alphabet.len();
-                rest /= alphabet.len();
-                alphabet[digit]
-            };
-            (0..length).map(next_digit).collect()
-        })
-    })
-}
-
-#[cfg(test)]
-mod tests {
-    use super::*;
-
-    #[test]
-    fn every_slice_comes_once() {
-        let slices: Vec<Vec<u8>> = every_slice(b"ab", 2).collect();
-        let expected: [&[u8]; 7] = [b"", b"a", b"b", b"aa", b"ba", b"ab", b"bb"];
-        assert_eq!(slices, expected);
-    }
 }

@@ -1,16 +1,17 @@
 //! Stored cases: inputs in a readable notation, and the answers worked out by hand for them. The
 //! notation is described in `cases/README.md`.
 
+mod check;
 mod notation;
 mod reader;
 mod runner;
 
 pub use notation::to_hex;
 pub use reader::{read_cases, Case};
-pub use runner::{run, told, Desk, Judge, PermittedIssuers, Report};
+pub use runner::{run, Report};
 
 /// Every stored case file, by name.
-pub const FILES: [(&str, &str); 8] = [
+pub const FILES: [(&str, &str); 9] = [
     ("whole-case.txt", include_str!("../../cases/whole-case.txt")),
     ("rfc8659.txt", include_str!("../../cases/rfc8659.txt")),
     ("values.txt", include_str!("../../cases/values.txt")),
@@ -19,6 +20,7 @@ pub const FILES: [(&str, &str); 8] = [
     ("request.txt", include_str!("../../cases/request.txt")),
     ("issuer.txt", include_str!("../../cases/issuer.txt")),
     ("book.txt", include_str!("../../cases/book.txt")),
+    ("lines.txt", include_str!("../../cases/lines.txt")),
 ];
 
 /// The cases of all files.

@@ -8,7 +8,7 @@ struct Written {
 }
 
 /// Text: printable ASCII as it stands, `\DDD` an octet by decimal number, `\` before any other
-/// character that character, and `{N}` behind an octet for N of it.
+/// character that character, `{N}` behind an octet for N of it, and `{N:TEXT}` for N times that text.
 pub fn text(notation: &str) -> Result<Vec<u8>, String> {
     Ok(written(notation)?.iter().map(|w| w.octet).collect())
 }
@@ -50,7 +50,7 @@ pub fn hex(notation: &str) -> Result<Vec<u8>, String> {
     Ok(octets)
 }
 
-/// Writes octets so that [`hex`] reads them; four or more of an octet in a row as a repeat.
+/// Writes octets so that `hex` reads them; four or more of an octet in a row as a repeat.
 pub fn to_hex(octets: &[u8]) -> String {
     let run_in_hex = |run: &[u8]| match run {
         [octet, _, _, _, ..] => format!("{octet:02X}{{{}}}", run.len()),
@@ -67,16 +67,14 @@ fn written(notation: &str) -> Result<Vec<Written>, String> {
     let mut octets = Vec::new();
     let mut rest = notation;
     while !rest.is_empty() {
-        let (one, behind) = one_octet(rest)?;
-        match repeat(behind)? {
-            Some((times, behind)) => {
-                octets.extend(vec![one; times]);
-                rest = behind;
-            }
-            None => {
-                octets.push(one);
-                rest = behind;
-            }
+        if let Some((times, group, behind)) = repeated_group(rest)? {
+            octets.extend(written(group)?.repeat(times));
+            rest = behind;
+        } else {
+            let (one, behind) = one_octet(rest)?;
+            let (times, behind) = repeat(behind)?.unwrap_or((1, behind));
+            octets.extend(vec![one; times]);
+            rest = behind;
         }
     }
     Ok(octets)
@@ -97,6 +95,7 @@ fn one_octet(notation: &str) -> Result<(Written, &str), String> {
         return Ok((Written { octet, escaped }, behind));
     }
     match rest.as_bytes().first() {
+        Some(b'{') if !escaped => Err(format!("`{notation}` repeats nothing")),
         Some(&octet @ b' '..=b'~') => Ok((Written { octet, escaped }, &rest[1..])),
         _ => Err(format!("`{notation}` holds no printable ASCII here")),
     }
@@ -104,14 +103,52 @@ fn one_octet(notation: &str) -> Result<(Written, &str), String> {
 
 /// A `{N}` at the front, and what stands behind it.
 fn repeat(notation: &str) -> Result<Option<(usize, &str)>, String> {
-    let Some(behind) = notation.strip_prefix('{') else {
-        return Ok(None);
-    };
-    let (times, behind) = behind.split_once('}').ok_or("a `{` without its `}`")?;
-    let times = times
+    match braces(notation)? {
+        Some((times, behind)) if !times.contains(':') => Ok(Some((number(times)?, behind))),
+        _ => Ok(None),
+    }
+}
+
+/// A `{N:TEXT}` at the front: how often, the text, and what stands behind it.
+fn repeated_group(notation: &str) -> Result<Option<(usize, &str, &str)>, String> {
+    match braces(notation)? {
+        Some((inside, behind)) => match inside.split_once(':') {
+            Some((times, group)) => Ok(Some((number(times)?, group, behind))),
+            None => Ok(None),
+        },
+        None => Ok(None),
+    }
+}
+
+/// What stands in braces at the front, and what stands behind them.
+fn braces(notation: &str) -> Result<Option<(&str, &str)>, String> {
+    match notation.strip_prefix('{') {
+        Some(inside) => Ok(Some(inside.split_once('}').ok_or("a `{` without its `}`")?)),
+        None => Ok(None),
+    }
+}
+
+/// Text in double quotes.
+pub fn quoted(notation: &str) -> Result<Vec<u8>, String> {
+    let inside = notation
+        .strip_prefix('"')
+        .and_then(|rest| rest.strip_suffix('"'))
+        .ok_or_else(|| format!("`{notation}` is not in quotes"))?;
+    text(inside)
+}
+
+pub fn number<N: std::str::FromStr>(digits: &str) -> Result<N, String> {
+    digits
         .parse()
-        .map_err(|_| format!("`{times}` is no number"))?;
-    Ok(Some((times, behind)))
+        .map_err(|_| format!("`{digits}` is no number"))
+}
+
+/// The first word and what follows it, blanks between taken off.
+pub fn word(line: &str) -> (&str, &str) {
+    match line.split_once(' ') {
+        Some((first, rest)) => (first, rest.trim_start()),
+        None => (line, ""),
+    }
 }
 
 #[cfg(test)]
@@ -123,12 +160,15 @@ mod tests {
         assert_eq!(text(r#"a\"\\\010b{3}"#).unwrap(), b"a\"\\\nbbb");
         assert_eq!(text(r"\000{2}\255").unwrap(), b"\0\0\xFF");
         assert_eq!(text(r"\{1").unwrap(), b"{1");
+        assert_eq!(text(r"x{2:a\\000}y").unwrap(), b"xa\\000a\\000y");
         assert_eq!(text("").unwrap(), b"");
     }
 
     #[test]
     fn what_is_no_text_is_told() {
-        for wrong in ["\\", "\\1", "\\25", "\\256", "a{", "a{x}", "\u{e4}", "\t"] {
+        for wrong in [
+            "\\", "\\1", "\\25", "\\256", "a{", "a{x}", "{2}", "{x:a}", "\u{e4}", "\t",
+        ] {
             assert!(text(wrong).is_err(), "{wrong:?}");
         }
     }

@@ -1,6 +1,7 @@
 //! Reads case files.
 
-use super::notation::{hex, text, wire_name};
+use super::check::Check;
+use super::notation::{hex, number, quoted, text, wire_name, word};
 
 /// Inputs and what has to be answered for them.
 pub struct Case {
@@ -26,27 +27,22 @@ impl Case {
             _ => None,
         })
     }
-}
 
-pub(super) enum Check {
-    /// The line that the desk has to give for this issuer name.
-    Judge { issuer: Vec<u8>, line: String },
-    /// Who may issue, with a buffer of `room` octets, or as long as the book.
-    Permitted {
-        room: Option<usize>,
-        answer: ExpectedPermitted,
-    },
-    /// How a property value reads.
-    Value { octets: Vec<u8>, reading: String },
-}
+    /// The CAA data that is written as lines.
+    pub fn data(&self) -> impl Iterator<Item = &[u8]> {
+        self.checks.iter().filter_map(|check| match check {
+            Check::Write { data, .. } => Some(data.as_slice()),
+            _ => None,
+        })
+    }
 
-pub(super) enum ExpectedPermitted {
-    List {
-        count: usize,
-        octets: Vec<u8>,
-    },
-    /// "anyone" or a refusal, in words.
-    Nothing(String),
+    /// The lines that are read.
+    pub fn lines(&self) -> impl Iterator<Item = &[u8]> {
+        self.checks.iter().filter_map(|check| match check {
+            Check::Read { line, .. } => Some(line.as_slice()),
+            _ => None,
+        })
+    }
 }
 
 /// Reads the cases of one file; an error names the file and line.
@@ -94,72 +90,13 @@ fn read_directive(case: &mut Case, directive: &str, rest: &str) -> Result<(), St
         "request-hex" => case.request.extend(hex(rest)?),
         "record" => case.book.extend(record(rest)?),
         "book-hex" => case.book.extend(hex(rest)?),
-        "judge" | "permitted" | "value" => {
-            let (given, expected) = rest.rsplit_once("=>").ok_or("no `=>`")?;
-            let check = check(directive, given.trim(), expected.trim())?;
-            case.checks.push(check);
+        _ => {
+            let check = Check::read(directive, rest)
+                .ok_or_else(|| format!("`{directive}` is no directive"))?;
+            case.checks.push(check?);
         }
-        _ => return Err(format!("`{directive}` is no directive")),
     }
     Ok(())
-}
-
-fn check(directive: &str, given: &str, expected: &str) -> Result<Check, String> {
-    Ok(match directive {
-        "judge" => Check::Judge {
-            issuer: text(given)?,
-            line: expected.to_string(),
-        },
-        "permitted" => Check::Permitted {
-            room: room(given)?,
-            answer: expected_permitted(expected)?,
-        },
-        _ => Check::Value {
-            octets: quoted(given)?,
-            reading: expected.to_string(),
-        },
-    })
-}
-
-fn room(given: &str) -> Result<Option<usize>, String> {
-    match word(given) {
-        ("", _) => Ok(None),
-        ("room", octets) => Ok(Some(number(octets)?)),
-        _ => Err(format!("`{given}` is no room")),
-    }
-}
-
-fn expected_permitted(expected: &str) -> Result<ExpectedPermitted, String> {
-    match word(expected) {
-        ("list", names) => {
-            let names = names
-                .split_whitespace()
-                .map(text)
-                .collect::<Result<Vec<_>, _>>()?;
-            let mut octets = Vec::new();
-            for name in &names {
-                octets.push(u8::try_from(name.len()).map_err(|_| "a name over 255 octets")?);
-                octets.extend(name);
-            }
-            Ok(ExpectedPermitted::List {
-                count: names.len(),
-                octets,
-            })
-        }
-        ("list-hex", rest) => {
-            let (count, rest) = word(rest);
-            let (length, rest) = word(rest);
-            let octets = hex(rest)?;
-            if octets.len() != number(length)? {
-                return Err(format!("{} octets are given", octets.len()));
-            }
-            Ok(ExpectedPermitted::List {
-                count: number(count)?,
-                octets,
-            })
-        }
-        _ => Ok(ExpectedPermitted::Nothing(expected.to_string())),
-    }
 }
 
 /// A resource record: `OWNER CAA FLAGS TAG "VALUE"` or `OWNER CLASSn TYPEn HEX`. The time to live
@@ -199,28 +136,6 @@ fn two_octets(number: usize) -> Result<[u8; 2], String> {
     Ok(number.to_be_bytes())
 }
 
-fn quoted(notation: &str) -> Result<Vec<u8>, String> {
-    let inside = notation
-        .strip_prefix('"')
-        .and_then(|rest| rest.strip_suffix('"'))
-        .ok_or_else(|| format!("`{notation}` is not in quotes"))?;
-    text(inside)
-}
-
-fn number<N: std::str::FromStr>(digits: &str) -> Result<N, String> {
-    digits
-        .parse()
-        .map_err(|_| format!("`{digits}` is no number"))
-}
-
-/// The first word and what follows it, blanks between taken off.
-fn word(line: &str) -> (&str, &str) {
-    match line.split_once(' ') {
-        Some((first, rest)) => (first, rest.trim_start()),
-        None => (line, ""),
-    }
-}
-
 #[cfg(test)]
 mod tests {
     use super::*;
@@ -247,8 +162,11 @@ mod tests {
             "case x\nrequest a..b\njudge a => verdict 0",
             "case x\nrecord a CAA 256 issue \"\"\njudge a => verdict 0",
             "case x\npermitted room => anyone",
+            "case x\npermitted frown => anyone",
             "case x\npermitted => list-hex 1 3 01 61",
             "case x\nvalue ; => no name",
+            "case x\nwrite room 9 \\0 => refused 11 at 0",
+            "case x\nread 0 a b => data \\256",
         ] {
             let mistake = read_cases("f", wrong).err().expect(wrong);
             assert!(mistake.starts_with("f:"), "{mistake}");

@@ -2,34 +2,12 @@
 
 use std::fmt;
 
-use super::reader::{Case, Check, ExpectedPermitted};
-use crate::answer::{Answer, Permitted};
-use crate::judge::judge;
-use crate::permitted::permitted_issuers;
+use super::check::{Check, Expected};
+use super::reader::Case;
+use crate::calls::{told, Desk};
+use crate::lent::MARGIN;
+use crate::limits::LINE_OCTETS;
 use crate::value::{read_value, IssueValue};
-use crate::word::Word;
-
-/// Takes request, issuer name and book. Another implementation may answer with a word that is no
-/// answer.
-pub type Judge = fn(&[u8], &[u8], &[u8]) -> Result<Answer, Word>;
-
-/// Takes request, book and buffer.
-pub type PermittedIssuers = fn(&[u8], &[u8], &mut [u8]) -> Result<Permitted, Word>;
-
-/// The two calls to be tried, whoever made them.
-#[derive(Clone, Copy)]
-pub struct Desk {
-    pub judge: Judge,
-    pub permitted_issuers: PermittedIssuers,
-}
-
-impl Desk {
-    /// This package's own.
-    pub const OWN: Desk = Desk {
-        judge: |request, issuer, book| Ok(judge(request, issuer, book)),
-        permitted_issuers: |request, book, buffer| Ok(permitted_issuers(request, book, buffer)),
-    };
-}
 
 /// How many cases were run, and one line for each that went wrong.
 pub struct Report {
@@ -68,14 +46,41 @@ pub fn run(desk: Desk, cases: &[Case]) -> Report {
 
 fn try_one(desk: Desk, case: &Case, check: &Check) -> Result<(), String> {
     match check {
-        Check::Judge { issuer, line } => {
+        Check::Judge { issuer, verdict } => {
             let answer = (desk.judge)(&case.request, issuer, &case.book);
             let issuer = issuer.escape_ascii();
-            expect(&format!("judge {issuer}"), line, &told(answer))
+            expect(&format!("judge {issuer}"), verdict, &told(answer))
         }
-        Check::Permitted { room, answer } => {
+        Check::Permitted { room, expected } => {
             let room = room.unwrap_or(case.book.len());
-            try_permitted(desk, case, room, answer)
+            try_with_buffer(
+                &format!("permitted room {room}"),
+                room,
+                expected,
+                |buffer| told((desk.permitted_issuers)(&case.request, &case.book, buffer)),
+            )
+        }
+        Check::Write {
+            data,
+            room,
+            expected,
+        } => {
+            let room = room.unwrap_or(LINE_OCTETS);
+            let what = format!("write room {room} {}", shown(data));
+            try_with_buffer(&what, room, expected, |buffer| {
+                told((desk.lines.write)(data, buffer))
+            })
+        }
+        Check::Read {
+            line,
+            room,
+            expected,
+        } => {
+            let room = room.unwrap_or(line.len());
+            let what = format!("read room {room} {}", shown(line));
+            try_with_buffer(&what, room, expected, |buffer| {
+                told((desk.lines.read)(line, buffer))
+            })
         }
         Check::Value { octets, reading } => {
             let value = octets.escape_ascii();
@@ -90,47 +95,41 @@ fn try_one(desk: Desk, case: &Case, check: &Check) -> Result<(), String> {
 
 /// Tries two fillings of the buffer that agree in no octet: an octet left as it was can't pass for a
 /// written one in both.
-fn try_permitted(
-    desk: Desk,
-    case: &Case,
+fn try_with_buffer(
+    what: &str,
     room: usize,
-    answer: &ExpectedPermitted,
+    expected: &Expected,
+    call: impl Fn(&mut [u8]) -> String,
 ) -> Result<(), String> {
-    let what = format!("permitted room {room}");
-    let (line, list): (String, &[u8]) = match answer {
-        ExpectedPermitted::Nothing(line) => (line.clone(), &[]),
-        ExpectedPermitted::List { count, octets } => {
-            let list = Permitted::List {
-                count: *count,
-                octets: octets.len(),
-            };
-            (list.to_string(), octets)
-        }
-    };
+    let Expected { answer, front } = expected;
+    if front.len() > room {
+        return Err(format!("{what}: what is expected has no room"));
+    }
     for mask in [0x00, 0xFF] {
-        let before: Vec<u8> = (0..room).map(|place| place as u8 ^ mask).collect();
-        let mut buffer = before.clone();
-        let answer = (desk.permitted_issuers)(&case.request, &case.book, &mut buffer);
-        expect(&what, &line, &told(answer))?;
-        let (front, rest) = buffer
-            .split_at_checked(list.len())
-            .ok_or_else(|| format!("{what}: the expected list has no room"))?;
-        if front != list {
-            let front = front.escape_ascii();
-            return Err(format!("{what}: wrong list octets \"{front}\""));
-        }
-        if *rest != before[list.len()..] {
-            return Err(format!("{what}: octets behind the list were changed"));
+        let before: Vec<u8> = (0..MARGIN + room + MARGIN)
+            .map(|place| place as u8 ^ mask)
+            .collect();
+        let mut octets = before.clone();
+        expect(what, answer, &call(&mut octets[MARGIN..MARGIN + room]))?;
+        let mut wanted = before;
+        wanted[MARGIN..MARGIN + front.len()].copy_from_slice(front);
+        if let Some(place) = (0..wanted.len()).find(|&place| octets[place] != wanted[place]) {
+            let (left, wanted) = (octets[place], wanted[place]);
+            let place = place as isize - MARGIN as isize;
+            return Err(format!(
+                "{what}: expected {wanted:02X} at {place} of the buffer, got {left:02X}"
+            ));
         }
     }
     Ok(())
 }
 
-/// An answer in words, or the word that is none.
-pub fn told(answer: Result<impl fmt::Display, Word>) -> String {
-    match answer {
-        Ok(answer) => answer.to_string(),
-        Err(word) => format!("no answer: {word}"),
+/// The octets, or the front of them where they are many.
+fn shown(octets: &[u8]) -> String {
+    const FEW: usize = 64;
+    match octets.get(..FEW) {
+        Some(front) => format!("{} .. ({} octets)", front.escape_ascii(), octets.len()),
+        None => octets.escape_ascii().to_string(),
     }
 }
 

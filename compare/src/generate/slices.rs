@@ -1,6 +1,7 @@
 //! Octets for the readers, and pairs of texts.
 
-use super::{Generator, KNOWN_TAGS, UNKNOWN_TAGS};
+use super::books::{KNOWN_TAGS, UNKNOWN_TAGS};
+use super::Generator;
 
 /// Octets that mean something in wire form, so that names and records come by chance.
 const WIRE_ALPHABET: [u8; 12] = [0, 0, 0, 1, 1, 1, 2, b'a', b'-', b'*', 64, 0xC0];
@@ -68,11 +69,6 @@ impl Generator {
         } else {
             (other, one)
         }
-    }
-
-    fn octets_of(&mut self, alphabet: &[u8], at_most: usize) -> Vec<u8> {
-        let length = self.below(at_most + 1);
-        (0..length).map(|_| self.one_of(alphabet)).collect()
     }
 
     /// A record of some 65,536 octets, and names and records behind it at places that need 17 bits.

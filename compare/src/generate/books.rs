@@ -1,0 +1,110 @@
+//! Books: some records, as many or as long as may be, or many of one owner.
+
+use super::Generator;
+use crate::limits::{BOOK_OCTETS, BOOK_RECORDS};
+
+pub(super) const KNOWN_TAGS: [&[u8]; 3] = [b"issue", b"issuewild", b"iodef"];
+pub(super) const UNKNOWN_TAGS: [&[u8]; 5] = [b"tbs", b"issu", b"issues", b"issuewil", b"tb_s"];
+pub(super) const FLAGS: [u8; 6] = [0, 1, 127, 128, 129, 255];
+const PARAMETERS: [&[u8]; 6] = [b"", b" ", b"a=1", b" a = 1 ; b=", b"a=;", b"a-b=1"];
+const BLANKS: [&[u8]; 4] = [b"", b"", b" ", b"\t "];
+const NOISE: [&[u8]; 6] = [b".", b"-", b"%", b";", b"\n", b" z"];
+
+impl Generator {
+    /// A good book of 0 to 15 records.
+    pub fn book(&mut self) -> Vec<u8> {
+        let records = self.below(16);
+        (0..records).flat_map(|_| self.record()).collect()
+    }
+
+    /// Good records end to end, around the limit of a book's octets.
+    pub(super) fn long_book(&mut self) -> Vec<u8> {
+        let mut octets = self.book();
+        let padding = BOOK_OCTETS - 1 + self.below(4) - octets.len() - 11;
+        octets.extend(self.record_of(vec![0], 16, 1, &vec![0xFF; padding]));
+        octets
+    }
+
+    pub(super) fn many_records(&mut self) -> Vec<u8> {
+        let records = BOOK_RECORDS - 1 + self.below(3);
+        (0..records).flat_map(|_| self.record()).collect()
+    }
+
+    /// Many grants for one name, some of them twice and more.
+    pub(super) fn crowded_book(&mut self) -> Vec<u8> {
+        let records = self.below(BOOK_RECORDS + 1);
+        let grant = |_| {
+            let tag = self.near_front(&KNOWN_TAGS);
+            let issuer = format!("x{}", self.below(200));
+            let rdata = [
+                &[0, tag.len() as u8],
+                tag,
+                &self.any_case(issuer.as_bytes()),
+            ]
+            .concat();
+            self.record_of(b"\x01c\x00".to_vec(), 257, 1, &rdata)
+        };
+        (0..records).flat_map(grant).collect()
+    }
+
+    /// One good record, CAA or not.
+    pub fn record(&mut self) -> Vec<u8> {
+        let owner = self.owner();
+        if self.once_in(8) {
+            let (rtype, class) = self.one_of(&[(1, 1), (257, 3), (1, 257), (5, 1)]);
+            let length = self.below(4);
+            let rdata = self.buffer(length);
+            self.record_of(owner, rtype, class, &rdata)
+        } else {
+            let rdata = self.caa_data();
+            self.record_of(owner, 257, 1, &rdata)
+        }
+    }
+
+    pub(super) fn record_of(
+        &mut self,
+        owner: Vec<u8>,
+        rtype: u16,
+        class: u16,
+        rdata: &[u8],
+    ) -> Vec<u8> {
+        let mut wire = owner;
+        wire.extend(rtype.to_be_bytes());
+        wire.extend(class.to_be_bytes());
+        wire.extend(self.buffer(4));
+        wire.extend((rdata.len() as u16).to_be_bytes());
+        wire.extend(rdata);
+        wire
+    }
+
+    pub(super) fn caa_data(&mut self) -> Vec<u8> {
+        let tag = if self.once_in(16) {
+            self.one_of(&UNKNOWN_TAGS)
+        } else {
+            self.near_front(&KNOWN_TAGS)
+        };
+        let mut rdata = vec![self.one_of(&FLAGS), tag.len() as u8];
+        rdata.extend(self.any_case(tag));
+        rdata.extend(self.value());
+        rdata
+    }
+
+    /// An issue value that mostly fits, and sometimes holds a name beyond the limits.
+    pub(super) fn value(&mut self) -> Vec<u8> {
+        let mut value = self.one_of(&BLANKS).to_vec();
+        match self.below(20) {
+            0 => {}
+            1 | 2 => value.extend(self.issuer_around_limit()),
+            _ => value.extend(self.issuer()),
+        }
+        value.extend(self.one_of(&BLANKS));
+        if self.once_in(3) {
+            value.push(b';');
+            value.extend(self.one_of(&PARAMETERS));
+        }
+        if self.once_in(12) {
+            value.extend(self.one_of(&NOISE));
+        }
+        value
+    }
+}

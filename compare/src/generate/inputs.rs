@@ -1,0 +1,103 @@
+//! Inputs for judging and listing: mostly good ones, and some that are damaged or beyond a limit, so
+//! that every answer comes.
+
+use super::names::name_of_octets;
+use super::Generator;
+use crate::limits::{LABEL_OCTETS, NAME_OCTETS, REQUEST_NAMES, REQUEST_OCTETS};
+
+/// Inputs for both calls.
+#[derive(Clone, Debug)]
+pub struct Inputs {
+    pub request: Vec<u8>,
+    pub issuer: Vec<u8>,
+    pub book: Vec<u8>,
+    pub buffer: Vec<u8>,
+}
+
+impl Generator {
+    /// Inputs of any kind: mostly good, else damaged, too long or too many.
+    pub fn inputs(&mut self) -> Inputs {
+        let request = match self.below(32) {
+            0 => self.long_request(),
+            1 => self.many_names(),
+            2..=4 => {
+                let request = self.request();
+                self.damaged(request)
+            }
+            5 => [self.request(), self.name_around_limit()].concat(),
+            _ => self.request(),
+        };
+        let book = match self.below(32) {
+            0 => self.long_book(),
+            1 => self.many_records(),
+            2..=4 => {
+                let book = self.book();
+                self.damaged(book)
+            }
+            5 => {
+                let owner = self.name_around_limit();
+                let rdata = self.caa_data();
+                [self.book(), self.record_of(owner, 257, 1, &rdata)].concat()
+            }
+            6 | 7 => self.crowded_book(),
+            _ => self.book(),
+        };
+        let issuer = match self.below(16) {
+            0 => {
+                let issuer = self.issuer();
+                self.damaged(issuer)
+            }
+            1 => self.issuer_around_limit(),
+            _ => self.issuer(),
+        };
+        let room = if self.once_in(4) {
+            self.below(12)
+        } else {
+            book.len()
+        };
+        Inputs {
+            request,
+            issuer,
+            book,
+            buffer: self.buffer(room),
+        }
+    }
+
+    /// A good request of 1 to 4 names.
+    pub fn request(&mut self) -> Vec<u8> {
+        let names = 1 + self.near_front(&[0, 1, 2, 3]);
+        (0..names).flat_map(|_| self.requested_name()).collect()
+    }
+
+    /// Good names end to end, around the limit of a request's octets.
+    fn long_request(&mut self) -> Vec<u8> {
+        let length = REQUEST_OCTETS - 1 + self.below(4);
+        let mut octets = Vec::new();
+        // What is left for the last name is then 61 to 255 octets.
+        while length - octets.len() > NAME_OCTETS {
+            octets.extend(name_of_octets(195, LABEL_OCTETS));
+        }
+        octets.extend(name_of_octets(length - octets.len(), LABEL_OCTETS));
+        octets
+    }
+
+    fn many_names(&mut self) -> Vec<u8> {
+        let names = REQUEST_NAMES - 1 + self.below(3);
+        (0..names).flat_map(|_| self.requested_name()).collect()
+    }
+}
+
+#[cfg(test)]
+mod tests {
+    use super::*;
+
+    #[test]
+    fn requests_and_books_are_good() {
+        let mut generator = Generator::new(1);
+        for _ in 0..1_000 {
+            assert!(crate::read_request(&generator.request()).is_ok());
+            assert!(crate::read_book(&generator.book()).is_ok());
+            assert!(crate::read_issuer(&generator.issuer()).is_ok());
+        }
+    }
+}

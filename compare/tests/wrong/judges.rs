@@ -1,0 +1,39 @@
+//! Judges that answer wrongly to what they judged rightly.
+
+use compare::against::Other;
+use compare::calls::Judge;
+use compare::{judge, Answer, Refusal, Word};
+
+use super::found_at_random;
+
+#[test]
+fn wrong_judges_are_found_out() {
+    let wrong_ones: [Judge; 5] = [
+        |_, _, _| Ok(Answer::Permitted),
+        |_, _, _| Err(Word::number(99)),
+        |request, issuer, book| match judge(request, issuer, book) {
+            Answer::NotGranted { name, record } => Ok(Answer::NotGranted {
+                name: record,
+                record: name,
+            }),
+            other => Ok(other),
+        },
+        // Looks at the issuer name last.
+        |request, issuer, book| match judge(request, b"x", book) {
+            Answer::Refused(refusal) => Ok(Answer::Refused(refusal)),
+            _ => Ok(judge(request, issuer, book)),
+        },
+        |request, issuer, book| match judge(request, issuer, book) {
+            Answer::Refused(Refusal::TooManyRecords { .. }) => Ok(Answer::Permitted),
+            other => Ok(other),
+        },
+    ];
+    for (number, judge) in wrong_ones.into_iter().enumerate() {
+        let other = Other {
+            judge: Some(judge),
+            ..Other::NOTHING
+        };
+        let found = found_at_random(other);
+        assert!(!found.is_empty(), "wrong judge {number}");
+    }
+}

@@ -1,0 +1,86 @@
+//! What can be got wrong.
+
+use std::cell::Cell;
+
+/// One enum of all mistakes, and a list of each group of them.
+macro_rules! mistakes {
+    ($($group:ident: $($mistake:ident),+;)+) => {
+        #[derive(Clone, Copy, Debug, PartialEq)]
+        pub enum Mistake {
+            None,
+            $($($mistake,)+)+
+        }
+
+        impl Mistake {
+            $(pub const $group: &[Mistake] = &[$(Mistake::$mistake),+];)+
+        }
+    };
+}
+
+mistakes! {
+    IN_THE_LOOK:
+        OwnersAreComparedByTail,
+        OwnersAreComparedUpTo128Octets,
+        OwnersAreComparedByLetterCase,
+        OwnersFoldMoreThanLetters,
+        OtherClassesCount,
+        RootIsLookedAt,
+        StarIsLookedAt,
+        ParentsAreNotLookedAt,
+        AllParentsCount,
+        SetsWithoutGrantsArePassed;
+    IN_THE_SET:
+        CriticalIsTheBitWorthOne,
+        AnyFlagIsCritical,
+        KnownTagsCanForbid,
+        UnknownTagsAlwaysForbid,
+        UnknownCriticalIsIgnored,
+        TagsAreComparedByLetterCase,
+        TagsAreComparedByFront,
+        IssueCountsBesideIssuewild,
+        IssuewildGovernsAll,
+        StarsNeedIssuewild,
+        BadValuesAreAbsent,
+        ValuesWithoutNameAreAbsent,
+        BadValuesGrantTheirFront,
+        ParameterTagsHoldHyphens;
+    IN_THE_VERDICT:
+        IssuersAreComparedByTail,
+        IssuersAreComparedUpTo128Octets,
+        IssuersAreComparedByLetterCase,
+        CaaRecordsAloneAreNumbered,
+        FirstOfTheSetIsTold,
+        LastGoverningIsTold,
+        LastUnknownCriticalIsTold,
+        LastNameIsTold,
+        UnknownCriticalIsToldFirst;
+    IN_THE_LIST:
+        NamesBeyondTheLimitsAreListed,
+        LargeLettersAreKept,
+        RepeatsAreKept,
+        RepeatsAreFoundByLetterCase,
+        RepeatsAreFoundUpTo128Octets,
+        OrderIsOfTheLastGrant,
+        OrderIsOfTheLastName,
+        OrderIsOfTheAlphabet,
+        OneGrantIsEnough,
+        FirstNameDecides,
+        OneOpenNameIsAnyone,
+        EmptyIsAnyone,
+        UnknownCriticalBehindIsIgnored;
+}
+
+thread_local! {
+    static MADE: Cell<Mistake> = const { Cell::new(Mistake::None) };
+}
+
+impl Mistake {
+    /// The compared calls are plain functions, so they are told here which mistake to make.
+    pub fn is_made_from_now_on(self) {
+        MADE.set(self);
+    }
+
+    pub fn is_made(self) -> bool {
+        MADE.get() == self
+    }
+}

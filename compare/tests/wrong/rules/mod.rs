@@ -1,0 +1,58 @@
+//! The rule of issue with one mistake.
+
+mod calls;
+mod mistake;
+mod rule;
+
+use compare::against::Other;
+use mistake::Mistake;
+
+use super::found_at_random;
+
+const JUDGE: Other = Other {
+    judge: Some(calls::judge),
+    ..Other::NOTHING
+};
+const LIST: Other = Other {
+    permitted_issuers: Some(calls::permitted_issuers),
+    ..Other::NOTHING
+};
+
+fn all_are_found_out(other: Other, groups: [&[Mistake]; 3]) {
+    for mistake in groups.concat() {
+        mistake.is_made_from_now_on();
+        assert!(!found_at_random(other).is_empty(), "{mistake:?}");
+    }
+}
+
+#[test]
+fn without_a_mistake_nothing_differs() {
+    Mistake::None.is_made_from_now_on();
+    for other in [JUDGE, LIST] {
+        assert_eq!(found_at_random(other), [""; 0]);
+    }
+}
+
+#[test]
+fn mistakes_in_judging_are_found_out() {
+    all_are_found_out(
+        JUDGE,
+        [
+            Mistake::IN_THE_LOOK,
+            Mistake::IN_THE_SET,
+            Mistake::IN_THE_VERDICT,
+        ],
+    );
+}
+
+#[test]
+fn mistakes_in_listing_are_found_out() {
+    all_are_found_out(
+        LIST,
+        [
+            Mistake::IN_THE_LOOK,
+            Mistake::IN_THE_SET,
+            Mistake::IN_THE_LIST,
+        ],
+    );
+}

@@ -1,0 +1,231 @@
+//! The rule of issue once more, with room for mistakes. Names are in wire form.
+
+use compare::book::{read_property, read_raw_record, Property};
+use compare::request::read_requested_name;
+use compare::value::IssueValue;
+use compare::{read_issuer, read_value};
+
+use super::mistake::Mistake;
+
+pub enum Standing<'a> {
+    Open,
+    Forbidden {
+        record: usize,
+    },
+    Governed {
+        record: usize,
+        grantees: Vec<&'a [u8]>,
+    },
+}
+
+/// How each name of a good request stands by a good book.
+pub fn standings<'a>(request: &[u8], book: &'a [u8]) -> Vec<Standing<'a>> {
+    let records = caa_records(book);
+    let mut standings = Vec::new();
+    let mut rest = request;
+    while let Some((requested, behind)) = read_requested_name(rest) {
+        let name = &rest[..rest.len() - behind.len()];
+        let start = match requested.wildcard && !Mistake::StarIsLookedAt.is_made() {
+            true => &name[2..],
+            false => name,
+        };
+        standings.push(standing(&relevant_set(&records, start), requested.wildcard));
+        rest = behind;
+    }
+    standings
+}
+
+struct Record<'a> {
+    number: usize,
+    owner: &'a [u8],
+    property: Property<'a>,
+}
+
+fn caa_records(book: &[u8]) -> Vec<Record<'_>> {
+    let mut records = Vec::new();
+    let mut numbered = 0;
+    let mut rest = book;
+    while let Some((raw, behind)) = read_raw_record(rest) {
+        let class_counts = raw.class == 1 || Mistake::OtherClassesCount.is_made();
+        let is_caa = raw.rtype == 257 && class_counts;
+        if let Some(property) = read_property(raw.rdata).filter(|_| is_caa) {
+            let labels: usize = raw.owner.labels().map(|label| 1 + label.len()).sum();
+            records.push(Record {
+                number: numbered,
+                owner: &rest[..labels + 1],
+                property,
+            });
+        }
+        if is_caa || !Mistake::CaaRecordsAloneAreNumbered.is_made() {
+            numbered += 1;
+        }
+        rest = behind;
+    }
+    records
+}
+
+fn relevant_set<'r, 'a>(records: &'r [Record<'a>], name: &[u8]) -> Vec<&'r Record<'a>> {
+    let mut set = Vec::new();
+    let mut place = name;
+    loop {
+        let at_root = place == [0];
+        if at_root && !Mistake::RootIsLookedAt.is_made() {
+            return set;
+        }
+        let found = || records.iter().filter(|record| is_same(record.owner, place));
+        let is_grant =
+            |record: &Record| ["issue", "issuewild"].iter().any(|tag| record.has_tag(tag));
+        if !Mistake::SetsWithoutGrantsArePassed.is_made() || found().any(is_grant) {
+            set.extend(found());
+        }
+        let is_found = !set.is_empty() && !Mistake::AllParentsCount.is_made();
+        if is_found || at_root || Mistake::ParentsAreNotLookedAt.is_made() {
+            return set;
+        }
+        place = &place[1 + usize::from(place[0])..];
+    }
+}
+
+fn is_same(owner: &[u8], name: &[u8]) -> bool {
+    if Mistake::OwnersAreComparedByTail.is_made() {
+        let (owner, name) = (as_text(owner), as_text(name));
+        !owner.is_empty() && name.ends_with(&owner)
+    } else if Mistake::OwnersAreComparedUpTo128Octets.is_made() {
+        same_up_to_128_octets(owner, name)
+    } else if Mistake::OwnersAreComparedByLetterCase.is_made() {
+        owner == name
+    } else if Mistake::OwnersFoldMoreThanLetters.is_made() {
+        let fold = |octet: &u8| octet | 0x20;
+        owner.iter().map(fold).eq(name.iter().map(fold))
+    } else {
+        owner.eq_ignore_ascii_case(name)
+    }
+}
+
+pub fn same_up_to_128_octets(one: &[u8], other: &[u8]) -> bool {
+    let front = one.len().min(128);
+    one.len() == other.len() && one[..front].eq_ignore_ascii_case(&other[..front])
+}
+
+/// Labels in small letters, each with a dot behind it.
+fn as_text(name: &[u8]) -> Vec<u8> {
+    let mut text = Vec::new();
+    let mut rest = name;
+    while let [length @ 1..=63, behind @ ..] = rest {
+        let (label, behind) = behind.split_at(usize::from(*length));
+        text.extend(label.to_ascii_lowercase());
+        text.push(b'.');
+        rest = behind;
+    }
+    text
+}
+
+fn standing<'a>(set: &[&Record<'a>], wildcard: bool) -> Standing<'a> {
+    let mut forbidding = set.iter().filter(|record| record.forbids());
+    let forbidding = match Mistake::LastUnknownCriticalIsTold.is_made() {
+        true => forbidding.next_back(),
+        false => forbidding.next(),
+    };
+    if let Some(record) = forbidding {
+        return Standing::Forbidden {
+            record: record.number,
+        };
+    }
+    let governing = governing_records(set, wildcard);
+    let told = if Mistake::LastGoverningIsTold.is_made() {
+        governing.last()
+    } else if Mistake::FirstOfTheSetIsTold.is_made() && !governing.is_empty() {
+        set.first()
+    } else {
+        governing.first()
+    };
+    match told {
+        None => Standing::Open,
+        Some(record) => Standing::Governed {
+            record: record.number,
+            grantees: governing
+                .iter()
+                .filter_map(|record| grantee(record.property.value))
+                .collect(),
+        },
+    }
+}
+
+fn governing_records<'r, 'a>(set: &[&'r Record<'a>], wildcard: bool) -> Vec<&'r Record<'a>> {
+    let with_tag = |tags: &[&str]| -> Vec<&'r Record<'a>> {
+        let governs = |record: &&&Record| {
+            tags.iter().any(|tag| record.has_tag(tag)) && !is_absent(record.property.value)
+        };
+        set.iter().filter(governs).copied().collect()
+    };
+    let issuewild = with_tag(&["issuewild"]);
+    if !wildcard && !Mistake::IssuewildGovernsAll.is_made() {
+        with_tag(&["issue"])
+    } else if wildcard && Mistake::IssueCountsBesideIssuewild.is_made() {
+        with_tag(&["issue", "issuewild"])
+    } else if issuewild.is_empty() && !Mistake::StarsNeedIssuewild.is_made() {
+        with_tag(&["issue"])
+    } else {
+        issuewild
+    }
+}
+
+impl Record<'_> {
+    fn forbids(&self) -> bool {
+        let flags = self.property.flags;
+        let critical = if Mistake::CriticalIsTheBitWorthOne.is_made() {
+            flags & 1 != 0
+        } else if Mistake::AnyFlagIsCritical.is_made() {
+            flags != 0
+        } else {
+            flags & 128 != 0 || Mistake::UnknownTagsAlwaysForbid.is_made()
+        };
+        let known = ["issue", "issuewild", "iodef"];
+        let is_known = known.iter().any(|tag| self.has_tag(tag));
+        critical
+            && (!is_known || Mistake::KnownTagsCanForbid.is_made())
+            && !Mistake::UnknownCriticalIsIgnored.is_made()
+    }
+
+    fn has_tag(&self, tag: &str) -> bool {
+        let (own, tag) = (self.property.tag, tag.as_bytes());
+        if Mistake::TagsAreComparedByLetterCase.is_made() {
+            own == tag
+        } else if Mistake::TagsAreComparedByFront.is_made() {
+            own.to_ascii_lowercase().starts_with(tag)
+        } else {
+            own.eq_ignore_ascii_case(tag)
+        }
+    }
+}
+
+fn is_absent(value: &[u8]) -> bool {
+    match read_value(value) {
+        IssueValue::Malformed => Mistake::BadValuesAreAbsent.is_made(),
+        IssueValue::NoName => Mistake::ValuesWithoutNameAreAbsent.is_made(),
+        IssueValue::Name(_) => false,
+    }
+}
+
+/// In the letters of the record.
+fn grantee(value: &[u8]) -> Option<&[u8]> {
+    let name = match read_value(value) {
+        IssueValue::Name(name) => name,
+        IssueValue::NoName => return None,
+        IssueValue::Malformed => {
+            let (front, behind) = value.split_at(value.iter().position(|&octet| octet == b';')?);
+            let behind: Vec<u8> = behind.iter().copied().filter(|&o| o != b'-').collect();
+            let mended = [front, &behind].concat();
+            let reads = matches!(read_value(&mended), IssueValue::Name(_));
+            if reads && Mistake::ParameterTagsHoldHyphens.is_made()
+                || Mistake::BadValuesGrantTheirFront.is_made()
+            {
+                front.trim_ascii()
+            } else {
+                return None;
+            }
+        }
+    };
+    let grants = read_issuer(name).is_ok() || Mistake::NamesBeyondTheLimitsAreListed.is_made();
+    grants.then_some(name)
+}
