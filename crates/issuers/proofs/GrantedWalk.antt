@@ -13,8 +13,8 @@ use Rattle.octets.specs.Octets.{same, lowered}
 use Rattle.record.specs.Property.{property}
 use Rattle.rule.specs.RelevantSet.{CaaRecord}
 use Rattle.rule.specs.Authorizations.{grantee, consSome, grantees}
-use Rattle.rule.specs.Narrowing.{joined}
-use Rattle.rule.proofs.Narrowing.{joined-distinct}
+use Rattle.issuers.specs.Narrowing.{joined}
+use Rattle.issuers.proofs.Narrowing.{joined-distinct}
 use Rattle.relevant.specs.declared.Walk.{Walk}
 use Rattle.relevant.specs.declared.Seen.{Seen as SeenAt}
 use Rattle.relevant.specs.declared.Step.{Step}

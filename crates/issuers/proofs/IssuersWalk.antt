@@ -20,9 +20,9 @@ use Rattle.record.specs.Records.{records, bookRefusal}
 use Rattle.rule.specs.RelevantSet.{caaRecords}
 use Rattle.rule.specs.Authorizations.{Authorization, authorization, decided}
 use Rattle.rule.specs.IssuerLists.{Issuers, anyone, listed, issuers}
-use Rattle.rule.specs.Narrowing.{narrowed, narrowedBy}
+use Rattle.issuers.specs.Narrowing.{narrowed, narrowedBy}
 use Rattle.rule.specs.Calls.{authorizations}
-use Rattle.rule.proofs.Narrowing.{narrowed-more, narrowed-end, narrowed-nobody, select-nothing}
+use Rattle.issuers.proofs.Narrowing.{narrowed-more, narrowed-end, narrowed-nobody, select-nothing}
 use Rattle.relevant.specs.Walks.{relevantAt}
 use Rattle.relevant.proofs.ByPlace.{authorization-by-place}
 use Rattle.issuers.specs.declared.Span.{Span}

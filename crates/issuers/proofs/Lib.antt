@@ -1,3 +1,4 @@
+pub mod Narrowing
 pub mod KeptNames
 pub mod NestedParts
 pub mod GranteeWays

@@ -11,11 +11,11 @@ use Rattle.octets.proofs.Texts.{same-equal}
 use Rattle.name.specs.Names.{wire}
 use Rattle.rule.specs.Authorizations.{grantees}
 use Rattle.rule.specs.IssuerLists.{anyone, listed, distinct}
-use Rattle.rule.specs.Narrowing.{narrowed}
+use Rattle.issuers.specs.Narrowing.{narrowed}
 use Rattle.rule.specs.RelevantSet.{CaaRecord, caaRecords}
 use Rattle.rule.proofs.DistinctLaws.{distinct-all}
 use Rattle.rule.proofs.GranteeLaws.{grantees-small}
-use Rattle.rule.proofs.Narrowing.{narrowed-again}
+use Rattle.issuers.proofs.Narrowing.{narrowed-again}
 use Rattle.relevant.specs.Walks.{hasTag, setOf}
 use Rattle.issuers.specs.declared.Names.{Names}
 use Rattle.issuers.specs.declared.Governing.{Governing}

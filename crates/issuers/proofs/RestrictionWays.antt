@@ -13,7 +13,7 @@ use Rattle.refusal.specs.declared.RecordNo.{RecordNo}
 use Rattle.rule.specs.RelevantSet.{CaaRecord}
 use Rattle.rule.specs.Authorizations.{Authorization, isUnknownCritical, isIssue, grantees, governedBy, decided}
 use Rattle.rule.specs.IssuerLists.{Issuers, anyone, listed, distinct, issuers}
-use Rattle.rule.proofs.Narrowing.{issuers-granted}
+use Rattle.issuers.proofs.Narrowing.{issuers-granted}
 use Rattle.relevant.specs.declared.Found.{Found}
 use Rattle.relevant.specs.declared.Found.the-variants.{At, Nothing}
 use Rattle.relevant.specs.declared.Near.{Near}

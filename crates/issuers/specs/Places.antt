@@ -12,7 +12,7 @@ use Rattle.octets.specs.Octets.{lowered}
 use Rattle.record.specs.Property.{Property, property}
 use Rattle.rule.specs.Authorizations.{grantee, grantees}
 use Rattle.rule.specs.IssuerLists.{Issuers, anyone, listed, distinct}
-use Rattle.rule.specs.Narrowing.{narrowed}
+use Rattle.issuers.specs.Narrowing.{narrowed}
 use Rattle.relevant.specs.Walks.{hasTag, setOf}
 use Rattle.issuers.specs.declared.Span.{Span}
 use Rattle.issuers.specs.declared.Names.{Names}

@@ -2,21 +2,22 @@
 use Prim.Native.Nat.{ℕ, _≤_, _/_, _%_}
 use Prim.Native.String.{String}
 use native.Mathlib.Omega.{arith}
-use mathlib.Core.Path.{_≡_, refl}
-use mathlib.Core.Bool.{Bool, true, false, cond}
+use mathlib.Core.Path.{_≡_, refl, sym, ap, _∙_}
+use mathlib.Core.Logic.{_≢_}
+use mathlib.Core.Bool.{Bool, true, false, cond, true≢false}
 use mathlib.Core.List.{List, [], _∷_, _++_}
 use mathlib.Core.Option.{Option, none, some, Option·some-injective, Option·none-ne-some}
 use lib.Dec.{leb}
 use lib.ListN.{length}
 use borrow.Author.Tests.{leb-true, le-leb, eqb-true, eq-eqb}
-use Rattle.octets.specs.Octets.{text, lower, equalIgnoringCase, isUpper}
+use Rattle.octets.specs.Octets.{text, lower, lowered, equalIgnoringCase, isUpper}
 use Rattle.octets.specs.Reader.{octet, octets}
 use Rattle.octets.proofs.ReaderLaws.{bind-some, given-some, octet-some, octets-some, pure-some}
 use Rattle.octets.proofs.Texts.{whole-texts}
 use Rattle.record.specs.declared.PropertyTag.{PropertyTag}
 use Rattle.record.specs.declared.PropertyTag.the-variants.{Issue, IssueWild, Iodef, Unknown}
 use Rattle.record.specs.Property.{Property, wireProperty, readProperty, found, property, isCritical, tagOf}
-use Rattle.record.specs.Theorems.{Property-is-its-parts, Critical-bit, Known-tags}
+use Rattle.record.specs.Theorems.{Property-is-its-parts, Critical-bit, Known-tags, Unknown-tags}
 
 -- what is left of the data after its property is empty, and `found` leaves it out
 found-some : (o : Option (Property × List ℕ)) (p : Property) → found o ≡ some p → (rest : List ℕ) × (o ≡ some (p, rest))
@@ -79,3 +80,28 @@ known-tags t = (
 
     is : (x : PropertyTag) → tagOf t ≡ x → Passed (is-tag "issue") (is-tag "issuewild") (is-tag "iodef") x
     is x e = rw e at (passed (is-tag "issue") (is-tag "issuewild") (is-tag "iodef"))
+
+abbrev isKnown : PropertyTag → Bool
+isKnown Issue = true
+isKnown IssueWild = true
+isKnown Iodef = true
+isKnown Unknown = false
+
+pub unknown-tags : Unknown-tags
+unknown-tags t = (
+  λ e. (
+    λ k. known (sym e ∙ known-tags t .0 .1 k) refl,
+    λ k. known (sym e ∙ known-tags t .1 .1 k) refl,
+    λ k. known (sym e ∙ known-tags t .2 .1 k) refl,
+  ),
+  by (tagOf t) refl,
+)
+  where
+    known : {x : PropertyTag} → Unknown ≡ x → isKnown x ≡ true → ⊥
+    known e k = true≢false (sym k ∙ sym (ap isKnown e))
+
+    by : (x : PropertyTag) → tagOf t ≡ x → (lowered t ≢ text "issue") × (lowered t ≢ text "issuewild") × (lowered t ≢ text "iodef") → x ≡ Unknown
+    by Issue e n = absurd (n .0 (known-tags t .0 .0 e))
+    by IssueWild e n = absurd (n .1 (known-tags t .1 .0 e))
+    by Iodef e n = absurd (n .2 (known-tags t .2 .0 e))
+    by Unknown e n = refl

@@ -28,12 +28,17 @@ Property-is-its-parts = (d : List ℕ) (p : Property) → (property d ≡ some p
 abbrev pub Critical-bit : Type 0
 Critical-bit = (p : Property) → p .flags < 256 → (isCritical p ≡ true) ↔ (128 ≤ p .flags)
 
--- the three known tags, in any letter case, and nothing else
+-- the three known tags, in any letter case
 abbrev pub Known-tags : Type 0
 Known-tags =
     (t : List ℕ) →
     ((tagOf t ≡ Issue) ↔ (lowered t ≡ text "issue")) × ((tagOf t ≡ IssueWild) ↔ (lowered t ≡ text "issuewild"))
     × ((tagOf t ≡ Iodef) ↔ (lowered t ≡ text "iodef"))
+
+-- every other tag is unknown
+abbrev pub Unknown-tags : Type 0
+Unknown-tags =
+    (t : List ℕ) → (tagOf t ≡ Unknown) ↔ ((lowered t ≢ text "issue") × (lowered t ≢ text "issuewild") × (lowered t ≢ text "iodef"))
 
 -- each field fits its octets, and the data of type 257 and class 1 holds a property
 abbrev pub GoodRecord : Record → Type 0

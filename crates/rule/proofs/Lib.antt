@@ -7,7 +7,6 @@ pub mod VerdictLaws
 pub mod OrderLaws
 pub mod DistinctLaws
 pub mod IssuerListLaws
-pub mod Narrowing
 pub mod GranteeLaws
 pub mod PermittedLaws
 pub mod CheckOrder

@@ -58,7 +58,7 @@ module _ (request book buffer : List ℕ) where
   written-tells anyone are room = record {
     anyone-exactly = (λ e. are .anyone-exactly .0 refl, λ h. refl);
     permitted-exactly = λ d w. (λ j. inl refl, λ o. are .permitted-exactly d w .1 (inl refl));
-    never-refused = λ r. anyone≢refused;
+    answered = inl refl;
     readable = λ count octets e. absurd (anyone≢listed e);
     counted = λ ns h. absurd (unlisted ns h);
     well-formed = λ ns h. absurd (unlisted ns h);
@@ -74,7 +74,7 @@ module _ (request book buffer : List ℕ) where
   written-tells (listed ns) are room = record {
     anyone-exactly = (λ e. absurd (anyone≢listed (sym e)), λ h. absurd (listed≢anyone (are .anyone-exactly .1 h)));
     permitted-exactly = λ d w. (λ j. read d (are .permitted-exactly d w .0 j), λ h. are .permitted-exactly d w .1 (inr (ns, refl, unread d h)));
-    never-refused = λ r. listed≢refused;
+    answered = inr (length ns, length (entries ns), refl);
     readable = λ count octets e. (ns, rw (← one-count e, ← one-length e) (written-read ns buffer));
     counted = λ ms h. rw (← read-once ns buffer ms h, entries-length ns) refl;
     well-formed = λ ms h. rw (← read-once ns buffer ms h) (are .well-formed ns refl);

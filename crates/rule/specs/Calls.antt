@@ -85,5 +85,5 @@ judgementTold (Refused r) = refusalTold r
 
 unfoldable pub permittedIssuersTold : PermittedIssuers → Told
 permittedIssuersTold Anyone = record { number = 30; values = [] }
-permittedIssuersTold (Listed count octets) = record { number = 31; values = count ∷ octets ∷ [] }
+permittedIssuersTold (Listed count octets) = record { number = 31; values = octets ∷ count ∷ [] }
 permittedIssuersTold (ListRefused r) = refusalTold r

@@ -2,7 +2,6 @@ pub mod RelevantSet
 pub mod Authorizations
 pub mod Verdicts
 pub mod IssuerLists
-pub mod Narrowing
 pub mod Calls
 pub mod Meaning
 pub mod Theorems

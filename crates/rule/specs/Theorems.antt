@@ -162,7 +162,7 @@ pub record ListingTells (request book buffer : List ℕ) (l : Listing) : Type 0 
   pub anyone-exactly : (l .answer ≡ Anyone) ↔ All (Unrestricted (caaRecords (records book))) (requestedNames request)
   pub permitted-exactly : (d : List ℕ) → WellFormed d →
       (judge request d book ≡ Permitted) ↔ ((l .answer ≡ Anyone) ⊎ ((ns : List (List ℕ)) × ListsNames l ns × List·Memᴰ (lowered d) ns))
-  pub never-refused : (r : Refusal) → l .answer ≢ ListRefused r
+  pub answered : (l .answer ≡ Anyone) ⊎ ((count octets : ℕ) × (l .answer ≡ Listed count octets))
   -- whatever count and octets are told, that list is there to be read
   pub readable : (count octets : ℕ) → l .answer ≡ Listed count octets → (ns : List (List ℕ)) × ReadsBack count octets (l .buffer) ns
   pub counted : (ns : List (List ℕ)) → ListsNames l ns → l .answer ≡ Listed (length ns) (total ns)
@@ -208,11 +208,11 @@ Answers-told =
     × ((r : Refusal) → (judgementTold (Refused r) ≡ record { number = number r; values = place r ∷ [] })
     × (permittedIssuersTold (ListRefused r) ≡ record { number = number r; values = place r ∷ [] }))
 
--- those of the list are this project's own: 30, and 31 with count and octets
+-- those of the list are this project's own: 30, and 31 with octets and count
 abbrev pub List-told : Type 0
 List-told =
     (permittedIssuersTold Anyone ≡ record { number = 30; values = [] })
-    × ((count octets : ℕ) → permittedIssuersTold (Listed count octets) ≡ record { number = 31; values = count ∷ octets ∷ [] })
+    × ((count octets : ℕ) → permittedIssuersTold (Listed count octets) ≡ record { number = 31; values = octets ∷ count ∷ [] })
 
 -- Deciding never computes with record numbers: other numbers change those in the answer and nothing else.
 abbrev pub renumbered : (ℕ → ℕ) → CaaRecord → CaaRecord

@@ -15,7 +15,7 @@ use Rattle.octets.specs.Octets.{Octets}
 use Rattle.request.specs.Request.{requestRefusal}
 use Rattle.record.specs.Records.{bookRefusal, records}
 use Rattle.record.proofs.Book.{book-is-its-records}
-use Rattle.packed.specs.Packed.{packed, packedRefusal, numberIn}
+use Rattle.packed.specs.Packed.{packed, packedRefusal}
 use Rattle.rule.specs.declared.PermittedIssuers.{PermittedIssuers}
 use Rattle.rule.specs.declared.PermittedIssuers.the-variants.{Anyone, Listed, Refused}
 use Rattle.rule.specs.IssuerLists.{Issuers, anyone, listed, issuers, entries}
@@ -24,22 +24,22 @@ use Rattle.rule.specs.Theorems.{total}
 use Rattle.rule.proofs.BufferLaws.{entries-length}
 use Rattle.rule.proofs.Room.{room-of-the-book}
 use Rattle.splinepearl.specs.ListAnswers.{packedIssuers}
-use Rattle.splinepearl.specs.Theorems.{UnpackedList, List-unpacks}
+use Rattle.splinepearl.specs.Theorems.{Unpacked, List-unpacks}
 use Rattle.splinepearl.proofs.JudgementUnpacks.{told-unpacks, number-small}
 use Rattle.splinepearl.proofs.RefusalPlaces.{request-fits, book-fits}
 
 -- Each case, packed.
 module _ (x j : PermittedIssuers) (is : x ≡ j) (r : ℕ) where
   pub anyone-packed : r ≡ packed 30 0 0 0 → x ≡ Anyone → r ≡ packedIssuers j
-  unfolding packedIssuers
+  unfolding packedIssuers permittedIssuersTold
   anyone-packed p e = rw (← is, e) p
 
   pub list-packed : (count octets : ℕ) → r ≡ packed 31 octets count 0 → x ≡ Listed count octets → r ≡ packedIssuers j
-  unfolding packedIssuers
+  unfolding packedIssuers permittedIssuersTold
   list-packed count octets p e = rw (← is, e) p
 
   pub list-refusal-packed : (q : Refusal) → r ≡ packedRefusal q → x ≡ Refused q → r ≡ packedIssuers j
-  unfolding packedIssuers
+  unfolding packedIssuers permittedIssuersTold packedRefusal
   list-refusal-packed q p e = rw (← is, e) p
 
 -- Each number fits its field: a list is no longer than the book.
@@ -75,12 +75,11 @@ module _ (request book buffer : List ℕ) (octets : Octets book) where
       by true h = h
       by false h = h .0
 
-fitting-unpacks : (x : PermittedIssuers) → ListFits x → UnpackedList (packedIssuers x) x × (numberIn (packedIssuers x) ≡ permittedIssuersTold x .number)
-unfolding packedIssuers packedRefusal permittedIssuersTold
-fitting-unpacks Anyone h = let u = told-unpacks (record { number = 30; values = [] }) (omega arith) (omega arith) (omega arith) in (u, u .0)
-fitting-unpacks (Listed count octets) h =
-    let u = told-unpacks (record { number = 31; values = octets ∷ count ∷ [] }) (omega arith) (h .0) (h .1) in (u, u .0)
-fitting-unpacks (Refused r) h = let u = told-unpacks (refusalTold r) (number-small r) h (omega arith) in (u, u .0)
+fitting-unpacks : (x : PermittedIssuers) → ListFits x → Unpacked (packedIssuers x) (permittedIssuersTold x)
+unfolding packedIssuers permittedIssuersTold
+fitting-unpacks Anyone h = told-unpacks (permittedIssuersTold Anyone) (omega arith) (omega arith) (omega arith)
+fitting-unpacks (Listed count octets) h = told-unpacks (permittedIssuersTold (Listed count octets)) (omega arith) (h .0) (h .1)
+fitting-unpacks (Refused r) h = told-unpacks (refusalTold r) (number-small r) h (omega arith)
 
 pub list-unpacks : List-unpacks
 list-unpacks request book buffer octets =

@@ -1,13 +1,11 @@
 -- What the definitions of this crate mean. Each statement is proved under its name in proofs/.
 use Prim.Native.Nat.{ℕ}
 use mathlib.Core.Path.{_≡_}
-use mathlib.Core.List.{List, [], _∷_}
+use mathlib.Core.List.{List}
 use Rattle.packed.specs.Packed.{numberIn, fieldA, fieldB, fieldC}
 use Rattle.presentation.specs.Calls.{writeLine, parseLine}
 use Rattle.octets.specs.Octets.{Octets}
-use Rattle.rule.specs.declared.PermittedIssuers.{PermittedIssuers}
-use Rattle.rule.specs.declared.PermittedIssuers.the-variants.{Anyone, Listed, Refused}
-use Rattle.rule.specs.Calls.{Told, refusalTold, judge, judgementTold, listIssuers, permittedIssuersTold}
+use Rattle.rule.specs.Calls.{Told, judge, judgementTold, listIssuers, permittedIssuersTold}
 use Rattle.splinepearl.specs.Answers.{valueOf, packedJudgement}
 use Rattle.splinepearl.specs.ListAnswers.{packedIssuers}
 use Rattle.splinepearl.specs.LineAnswers.{madeTold, packedMade}
@@ -23,16 +21,10 @@ Judgement-unpacks =
     Unpacked (packedJudgement (judge request issuer book)) (judgementTold (judge request issuer book))
 
 -- of a list the octets in a and the count in b
-abbrev pub UnpackedList : ℕ → PermittedIssuers → Type 0
-UnpackedList x Anyone = Unpacked x (record { number = 30; values = [] })
-UnpackedList x (Listed count octets) = Unpacked x (record { number = 31; values = octets ∷ count ∷ [] })
-UnpackedList x (Refused r) = Unpacked x (refusalTold r)
-
 abbrev pub List-unpacks : Type 0
 List-unpacks =
     (request book buffer : List ℕ) → Octets book →
-    UnpackedList (packedIssuers (listIssuers request book buffer .answer)) (listIssuers request book buffer .answer)
-    × (numberIn (packedIssuers (listIssuers request book buffer .answer)) ≡ permittedIssuersTold (listIssuers request book buffer .answer) .number)
+    Unpacked (packedIssuers (listIssuers request book buffer .answer)) (permittedIssuersTold (listIssuers request book buffer .answer))
 
 -- and of the two calls on lines, whose answers are lengths or refusals
 abbrev pub Written-line-unpacks : Type 0

@@ -8,10 +8,10 @@ use Rattle.octets.specs.Lists.{all, any, consIf, select, All, all-nil, all-cons
 use Rattle.octets.specs.Octets.{same, lowered}
 use Rattle.octets.proofs.ListLaws.{or-true, All-imp}
 use Rattle.octets.proofs.Texts.{same-equal}
 use Rattle.rule.specs.Authorizations.{Authorization, unrestricted, forbidden, granted, permits}
 use Rattle.rule.specs.IssuerLists.{Issuers, anyone, listed, distinct, issuers}
-use Rattle.rule.specs.Narrowing.{narrowed, narrowedBy, joined}
+use Rattle.issuers.specs.Narrowing.{narrowed, narrowedBy, joined}
 use Rattle.rule.proofs.DistinctLaws.{isOther, any-distinct}
 
 module _ {A : Type 0} where
   -- where all pass, all are selected; where none does, none
