@@ -1,6 +1,6 @@
 #!/usr/bin/env bash
 # All tests: the second program on its stored cases, the proved library held against it and linked from C and Rust, the desk program
-# on its folders, the tools, then the proofs from nothing, the must-fail edits and the programs.
+# on its folders, the tools, the stored runs, then the proofs from nothing, the must-fail edits and the programs.
 set -eu
 cd "$(dirname "$0")"
 
@@ -19,5 +19,6 @@ bash examples/link.sh
 rt check desk
 bash desk-runs/test.sh
 python3 tools/test_caa_files.py
+python3 crates/runs/make.py --check
 
 exec rt ci

@@ -13,6 +13,7 @@ use Rattle.octets.specs.Lists.{All, all-nil, all-cons}
 use Rattle.octets.specs.Octets.{isDigit}
 use Rattle.octets.specs.Decimal.{decimalFrom}
 use Rattle.octets.proofs.ListLaws.{decided, All-join}
+use Rattle.octets.proofs.Decimals.{from-last}
 use Rattle.desk_line.specs.Decimal.{digit, decimalWithin, decimal}
 use Rattle.desk_line.specs.Theorems.{Decimals}
 
@@ -50,10 +51,6 @@ by-tens P small more n = go n n (omega arith)
     go : (f n : ℕ) → n ≤ f → P n
     go zero n h = small n (omega arith)
     go (suc f) n h = ⊎-elim (λ e. small n (ltb-true n 10 e)) (λ e. let m = ltb-false n 10 e in more n (omega arith) (go f (n / 10) (omega arith))) (decided (ltb n 10))
-
-from-last : (m x : ℕ) (a : List ℕ) → decimalFrom m (a ++ (x ∷ [])) ≡ decimalFrom m a * 10 + (x - code "0")
-from-last m x [] = refl
-from-last m x (y ∷ a) = from-last (m * 10 + (y - code "0")) x a
 
 -- a front that is not empty begins what it is the front of
 begun : (a b s : List ℕ) (x : ℕ) → a ≢ [] → a ++ b ≡ x ∷ s → (r : List ℕ) × (a ≡ x ∷ r)

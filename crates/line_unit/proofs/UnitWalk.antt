@@ -7,7 +7,7 @@ use mathlib.Core.List.{List, [], _∷_, _++_, map, append-assoc}
 use mathlib.Core.Option.{Option, none, some, Option·none-ne-some}
 use lib.ListN.{length, drop, length-append, length-drop, length-map, drop-of-length-le}
 use lib.Seq.{drop-at, drop-drop}
-use Rattle.octets.specs.Lists.{concat}
+use Rattle.octets.specs.Lists.{flatten}
 use Rattle.octets.specs.Items.{Items, whole, broken, over, follow, before, items}
 use Rattle.presentation.specs.Read.{Unit, plain, quoted, numbered, valueOf, unit, values, unescaped}
 use Rattle.presentation.specs.Grammar.{wireUnit}
@@ -39,7 +39,7 @@ module _ (class : ℕ → Bool) where
       omega (arith, ap length front, length-append (wireUnit u) rest, full u)
 
   -- units stand for no more octets than they have
-  many : (us : List Unit) → length us ≤ length (concat (map wireUnit us))
+  many : (us : List Unit) → length us ≤ length (flatten (map wireUnit us))
   many [] = omega arith
   many (u ∷ us) = rw length-append (omega (arith, full u, many us))
 

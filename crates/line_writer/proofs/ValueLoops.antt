@@ -8,21 +8,21 @@ use lib.ListN.{length, take, drop, getD, length-append}
 use lib.Seq.{take-suc, take-all}
 use mir.Syntax.{w64}
 use mir.Val.{Fits}
-use Rattle.octets.specs.Lists.{concat}
+use Rattle.octets.specs.Lists.{flatten}
 use Rattle.octets.proofs.Walks.{drop-step}
 use Rattle.buffer.specs.Buffer.{Put}
 use Rattle.buffer.proofs.LentRest.{rest-room, put-more}
 use Rattle.presentation.specs.Written.{escaped}
 use Rattle.line_writer.specs.Places.{escapedValue}
 
-concat-append : (a b : List (List ℕ)) → concat (a ++ b) ≡ concat a ++ concat b
-concat-append [] b = refl
-concat-append (x ∷ a) b = rw (concat-append a b, append-assoc)
+flatten-append : (a b : List (List ℕ)) → flatten (a ++ b) ≡ flatten a ++ flatten b
+flatten-append [] b = refl
+flatten-append (x ∷ a) b = rw (flatten-append a b, append-assoc)
 
 module _ (v : List ℕ) (i : ℕ) (h : i < length v) where
   value-step : escapedValue (take (i + 1) v) ≡ escapedValue (take i v) ++ escaped (getD v i 0)
   value-step =
-      rw (add-one, take-suc v i 0 h, map-append escaped (take i v) (getD v i 0 ∷ []), concat-append, append-nil)
+      rw (add-one, take-suc v i 0 h, map-append escaped (take i v) (getD v i 0 ∷ []), flatten-append, append-nil)
 
   pub left-step : length (escapedValue (drop i v)) ≡ length (escaped (getD v i 0)) + length (escapedValue (drop (i + 1) v))
   left-step = rw (drop-step 0 v i (i + 1) h refl, length-append)

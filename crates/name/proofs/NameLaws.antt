@@ -14,7 +14,7 @@ use Rattle.octets.specs.Lists.{All, all-nil, all-cons}
 use Rattle.octets.specs.Reader.{Reader, pure, fault, _>>=_, octets}
 use Rattle.octets.proofs.ReaderLaws.{pure-some, bind-some, given-some, octets-some}
 use Rattle.name.specs.Names.{Label, Name, wire, labels, name}
-use Rattle.name.specs.Theorems.{GoodName, Name-is-its-labels}
+use Rattle.name.specs.Theorems.{GoodName, Name-is-its-labels, Wire-example}
 
 -- what GoodName asks of each label
 abbrev pub GoodLabel : Label → Type 0
@@ -73,6 +73,9 @@ labels-stand (suc room) (l ∷ n) rest (all-cons g gs) h =
 pub fewer-labels : (n : Name) → length n < length (wire n)
 fewer-labels [] = omega arith
 fewer-labels (l ∷ n) = let ih = fewer-labels n in simp length-append (omega arith)
+
+pub wire-example : Wire-example
+wire-example = refl
 
 pub name-is-its-labels : Name-is-its-labels
 unfolding name

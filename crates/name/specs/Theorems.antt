@@ -8,13 +8,18 @@ use mathlib.Core.Option.{Option, some}
 use lib.ListN.{length, drop, getD}
 use Rattle.limits.specs.Limits.{maxLabelOctets, maxNameOctets}
 use Rattle.octets.specs.Lists.{All}
-use Rattle.octets.specs.Octets.{lowered, equalIgnoringCase}
+use Rattle.octets.specs.Octets.{text, lowered, equalIgnoringCase}
 use Rattle.name.specs.Names.{Name, wire, name, sameName, ancestors}
 use Rattle.name.specs.Places.{parentPlace}
 
 -- labels of 1 to 63 octets, 255 octets in all with the closing zero (RFC 1035 section 2.3.4)
 abbrev pub GoodName : Name → Type 0
 GoodName n = All (λ l. (1 ≤ length l) × (length l ≤ maxLabelOctets)) n × (length (wire n) ≤ maxNameOctets)
+
+-- RFC 1035 section 4.1.4's example, octet for octet
+abbrev pub Wire-example : Type 0
+Wire-example =
+    wire (text "F" ∷ text "ISI" ∷ text "ARPA" ∷ []) ≡ 1 ∷ 70 ∷ 3 ∷ 73 ∷ 83 ∷ 73 ∷ 4 ∷ 65 ∷ 82 ∷ 80 ∷ 65 ∷ 0 ∷ []
 
 -- a name is read exactly where its wire form stands
 abbrev pub Name-is-its-labels : Type 0

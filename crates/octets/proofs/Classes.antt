@@ -3,14 +3,14 @@ use Prim.Native.Nat.{ℕ, zero, suc, _≤_, _<_}
 use native.Mathlib.Nat.{not-suc-le-zero}
 use native.Mathlib.Omega.{arith}
 use mathlib.Core.Path.{_≡_, refl, sym, _∙_}
-use mathlib.Core.Logic.{_⊎_, inl, inr, ⊎-elim}
+use mathlib.Core.Logic.{_⊎_, inl, inr, ⊎-elim, Iff·rfl}
 use mathlib.Core.Bool.{Bool, true, false, _&&_, Bool·beq, and-eq-true-iff, and-false, or-false}
 use mathlib.Core.List.{List}
 use lib.Dec.{ltb, eqb}
 use borrow.Author.Tests.{le-leb, lt-leb, ltb-true, ltb-false, eqb-true, eqb-false, ne-eqb}
 use Rattle.octets.specs.Lists.{all, any}
 use Rattle.octets.specs.Octets.{text, between, isDigit, isUpper, isLower, isLetterOrDigit, isBlank, lower}
-use Rattle.octets.specs.Theorems.{Letter-case, Octet-classes}
+use Rattle.octets.specs.Theorems.{Octets-below-256, Letter-case, Octet-classes}
 use Rattle.octets.proofs.ListLaws.{decided, all-true, any-false, All-imp}
 
 between-outside : (low high x : ℕ) → (x < low) ⊎ (high < x) → between low high x ≡ false
@@ -63,3 +63,6 @@ octet-classes x = (
   where
     above : (low high : ℕ) → high < 128 → 128 ≤ x → between low high x ≡ false
     above low high h far = between-outside low high x (inr (omega arith))
+
+pub octets-below-256 : Octets-below-256
+octets-below-256 s = Iff·rfl

@@ -1,9 +1,11 @@
 -- An octet in decimal is 1 to 3 digits, not above 255.
-use Prim.Native.Nat.{ℕ, _≤_}
+use Prim.Native.Nat.{ℕ, _+_, _-_, _*_, _≤_}
+use Prim.Native.Char.{code}
+use native.Mathlib.Omega.{arith}
 use mathlib.Core.Path.{_≡_, refl}
 use mathlib.Core.Logic.{_↔_}
 use mathlib.Core.Bool.{Bool, true, false, cond, _&&_, and-eq-true-iff}
-use mathlib.Core.List.{List}
+use mathlib.Core.List.{List, [], _∷_, _++_}
 use mathlib.Core.Option.{Option, none, some, Option·none-ne-some, Option·some-injective}
 use lib.Dec.{leb}
 use lib.ListN.{length}
@@ -11,8 +13,17 @@ use borrow.Author.Tests.{leb-true, le-leb}
 use Rattle.octets.specs.Lists.{all, All}
 use Rattle.octets.specs.Octets.{between, isDigit}
 use Rattle.octets.specs.Decimal.{decimalFrom, decimalOctet}
-use Rattle.octets.specs.Theorems.{Decimal-octets}
+use Rattle.octets.specs.Theorems.{Last-place, Decimal-octets}
 use Rattle.octets.proofs.ListLaws.{all-true}
+use Rattle.octets.proofs.Numbers.{value-snoc}
+
+-- the last digit
+pub from-last : (m x : ℕ) (a : List ℕ) → decimalFrom m (a ++ (x ∷ [])) ≡ decimalFrom m a * 10 + (x - code "0")
+from-last m x [] = refl
+from-last m x (y ∷ a) = from-last (m * 10 + (y - code "0")) x a
+
+pub last-place : Last-place
+last-place = (refl, λ s x. value-snoc 0 s x, refl, λ s d. rw (from-last 0 (48 + d) s) (omega arith))
 
 chosen : (t : Bool) (m n : ℕ) → (cond t (some m) none ≡ some n) ↔ ((t ≡ true) × (m ≡ n))
 chosen true m n = (λ e. (refl, Option·some-injective m n e), λ h. rw (h .1))

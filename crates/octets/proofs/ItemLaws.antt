@@ -6,11 +6,11 @@ use mathlib.Core.Logic.{_↔_, _≢_}
 use mathlib.Core.List.{List, [], _∷_, _++_, map, foldr, append-nil, append-assoc, append-eq-nil-iff, cons≢nil}
 use mathlib.Core.Option.{Option, none, some, Option·none-ne-some}
 use lib.ListN.{length, length-append}
-use Rattle.octets.specs.Lists.{All, all-nil, all-cons, concat}
+use Rattle.octets.specs.Lists.{All, all-nil, all-cons, flatten}
 use Rattle.octets.specs.Octets.{Octets}
 use Rattle.octets.specs.Reader.{Reader}
 use Rattle.octets.specs.Items.{Items, whole, broken, over, follow, before, items, Front, BrokenAt, Beyond}
-use Rattle.octets.specs.Theorems.{Items-end-to-end}
+use Rattle.octets.specs.Theorems.{Item-faults, Items-end-to-end}
 use Rattle.octets.proofs.ListLaws.{All-head, All-tail, All-rest}
 use Rattle.octets.proofs.WholeLists.{not-empty}
 
@@ -72,7 +72,7 @@ module _ {A : Type 0} where
 module _ {A : Type 0} (wire : A → List ℕ) (Good : A → Type 0) where
   -- what the octets s say, of each outcome
   abbrev Says : ℕ → List ℕ → Items A → Type 0
-  Says room s (whole xs) = (s ≡ concat (map wire xs)) × All Good xs × (length xs ≤ room)
+  Says room s (whole xs) = (s ≡ flatten (map wire xs)) × All Good xs × (length xs ≤ room)
   Says room s (broken k) = (k < room) × BrokenAt wire Good s k
   Says room s over = Beyond wire Good room s
 
@@ -128,7 +128,7 @@ module _ {A : Type 0} (wire : A → List ℕ) (Good : A → Type 0) where
       items-front [] n room s rest o e f = let m : n ≡ room = omega arith in rw (m, f.0) refl
       items-front (a ∷ xs) zero room s rest o e f = absurd (omega arith)
       items-front (a ∷ xs) (suc n) room s rest o e f =
-          let t = concat (map wire xs) ++ rest in
+          let t = flatten (map wire xs) ++ rest in
           let first : s ≡ wire a ++ t = rw append-assoc at f.0 in
           rw (items-step read n s (λ z. full a (append-eq-nil-iff .0 (sym first ∙ z) .0)), reads s o a t .1 (first, All-head f.1))
           (ap (follow a) (items-front xs n room t rest (rests (wire a) t (rw first at o)) (omega arith) (refl, All-tail f.1)))
@@ -139,13 +139,16 @@ module _ {A : Type 0} (wire : A → List ℕ) (Good : A → Type 0) where
       items-said room s o (broken k) h =
           let (xs, rest, f, l, more, bad) = h.1 in
           items-front xs room (suc (room - suc k)) s rest o (omega arith) f
-          ∙ rw (items-step read (room - suc k) rest more, unread rest (rests (concat (map wire xs)) rest (rw f.0 at o)) bad, ← l) (follow-broken xs)
+          ∙ rw (items-step read (room - suc k) rest more, unread rest (rests (flatten (map wire xs)) rest (rw f.0 at o)) bad, ← l) (follow-broken xs)
       items-said room s o over h =
           let (xs, rest, f, l, more) = h in
           items-front xs room 0 s rest o (omega arith) f ∙ rw (items-over read rest more) (follow-over xs)
 
       items-tell : (room : ℕ) (s : List ℕ) → Fit s → (r : Items A) → (items read room s ≡ r) ↔ Says room s r
       items-tell room s o r = (λ e. rw e at (items-say room s o), items-said room s o r)
+
+pub item-faults : Item-faults
+item-faults A R bad many i = (λ xs e. rw e (refl, refl), λ k e. rw e (refl, refl), λ e. rw e (refl, refl))
 
 pub items-end-to-end : Items-end-to-end
 items-end-to-end A read wire Good reads full room s o = (λ xs. tell (whole xs), λ k. tell (broken k), tell over)
@@ -155,14 +158,14 @@ items-end-to-end A read wire Good reads full room s o = (λ xs. tell (whole xs),
 
 -- Items in any list, with room for as many items as there are octets: no more can stand there.
 module _ {A : Type 0} (wire : A → List ℕ) (Good : A → Type 0) (full : (a : A) → wire a ≢ []) where
-  fewer : (xs : List A) → length xs ≤ length (concat (map wire xs))
+  fewer : (xs : List A) → length xs ≤ length (flatten (map wire xs))
   fewer [] = omega arith
   fewer (a ∷ xs) = rw length-append (omega (arith, fewer xs, not-empty (wire a) (full a)))
 
   pub items-whole :
       (read : Reader A) →
       ((s : List ℕ) (a : A) (rest : List ℕ) → (read s ≡ some (a, rest)) ↔ ((s ≡ wire a ++ rest) × Good a)) →
-      (s : List ℕ) (xs : List A) → (items read (length s) s ≡ whole xs) ↔ ((s ≡ concat (map wire xs)) × All Good xs)
+      (s : List ℕ) (xs : List A) → (items read (length s) s ≡ whole xs) ↔ ((s ≡ flatten (map wire xs)) × All Good xs)
   items-whole read reads s xs =
       let law = items-tell wire Good (λ s. Unit {0}) (λ a b h. tt) read (λ s h. reads s) full (length s) s tt (whole xs) in
       (λ e. let (a, b, c) = law .0 e in (a, b), λ h. law .1 (h .0, h .1, rw (h .0) (fewer xs)))

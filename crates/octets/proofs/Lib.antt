@@ -2,6 +2,7 @@ pub mod ListLaws
 pub mod WholeLists
 pub mod Classes
 pub mod Texts
+pub mod Trims
 pub mod Labels
 pub mod PieceLaws
 pub mod DottedLabels

@@ -14,7 +14,7 @@ use Rattle.octets.proofs.ReaderLaws.{bind-some, octets-some, pure-some}
 use Rattle.octets.proofs.ListLaws.{All-head, All-front, All-rest}
 
 -- the last octet is the low one
-value-snoc : (n : ℕ) (a : List ℕ) (x : ℕ) → valueFrom n (a ++ (x ∷ [])) ≡ valueFrom n a * 256 + x
+pub value-snoc : (n : ℕ) (a : List ℕ) (x : ℕ) → valueFrom n (a ++ (x ∷ [])) ≡ valueFrom n a * 256 + x
 value-snoc n [] x = refl
 value-snoc n (y ∷ a) x = value-snoc (n * 256 + y) a x
 

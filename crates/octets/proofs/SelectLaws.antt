@@ -1,10 +1,11 @@
 -- The elements selected by a property: none, the first, the only selection; and a test that decides the property selects them.
 use mathlib.Core.Path.{_≡_, refl, sym, ap, _∙_}
 use mathlib.Core.Logic.{_↔_, ⊎-elim}
-use mathlib.Core.Bool.{Bool, true, false, true≢false}
+use mathlib.Core.Bool.{Bool, true, false, true≢false, false≢true}
 use mathlib.Core.List.{List, [], _∷_, _++_, map, nil≢cons, cons≢nil, head-eq-of-cons-eq, tail-eq-of-cons-eq}
-use Rattle.octets.specs.Lists.{consIf, select, All, all-nil, all-cons, Any, any-here, any-there, Selects, selects-nil, selects-take, selects-pass, First}
-use Rattle.octets.proofs.ListLaws.{decided, not-passed, All-head, All-tail}
+use Rattle.octets.specs.Lists.{consIf, select, isEmpty, All, all-nil, all-cons, Any, any-here, any-there, Selects, selects-nil, selects-take, selects-pass, First}
+use Rattle.octets.specs.Theorems.{List-tests}
+use Rattle.octets.proofs.ListLaws.{decided, not-passed, All-head, All-tail, ends-append}
 
 -- where one test says of f x what the other says of x
 pub select-map :
@@ -83,3 +84,16 @@ module _ {A : Type 0} {P : A → Type 0} where
 
     pub selects-exactly : (xs ys : List A) → (select p xs ≡ ys) ↔ Selects P xs ys
     selects-exactly xs ys = (λ e. rw e at (selected xs), selects-unique (selected xs))
+
+pub list-tests : List-tests
+list-tests A p xs x = (
+  selected p (λ y. (λ e. e, λ e. e)) xs,
+  (nothing xs, λ e. rw e),
+  refl,
+  ends-append p xs x [],
+  λ e. rw e (refl, refl),
+)
+  where
+    nothing : (xs : List A) → isEmpty xs ≡ true → xs ≡ []
+    nothing [] e = refl
+    nothing (y ∷ ys) e = absurd (false≢true e)

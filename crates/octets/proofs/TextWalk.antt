@@ -1,7 +1,7 @@
 -- Two texts compared octet by octet from the front: what is left of them gives the answer.
 use Prim.Native.Nat.{ℕ, _+_, _≤_, _<_}
 use native.Mathlib.Omega.{arith}
-use mathlib.Core.Path.{_≡_, sym, _∙_}
+use mathlib.Core.Path.{_≡_, refl, sym, ap, _∙_}
 use mathlib.Core.Bool.{true, false}
 use mathlib.Core.List.{List}
 use lib.ListN.{length, getD, drop, drop-of-length-le}
@@ -30,3 +30,7 @@ module _ (a b : List ℕ) (i : ℕ) (left : equalIgnoringCase a b ≡ equalIgnor
     same-stop ne =
         sym (left
         ∙ rw (drop-step 0 a i (i + 1) h, drop-step 0 b i (i + 1) (omega arith), ne-eqb (lower (getD a i 0)) (lower (getD b i 0)) (λ e. ne (cc))))
+
+  pub same-octet :
+      (j : ℕ) → getD a i 0 ≡ getD b i 0 → i < length a → j ≡ i + 1 → equalIgnoringCase a b ≡ equalIgnoringCase (drop j a) (drop j b)
+  same-octet j e h next = same-turn (lower (getD a i 0)) (lower (getD b i 0)) h refl refl j (ap lower e) next

@@ -5,7 +5,7 @@ use mathlib.Core.Logic.{_≢_}
 use mathlib.Core.List.{List, [], _∷_, _++_, map}
 use mathlib.Core.Option.{Option, none, some}
 use lib.ListN.{length}
-use Rattle.octets.specs.Lists.{All, concat}
+use Rattle.octets.specs.Lists.{All, flatten}
 use Rattle.octets.specs.Reader.{Reader}
 
 -- what reading some octets as items comes to
@@ -52,7 +52,7 @@ module _ {A : Type 0} (read : Reader A) where
 module _ {A : Type 0} (wire : A → List ℕ) (Good : A → Type 0) where
   -- good items xs, in their order, stand at the front of s, and rest follows
   abbrev pub Front : List ℕ → List A → List ℕ → Type 0
-  Front s xs rest = (s ≡ concat (map wire xs) ++ rest) × All Good xs
+  Front s xs rest = (s ≡ flatten (map wire xs) ++ rest) × All Good xs
 
   -- k good items stand at the front of s, more octets follow, and no good item stands there
   abbrev pub BrokenAt : List ℕ → ℕ → Type 0

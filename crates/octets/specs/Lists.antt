@@ -37,9 +37,9 @@ module _ {A : Type 0} where
   ends p (x ∷ y ∷ xs) = ends p (y ∷ xs)
 
   -- lists end to end
-  abbrev pub concat : List (List A) → List A
-  concat [] = []
-  concat (xs ∷ xss) = xs ++ concat xss
+  abbrev pub flatten : List (List A) → List A
+  flatten [] = []
+  flatten (xs ∷ xss) = xs ++ flatten xss
 
   -- what holds of every element
   pub data All (P : A → Type 0) : List A → Type 0 where

@@ -1,5 +1,6 @@
 -- What the definitions of this crate mean. Each statement is proved under its name in proofs/.
-use Prim.Native.Nat.{ℕ, _+_, _^_, _≤_, _<_}
+use Prim.Native.Nat.{ℕ, _+_, _*_, _^_, _≤_, _<_}
+use Prim.Native.Char.{code}
 use mathlib.Core.Path.{_≡_}
 use mathlib.Core.Logic.{_↔_, _≢_, _⊎_}
 use mathlib.Core.Bool.{Bool, true, false}
@@ -8,14 +9,18 @@ use mathlib.Core.Option.{Option, none, some}
 use lib.Dec.{eqb}
 use lib.ListN.{length}
 use Rattle.limits.specs.Limits.{maxLabelOctets}
-use Rattle.octets.specs.Lists.{All, any, concat}
-use Rattle.octets.specs.Octets.{Octets, text, isDigit, isLetterOrDigit, isBlank, hyphen, lower, lowered, equalIgnoringCase}
+use Rattle.octets.specs.Lists.{any, select, isEmpty, begins, ends, flatten, All, Selects}
+use Rattle.octets.specs.Octets.{Octets, text, isDigit, isLetterOrDigit, isBlank, hyphen, trimStart, lower, lowered, equalIgnoringCase}
 use Rattle.octets.specs.Label.{isLetterDigitHyphen, isLabel, isHostLabel}
 use Rattle.octets.specs.Pieces.{split, join}
-use Rattle.octets.specs.Reader.{Reader, number, inOctets}
-use Rattle.octets.specs.Items.{Items, whole, broken, over, items, BrokenAt, Beyond}
+use Rattle.octets.specs.Reader.{Reader, valueFrom, number, inOctets}
+use Rattle.octets.specs.Items.{Items, whole, broken, over, wholeItems, itemFault, items, BrokenAt, Beyond}
 use Rattle.octets.specs.Decimal.{decimalFrom, decimalOctet}
 use Rattle.octets.specs.Grammar.{label}
+
+-- octets are the numbers below 256, all of them: any slice of octets is such a list
+abbrev pub Octets-below-256 : Type 0
+Octets-below-256 = (s : List ℕ) → Octets s ↔ All (λ x. x < 256) s
 
 -- only the 26 capital letters fold, each to its small letter
 abbrev pub Letter-case : Type 0
@@ -29,6 +34,10 @@ Octet-classes =
     × (isLetterOrDigit x ≡ any (eqb x) (text "ABCDEFGHIJKLMNOPQRSTUVWXYZabcdefghijklmnopqrstuvwxyz0123456789"))
     × (isBlank x ≡ any (eqb x) (text " \t"))
 
+-- what is trimmed off are blanks, and none is left in front
+abbrev pub Trimmed : Type 0
+Trimmed = (s : List ℕ) → (b : List ℕ) × (s ≡ b ++ trimStart s) × All (λ x. isBlank x ≡ true) b × (begins isBlank (trimStart s) ≡ false)
+
 -- two texts are the same exactly when they are equal lists in small letters; so no proper tail or front of a text is that text
 abbrev pub Whole-texts : Type 0
 Whole-texts =
@@ -40,6 +49,10 @@ Whole-texts =
 abbrev pub Label-is-the-production : Type 0
 Label-is-the-production = (l : List ℕ) → (isLabel l ≡ true) ↔ label l
 
+-- letters, digits and 45, the hyphen
+abbrev pub Label-octets : Type 0
+Label-octets = (x : ℕ) → (isLetterDigitHyphen x ≡ true) ↔ ((isLetterOrDigit x ≡ true) ⊎ (x ≡ 45))
+
 -- "1 to 63 letters, digits and hyphens", and neither first nor last a hyphen
 abbrev pub Host-label : List ℕ → Type 0
 Host-label l =
@@ -49,11 +62,24 @@ Host-label l =
 abbrev pub Host-labels : Type 0
 Host-labels = (l : List ℕ) → (isHostLabel l ≡ true) ↔ Host-label l
 
+-- the elements that pass are selected; the first and the last element are tested, and an empty list has none
+abbrev pub List-tests : Type 1
+List-tests =
+    (A : Type 0) (p : A → Bool) (xs : List A) (x : A) →
+    Selects (λ y. p y ≡ true) xs (select p xs)
+    × ((isEmpty xs ≡ true) ↔ (xs ≡ []))
+    × (begins p (x ∷ xs) ≡ p x) × (ends p (xs ++ (x ∷ [])) ≡ p x)
+    × (xs ≡ [] → (begins p xs ≡ false) × (ends p xs ≡ false))
+
 -- the pieces of a text are the one way to make it by joining texts without the octet c
 abbrev pub Pieces-join : Type 0
 Pieces-join =
     (c : ℕ) (s : List ℕ) (ps : List (List ℕ)) →
     (split c s ≡ ps) ↔ ((s ≡ join c ps) × (ps ≢ []) × All (λ p. All (λ x. x ≢ c) p) ps)
+
+-- in the order in which they stand
+abbrev pub Pieces-example : Type 0
+Pieces-example = split (code ".") (text "ca1.example.net") ≡ text "ca1" ∷ text "example" ∷ text "net" ∷ []
 
 -- a number of k octets is read exactly where it is written
 abbrev pub Numbers-high-octet-first : Type 0
@@ -61,12 +87,26 @@ Numbers-high-octet-first =
     (k : ℕ) (s : List ℕ) → Octets s → (n : ℕ) (rest : List ℕ) →
     (number k s ≡ some (n, rest)) ↔ ((s ≡ inOctets k n ++ rest) × (n < 256 ^ k))
 
+-- what an octet or a digit behind a number makes of it
+abbrev pub Last-place : Type 0
+Last-place =
+    (valueFrom 0 [] ≡ 0) × ((s : List ℕ) (x : ℕ) → valueFrom 0 (s ++ (x ∷ [])) ≡ valueFrom 0 s * 256 + x)
+    × (decimalFrom 0 [] ≡ 0) × ((s : List ℕ) (d : ℕ) → decimalFrom 0 (s ++ ((48 + d) ∷ [])) ≡ decimalFrom 0 s * 10 + d)
+
 -- an octet in decimal: 1 to 3 digits, not above 255
 abbrev pub Decimal-octets : Type 0
 Decimal-octets =
     (s : List ℕ) (n : ℕ) →
     (decimalOctet s ≡ some n)
     ↔ ((1 ≤ length s) × (length s ≤ 3) × All (λ x. isDigit x ≡ true) s × (decimalFrom 0 s ≡ n) × (n ≤ 255))
+
+-- the items if they are whole; else the fault, with the place of a broken one
+abbrev pub Item-faults : Type 1
+Item-faults =
+    (A R : Type 0) (bad : ℕ → R) (many : R) (i : Items A) →
+    ((xs : List A) → i ≡ whole xs → (wholeItems i ≡ xs) × (itemFault bad many i ≡ none))
+    × ((k : ℕ) → i ≡ broken k → (wholeItems i ≡ []) × (itemFault bad many i ≡ some (bad k)))
+    × (i ≡ over → (wholeItems i ≡ []) × (itemFault bad many i ≡ some many))
 
 module _ {A : Type 0} (read : Reader A) (wire : A → List ℕ) (Good : A → Type 0) where
   -- the reader takes a off the front exactly where the octets of a stand there and a is good
@@ -78,7 +118,7 @@ module _ {A : Type 0} (read : Reader A) (wire : A → List ℕ) (Good : A → Ty
   abbrev pub Items-are-read : Type 0
   Items-are-read =
       (room : ℕ) (s : List ℕ) → Octets s →
-      ((xs : List A) → (items read room s ≡ whole xs) ↔ ((s ≡ concat (map wire xs)) × All Good xs × (length xs ≤ room)))
+      ((xs : List A) → (items read room s ≡ whole xs) ↔ ((s ≡ flatten (map wire xs)) × All Good xs × (length xs ≤ room)))
       × ((k : ℕ) → (items read room s ≡ broken k) ↔ ((k < room) × BrokenAt wire Good s k))
       × ((items read room s ≡ over) ↔ Beyond wire Good room s)
 

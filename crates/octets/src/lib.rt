@@ -66,10 +66,16 @@ pub fn same_ignoring_case(a: &[u8], b: &[u8]) -> bool
     }
     let mut i: usize = 0;
     while i < a.len() {
-        if to_lower(a[i]) != to_lower(b[i]) {
+        let x = a[i];
+        let y = b[i];
+        i += 1;
+        // Most equal octets are of one case.
+        if x == y {
+            continue;
+        }
+        if to_lower(x) != to_lower(y) {
             return false;
         }
-        i += 1;
     }
     true
 }

@@ -1,8 +1,38 @@
--- What is packed is found again.
+-- What is packed is found again; of a refusal the number and the place.
+use Prim.Native.Nat.{_^_, _<_}
 use native.Mathlib.Omega.{arith}
-use Rattle.packed.specs.Packed.{packed}
-use Rattle.packed.specs.Theorems.{Unpacks}
+use mathlib.Core.Path.{refl}
+use Rattle.refusal.specs.declared.Refusal.{Refusal}
+use Rattle.refusal.specs.declared.Refusal.the-variants.{RequestTooLong, BadName, TooManyNames, BadIssuer, BookTooLong, BadRecord, TooManyRecords, NoRoom, BadLine, LineTooLong, BadData}
+use Rattle.refusal.specs.Refusal.{number, place}
+use Rattle.packed.specs.Packed.{packed, packedRefusal, packedCheck}
+use Rattle.packed.specs.Theorems.{Unpacks, Fields-apart, Refusal-unpacks}
 
 pub unpacks : Unpacks
 unfolding packed
 unpacks n a b c hn ha hb hc = (omega arith, omega arith, omega arith, omega arith, omega arith)
+
+pub fields-apart : Fields-apart
+unfolding packed
+fields-apart n a b c = (omega arith, omega arith, omega arith, omega arith, omega arith)
+
+pub number-small : (r : Refusal) → number r < 2 ^ 8
+unfolding number
+number-small RequestTooLong = omega arith
+number-small (BadName k) = omega arith
+number-small TooManyNames = omega arith
+number-small BadIssuer = omega arith
+number-small BookTooLong = omega arith
+number-small (BadRecord r) = omega arith
+number-small TooManyRecords = omega arith
+number-small (NoRoom n) = omega arith
+number-small BadLine = omega arith
+number-small LineTooLong = omega arith
+number-small BadData = omega arith
+
+pub refusal-unpacks : Refusal-unpacks
+unfolding packedRefusal packedCheck
+refusal-unpacks = (
+  refl,
+  λ r. (refl, λ h. let u = unpacks (number r) (place r) 0 0 (number-small r) h (omega arith) (omega arith) in (u .0, u .1, u .2, u .3)),
+)

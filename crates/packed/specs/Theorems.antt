@@ -1,7 +1,10 @@
 -- What the definitions of this crate mean. Each statement is proved under its name in proofs/.
-use Prim.Native.Nat.{ℕ, _<_, _^_}
+use Prim.Native.Nat.{ℕ, _<_, _%_, _^_}
 use mathlib.Core.Path.{_≡_}
-use Rattle.packed.specs.Packed.{packed, numberIn, fieldA, fieldB, fieldC}
+use Rattle.refusal.specs.declared.Refusal.{Refusal}
+use Rattle.refusal.specs.declared.Check.the-variants.{Accepted, Refused}
+use Rattle.refusal.specs.Refusal.{number, place}
+use Rattle.packed.specs.Packed.{packed, packedRefusal, packedCheck, numberIn, fieldA, fieldB, fieldC}
 
 -- what is packed is found again, and the whole fits 64 bits
 abbrev pub Unpacks : Type 0
@@ -9,3 +12,18 @@ Unpacks =
     (n a b c : ℕ) → n < 2 ^ 8 → a < 2 ^ 24 → b < 2 ^ 16 → c < 2 ^ 16 →
     (numberIn (packed n a b c) ≡ n) × (fieldA (packed n a b c) ≡ a) × (fieldB (packed n a b c) ≡ b) × (fieldC (packed n a b c) ≡ c)
     × (packed n a b c < 2 ^ 64)
+
+-- whatever is packed, no field reaches into another or past bit 63
+abbrev pub Fields-apart : Type 0
+Fields-apart =
+    (n a b c : ℕ) →
+    (numberIn (packed n a b c) ≡ n % 2 ^ 8) × (fieldA (packed n a b c) ≡ a % 2 ^ 24) × (fieldB (packed n a b c) ≡ b % 2 ^ 16)
+    × (fieldC (packed n a b c) ≡ c % 2 ^ 16) × (packed n a b c < 2 ^ 64)
+
+-- of a refusal its number and its place in a; of a check the same, or 0
+abbrev pub Refusal-unpacks : Type 0
+Refusal-unpacks =
+    (packedCheck Accepted ≡ 0)
+    × ((r : Refusal) → (packedCheck (Refused r) ≡ packedRefusal r)
+    × (place r < 2 ^ 24 → (numberIn (packedRefusal r) ≡ number r) × (fieldA (packedRefusal r) ≡ place r)
+    × (fieldB (packedRefusal r) ≡ 0) × (fieldC (packedRefusal r) ≡ 0)))

@@ -8,21 +8,10 @@ use mathlib.Core.Option.{Option, none, some, Option·none-ne-some}
 use Rattle.octets.specs.Lists.{begins, all-nil, all-cons}
 use Rattle.octets.specs.Octets.{isBlank, trimStart}
 use Rattle.octets.proofs.ReaderLaws.{pure-some}
+use Rattle.octets.proofs.Trims.{trimmed}
 use Rattle.octets.proofs.Runs.{Blank, Blankless, many-of, of-many}
 use Rattle.presentation.specs.Read.{extendField, field}
 use Rattle.presentation.specs.Grammar.{someBlanks}
-
--- rest is s without the blanks at its front
-abbrev Taken : List ℕ → List ℕ → Type 0
-Taken s rest = (b : List ℕ) × (s ≡ b ++ rest) × Blank b × (begins isBlank rest ≡ false)
-
-blanks-taken : (s : List ℕ) → Taken s (trimStart s)
-blanks-taken [] = ([], refl, all-nil, refl)
-blanks-taken (x ∷ s) = go (isBlank x) refl (blanks-taken s)
-  where
-    go : (t : Bool) → isBlank x ≡ t → Taken s (trimStart s) → Taken (x ∷ s) (cond t (trimStart s) (x ∷ s))
-    go true e k = (x ∷ k .0, ap (_∷_ x) (k .1), all-cons e (k .2), k .3)
-    go false e k = ([], refl, all-nil, e)
 
 blanks-off : {b : List ℕ} → Blank b → (s : List ℕ) → begins isBlank s ≡ false → trimStart (b ++ s) ≡ s
 blanks-off all-nil [] n = refl
@@ -48,7 +37,7 @@ field-read (x ∷ s) f rest h = go (isBlank x) refl h (field-read s)
 
     here : ([] ≡ f) × (trimStart s ≡ rest) → isBlank x ≡ true → Apart (x ∷ s) f rest
     here e y =
-        let (b, front, blank, n) = blanks-taken s in
+        let (b, front, blank, n) = trimmed s in
         rw (← e .0, ← e .1) (x ∷ b, ap (_∷_ x) front, all-nil, (x ∷ [], b, refl, (x, refl, y), of-many blank), n)
 
     go :

@@ -10,6 +10,7 @@ pub mod Lines
 pub mod CallRefusals
 pub mod LineRefusals
 pub mod WrittenParts
+pub mod WrittenForm
 pub mod LineLength
 pub mod RoundTrip
 pub mod ReadBack

@@ -5,7 +5,7 @@ use mathlib.Core.Path.{ap}
 use mathlib.Core.List.{List, [], _∷_, map}
 use lib.ListN.{length, length-append, length-map}
 use Rattle.limits.specs.Limits.{maxDataOctets, maxLineOctets}
-use Rattle.octets.specs.Lists.{concat}
+use Rattle.octets.specs.Lists.{flatten}
 use Rattle.presentation.specs.Written.{line}
 use Rattle.presentation.specs.Read.{Unit, plain, quoted, numbered, valueOf}
 use Rattle.presentation.specs.Grammar.{wireUnit}
@@ -17,7 +17,7 @@ unit-length (plain x) = omega arith
 unit-length (quoted x) = omega arith
 unit-length (numbered a b c) = omega arith
 
-units-length : (us : List Unit) → length (concat (map wireUnit us)) ≤ 4 * length us
+units-length : (us : List Unit) → length (flatten (map wireUnit us)) ≤ 4 * length us
 units-length [] = omega arith
 units-length (u ∷ us) = rw length-append (omega (arith, unit-length u, units-length us))
 

@@ -7,7 +7,7 @@ use mathlib.Core.List.{List, [], _∷_, _++_, map, dropLast, cons≢nil, head-eq
 use mathlib.Core.Option.{none, some, Option·none-ne-some}
 use lib.Dec.{eqb}
 use borrow.Author.Tests.{eqb-true, ne-eqb}
-use Rattle.octets.specs.Lists.{begins, ends, All, concat}
+use Rattle.octets.specs.Lists.{begins, ends, All, flatten}
 use Rattle.octets.specs.Octets.{isBlank}
 use Rattle.octets.proofs.ListLaws.{All-head, ends-append}
 use Rattle.octets.proofs.DottedLabels.{told-apart}
@@ -36,7 +36,7 @@ isFirst x = isBare x || eqb x backslash
 bare-first : (v : List ℕ) (x : ℕ) (s : List ℕ) → UnitsFor isBare v (x ∷ s) → isFirst x ≡ true
 bare-first v x s units = go (units .0) (units .1) (units .2)
   where
-    go : (us : List Unit) → x ∷ s ≡ concat (map wireUnit us) → All (GoodUnit isBare) us → isFirst x ≡ true
+    go : (us : List Unit) → x ∷ s ≡ flatten (map wireUnit us) → All (GoodUnit isBare) us → isFirst x ≡ true
     go [] e good = absurd (cons≢nil e)
     go (plain y ∷ us) e good = rw (head-eq-of-cons-eq e, All-head good .0)
     go (quoted y ∷ us) e good = rw (head-eq-of-cons-eq e, or-true)

@@ -13,9 +13,10 @@ use Rattle.record.proofs.PropertyLaws.{property-is-its-parts}
 use Rattle.presentation.specs.declared.Made.the-variants.{Length}
 use Rattle.presentation.specs.Written.{line}
 use Rattle.presentation.specs.Calls.{Output, placed, writeLine, parseLine}
-use Rattle.presentation.specs.Theorems.{smallTag, Written-reads-back}
+use Rattle.presentation.specs.Theorems.{smallTag, Line-placed, Data-placed, Written-reads-back}
 use Rattle.presentation.proofs.LineLength.{line-fits}
-use Rattle.presentation.proofs.RoundTrip.{there-and-back}
+use Rattle.presentation.proofs.Lines.{line-is-the-grammar}
+use Rattle.presentation.proofs.WrittenParts.{line-written}
 
 -- what fits is placed at the front of the buffer
 abbrev at-front : List ℕ → List ℕ → Output
@@ -25,8 +26,27 @@ placed-fits : (made buffer : List ℕ) → length made ≤ length buffer → pla
 unfolding placed
 placed-fits made buffer fits = rw (le-leb (length made) (length buffer) fits)
 
+pub line-placed : Line-placed
+unfolding writeLine
+line-placed d buffer p short (is, tagged, letters) room =
+    rw (
+      le-leb (length d) maxDataOctets short,
+      property-is-its-parts d p .1 (is, tagged),
+      all-true isLetterOrDigit (p .tag) .1 letters,
+    )
+    (placed-fits (line p) buffer room)
+
+pub data-placed : Data-placed
+unfolding parseLine
+data-placed s buffer p short stands fits room =
+    rw (
+      le-leb (length s) maxLineOctets short,
+      line-is-the-grammar s p .1 stands,
+      le-leb (length (wireProperty p)) maxDataOctets fits,
+    )
+    (placed-fits (wireProperty p) buffer room)
+
 pub written-reads-back : Written-reads-back
-unfolding writeLine parseLine
 written-reads-back p b₁ b₂ has fits room₁ room₂ = rw (written, take-append-seam, read) (refl, ap Length same, take-at w _ _ same)
   where
     w : List ℕ
@@ -36,19 +56,7 @@ written-reads-back p b₁ b₂ has fits room₁ room₂ = rw (written, take-appe
     same = simp (length-append, length-map)
 
     written : writeLine (wireProperty p) b₁ ≡ at-front (line p) b₁
-    written =
-        rw (
-          le-leb (length (wireProperty p)) maxDataOctets fits,
-          property-is-its-parts (wireProperty p) p .1 (refl, has .1 .0),
-          all-true isLetterOrDigit (p .tag) .1 (has .1 .2),
-        )
-        (placed-fits (line p) b₁ room₁)
+    written = line-placed (wireProperty p) b₁ p fits (refl, has .1 .0, has .1 .2) room₁
 
     read : parseLine (line p) b₂ ≡ at-front w b₂
-    read =
-        rw (
-          le-leb (length (line p)) maxLineOctets (line-fits p has fits),
-          there-and-back p has,
-          le-leb (length w) maxDataOctets (rw same fits),
-        )
-        (placed-fits w b₂ (rw same room₂))
+    read = data-placed (line p) b₂ (smallTag p) (line-fits p has fits) (line-written p has) (rw same fits) (rw same room₂)

@@ -8,7 +8,7 @@ use mathlib.Core.Option.{some, Option·none-ne-some, Option·some-injective}
 use lib.Dec.{eqb, leb}
 use lib.ListN.{length}
 use borrow.Author.Tests.{eqb-true, eqb-false, ne-eqb, leb-true, le-leb}
-use Rattle.octets.specs.Lists.{All, concat}
+use Rattle.octets.specs.Lists.{All, flatten}
 use Rattle.octets.specs.Octets.{between, isDigit}
 use Rattle.octets.specs.Decimal.{decimalFrom}
 use Rattle.octets.specs.Reader.{given}
@@ -80,5 +80,5 @@ module _ (class : ℕ → Bool) where
     λ h. let (us, stand, good, w) = h in rw (law us .1 (stand, good), w),
   )
     where
-      law : (us : List Unit) → (items (unit class) (length s) s ≡ whole us) ↔ ((s ≡ concat (map wireUnit us)) × All (GoodUnit class) us)
+      law : (us : List Unit) → (items (unit class) (length s) s ≡ whole us) ↔ ((s ≡ flatten (map wireUnit us)) × All (GoodUnit class) us)
       law = items-whole wireUnit (GoodUnit class) unit-full (unit class) unit-reads s

@@ -8,7 +8,7 @@ use mathlib.Core.List.{List, [], _∷_, _++_, map, append-assoc}
 use lib.Dec.{ltb, eqb}
 use lib.ListN.{length-map}
 use borrow.Author.Tests.{le-leb, ltb-true, eqb-true, eqb-false}
-use Rattle.octets.specs.Lists.{all-nil, all-cons, concat}
+use Rattle.octets.specs.Lists.{all-nil, all-cons, flatten}
 use Rattle.octets.specs.Octets.{Octets, between, isDigit, isBlank, lower, lowered}
 use Rattle.octets.specs.Grammar.{many-none}
 use Rattle.octets.proofs.ListLaws.{or-true, or-false, All-map}
@@ -19,7 +19,7 @@ use Rattle.presentation.specs.Read.{Unit, plain, quoted, numbered, value
 use Rattle.presentation.specs.Grammar.{someBlanks, FlagsField, TagField, wireUnit, GoodUnit, UnitsFor, LineOf}
 use Rattle.presentation.specs.Theorems.{smallTag, HasLine}
 
-is-digit : (d : ℕ) → d < 10 → isDigit (digit d) ≡ true
+pub is-digit : (d : ℕ) → d < 10 → isDigit (digit d) ≡ true
 unfolding isDigit
 is-digit d h = rw (le-leb 48 (48 + d) (omega arith), le-leb (48 + d) 57 (omega arith))
 
@@ -70,7 +70,7 @@ octet-written x h = go (eqb x quote || eqb x backslash) refl (between 32 126 x) 
       omega arith,
     )
 
-pub value-written : {v : List ℕ} → Octets v → UnitsFor isInQuotes v (concat (map escaped v))
+pub value-written : {v : List ℕ} → Octets v → UnitsFor isInQuotes v (flatten (map escaped v))
 value-written all-nil = ([], refl, all-nil, refl)
 value-written (all-cons {x} h hs) =
     let (u, e, good, is) = octet-written x h in
@@ -84,7 +84,7 @@ a-space = (space ∷ [], [], refl, (space, refl, refl), many-none)
 pub line-written : (p : Property) → HasLine p → LineOf (smallTag p) (line p)
 unfolding line
 line-written p (f, t, v) =
-    let c = concat (map escaped (p .value)) in
+    let c = flatten (map escaped (p .value)) in
     let valueOn = (space ∷ []) ++ (quote ∷ (c ++ (quote ∷ []))) in (
       decimal (p .flags),
       (space ∷ []) ++ (lowered (p .tag) ++ valueOn),

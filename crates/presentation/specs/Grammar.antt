@@ -7,7 +7,7 @@ use mathlib.Core.Bool.{Bool, true, false}
 use mathlib.Core.List.{List, [], _∷_, _++_, map}
 use lib.ListN.{length}
 use Rattle.limits.specs.Limits.{maxTagOctets}
-use Rattle.octets.specs.Lists.{All, concat}
+use Rattle.octets.specs.Lists.{All, flatten}
 use Rattle.octets.specs.Octets.{isDigit, isLetterOrDigit, isBlank}
 use Rattle.octets.specs.Decimal.{decimalFrom}
 use Rattle.octets.specs.Grammar.{Production, one, many, _⊕_}
@@ -41,7 +41,7 @@ GoodUnit class (numbered a b c) =
 
 -- s is units that stand for the octets v
 abbrev pub UnitsFor : (ℕ → Bool) → List ℕ → List ℕ → Type 0
-UnitsFor class v s = (us : List Unit) × (s ≡ concat (map wireUnit us)) × All (GoodUnit class) us × (map valueOf us ≡ v)
+UnitsFor class v s = (us : List Unit) × (s ≡ flatten (map wireUnit us)) × All (GoodUnit class) us × (map valueOf us ≡ v)
 
 -- quoted, or bare and not empty
 abbrev pub ValueField : List ℕ → List ℕ → Type 0

@@ -1,22 +1,23 @@
 -- What the definitions of this crate mean. Each statement is proved under its name in proofs/.
-use Prim.Native.Nat.{ℕ, _≤_, _<_}
+use Prim.Native.Nat.{ℕ, _+_, _*_, _≤_, _<_}
 use mathlib.Core.Path.{_≡_}
-use mathlib.Core.Logic.{_↔_, _⊎_}
+use mathlib.Core.Logic.{_↔_, _≢_, _⊎_}
 use mathlib.Core.Bool.{true, false}
-use mathlib.Core.List.{List, [], _∷_, _++_}
+use mathlib.Core.List.{List, [], _∷_, _++_, map}
 use mathlib.Core.Option.{Option, none, some}
-use lib.ListN.{length, take}
+use lib.ListN.{length, take, drop}
 use Rattle.limits.specs.Limits.{maxDataOctets, maxLineOctets}
 use Rattle.refusal.specs.declared.Refusal.{Refusal}
 use Rattle.refusal.specs.declared.Refusal.the-variants.{NoRoom, BadLine, LineTooLong, BadData}
-use Rattle.octets.specs.Lists.{All}
-use Rattle.octets.specs.Octets.{Octets, lowered, isLetterOrDigit}
+use Rattle.octets.specs.Lists.{All, flatten}
+use Rattle.octets.specs.Octets.{Octets, lowered, isDigit, isLetterOrDigit}
+use Rattle.octets.specs.Decimal.{decimalFrom}
 use Rattle.record.specs.Property.{Property, wireProperty}
 use Rattle.presentation.specs.declared.Made.the-variants.{Length, Refused}
-use Rattle.presentation.specs.Written.{line}
-use Rattle.presentation.specs.Read.{readLine}
+use Rattle.presentation.specs.Written.{decimal, escaped, line}
+use Rattle.presentation.specs.Read.{plain, quoted, numbered, valueOf, isInQuotes, isBare, readLine}
 use Rattle.presentation.specs.Calls.{writeLine, parseLine}
-use Rattle.presentation.specs.Grammar.{LineOf, TagField}
+use Rattle.presentation.specs.Grammar.{LineOf, FlagsField, TagField}
 
 -- the same data with its tag in small letters
 abbrev pub smallTag : Property → Property
@@ -29,6 +30,36 @@ HasLine p = (p .flags < 256) × TagField (p .tag) × Octets (p .value)
 -- the reader accepts exactly the lines that the requirements describe, each for the one property that it stands for
 abbrev pub Line-is-the-grammar : Type 0
 Line-is-the-grammar = (s : List ℕ) (p : Property) → (readLine s ≡ some p) ↔ LineOf p s
+
+-- inside quotes 32 to 126 except 34, the quote, and 92, the backslash; bare 33 to 126 except these, 59, the semicolon, and 40 and 41,
+-- the brackets
+abbrev pub Plain-octets : Type 0
+Plain-octets =
+    (x : ℕ) →
+    ((isInQuotes x ≡ true) ↔ ((32 ≤ x) × (x ≤ 126) × (x ≢ 34) × (x ≢ 92)))
+    × ((isBare x ≡ true) ↔ ((33 ≤ x) × (x ≤ 126) × (x ≢ 34) × (x ≢ 92) × (x ≢ 59) × (x ≢ 40) × (x ≢ 41)))
+
+-- what a unit stands for: the octet, alone or behind a backslash, or the number of the three digits
+abbrev pub Unit-values : Type 0
+Unit-values =
+    (x a b c : ℕ) →
+    (valueOf (plain x) ≡ x) × (valueOf (quoted x) ≡ x) × (valueOf (numbered (48 + a) (48 + b) (48 + c)) ≡ a * 100 + b * 10 + c)
+
+-- what is written: 32 to 126 stand as they are, but quote and backslash take a backslash; all others are backslash and three digits
+abbrev pub Octet-as-written : Type 0
+Octet-as-written =
+    (x : ℕ) →
+    ((32 ≤ x) × (x ≤ 126) × (x ≢ 34) × (x ≢ 92) → escaped x ≡ x ∷ [])
+    × ((x ≡ 34) ⊎ (x ≡ 92) → escaped x ≡ 92 ∷ x ∷ [])
+    × (x < 256 → (x < 32) ⊎ (126 < x) → (a b c : ℕ) × (escaped x ≡ 92 ∷ a ∷ b ∷ c ∷ [])
+    × All (λ y. isDigit y ≡ true) (a ∷ b ∷ c ∷ []) × (decimalFrom 0 (a ∷ b ∷ c ∷ []) ≡ x))
+
+-- flags with no needless zero, one space, tag in small letters, one space, the value in quotes
+abbrev pub Line-as-written : Type 0
+Line-as-written =
+    (p : Property) →
+    (line p ≡ decimal (p .flags) ++ ((32 ∷ lowered (p .tag)) ++ ((32 ∷ 34 ∷ flatten (map escaped (p .value))) ++ (34 ∷ []))))
+    × (p .flags < 256 → FlagsField (p .flags) (decimal (p .flags)) × ((s : List ℕ) → decimal (p .flags) ≡ 48 ∷ s → s ≡ []))
 
 -- reading the written line gives the data with its tag in small letters
 abbrev pub There-and-back : Type 0
@@ -67,6 +98,19 @@ Read-refusals =
     × ((n : ℕ) → (parseLine s buffer .answer ≡ Refused (NoRoom n))
     ↔ ((length s ≤ maxLineOctets) × ((p : Property) × LineOf p s × (length (wireProperty p) ≤ maxDataOctets) × (length (wireProperty p) ≡ n) × (length buffer < n))))
     × ((r : Refusal) → parseLine s buffer .answer ≡ Refused r → parseLine s buffer .buffer ≡ buffer)
+
+-- with room enough what is made stands at the front, its length is told and the rest of the buffer stays
+abbrev pub Line-placed : Type 0
+Line-placed =
+    (d buffer : List ℕ) (p : Property) → length d ≤ maxDataOctets → Writable d p → length (line p) ≤ length buffer →
+    writeLine d buffer ≡ record { answer = Length (length (line p)); buffer = line p ++ drop (length (line p)) buffer }
+
+abbrev pub Data-placed : Type 0
+Data-placed =
+    (s buffer : List ℕ) (p : Property) → length s ≤ maxLineOctets → LineOf p s → length (wireProperty p) ≤ maxDataOctets →
+    length (wireProperty p) ≤ length buffer →
+    parseLine s buffer
+    ≡ record { answer = Length (length (wireProperty p)); buffer = wireProperty p ++ drop (length (wireProperty p)) buffer }
 
 -- with room enough, reading what was written gives the data with its tag in small letters, whatever the buffers held
 abbrev pub Written-reads-back : Type 0

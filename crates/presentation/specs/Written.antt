@@ -4,7 +4,7 @@ use Prim.Native.Char.{code}
 use mathlib.Core.Bool.{Bool, cond, _||_}
 use mathlib.Core.List.{List, [], _∷_, _++_, map}
 use lib.Dec.{eqb, ltb}
-use Rattle.octets.specs.Lists.{concat}
+use Rattle.octets.specs.Lists.{flatten}
 use Rattle.octets.specs.Octets.{between, lowered}
 use Rattle.record.specs.Property.{Property}
 
@@ -37,4 +37,4 @@ escaped x =
 unfoldable pub line : Property → List ℕ
 line p =
     decimal (p .flags) ++ (space ∷ []) ++ lowered (p .tag) ++ (space ∷ [])
-    ++ (quote ∷ concat (map escaped (p .value))) ++ (quote ∷ [])
+    ++ (quote ∷ flatten (map escaped (p .value))) ++ (quote ∷ [])

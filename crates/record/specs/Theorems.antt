@@ -3,14 +3,14 @@ use Prim.Native.Nat.{ℕ, _+_, _≤_, _<_, _^_}
 use mathlib.Core.Path.{_≡_}
 use mathlib.Core.Logic.{_↔_, _≢_}
 use mathlib.Core.Bool.{Bool, true}
-use mathlib.Core.List.{List, [], map}
+use mathlib.Core.List.{List, [], _∷_, _++_, map}
 use mathlib.Core.Option.{none, some}
 use lib.ListN.{length}
 use Rattle.limits.specs.Limits.{maxBookOctets, maxRecords}
 use Rattle.refusal.specs.Refusal.{number}
 use Rattle.refusal.specs.declared.Refusal.{Refusal}
 use Rattle.refusal.specs.declared.Refusal.the-variants.{BookTooLong, BadRecord, TooManyRecords}
-use Rattle.octets.specs.Lists.{All, concat}
+use Rattle.octets.specs.Lists.{All, flatten}
 use Rattle.octets.specs.Octets.{Octets, text, lowered}
 use Rattle.octets.specs.Items.{BrokenAt, Beyond}
 use Rattle.octets.specs.Theorems.{Reads}
@@ -46,6 +46,19 @@ GoodRecord r =
     GoodName (r .owner) × (r .type < 2 ^ 16) × (r .class < 2 ^ 16) × (r .ttl < 2 ^ 32) × (length (r .rdata) < 2 ^ 16)
     × (r .type ≡ 257 → r .class ≡ 1 → (p : Property) × (r .rdata ≡ wireProperty p) × (1 ≤ length (p .tag)))
 
+-- a record octet for octet: the owner; type 257, class 1, time to live 3600, data length 22; flags 128, a tag of 5 octets, tag and value
+abbrev pub Record-example : Type 0
+Record-example =
+    wireRecord (record {
+      owner = text "example" ∷ text "com" ∷ [];
+      type = 257;
+      class = 1;
+      ttl = 3600;
+      rdata = wireProperty (record { flags = 128; tag = text "issue"; value = text "ca1.example.net" });
+    })
+    ≡ (7 ∷ text "example") ++ (3 ∷ text "com") ++ (0 ∷ 1 ∷ 1 ∷ 0 ∷ 1 ∷ 0 ∷ 0 ∷ 14 ∷ 16 ∷ 0 ∷ 22 ∷ 128 ∷ 5 ∷ []) ++ text "issue"
+    ++ text "ca1.example.net"
+
 abbrev pub Record-is-its-fields : Type 0
 Record-is-its-fields = Reads resourceRecord wireRecord GoodRecord
 
@@ -55,7 +68,7 @@ abbrev pub Book-is-its-records : Type 0
 Book-is-its-records =
     (b : List ℕ) → Octets b → (rs : List Record) →
     ((bookRefusal b ≡ none) × (records b ≡ rs))
-    ↔ ((b ≡ concat (map wireRecord rs)) × All GoodRecord rs × (length rs ≤ maxRecords) × (length b ≤ maxBookOctets))
+    ↔ ((b ≡ flatten (map wireRecord rs)) × All GoodRecord rs × (length rs ≤ maxRecords) × (length b ≤ maxBookOctets))
 
 -- The rows of the requirements' table, each with its "When" and its place, and nothing of the reader.
 abbrev pub Row-5 : List ℕ → Type 0

@@ -7,6 +7,7 @@ use Rattle.refusal.specs.declared.Refusal.{Refusal}
 use Rattle.refusal.specs.declared.Check.{Check}
 use Rattle.refusal.specs.declared.Check.the-variants.{Accepted, Refused}
 use Rattle.refusal.specs.Checks.{checked}
+use Rattle.refusal.specs.Theorems.{Checked-exactly}
 
 module _ (o : Option Refusal) {c : Check} (f : c ≡ checked o) where
   pub refused : (r : Refusal) → c ≡ Refused r → o ≡ some r
@@ -22,3 +23,6 @@ module _ (o : Option Refusal) {c : Check} (f : c ≡ checked o) where
       go : (o : Option Refusal) → checked o ≡ Accepted → o ≡ none
       go none e = refl
       go (some q) e = let z : _≡_ {A = ℕ} 0 1 = cc in absurd (omega arith)
+
+pub checked-exactly : Checked-exactly
+checked-exactly o = ((accepted o refl, λ e. rw e), λ r. (refused o refl r, λ e. rw e))

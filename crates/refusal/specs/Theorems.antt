@@ -1,13 +1,17 @@
 -- What the definitions of this crate mean. Each statement is proved under its name in proofs/.
 use Prim.Native.Nat.{ℕ}
 use mathlib.Core.Path.{_≡_}
+use mathlib.Core.Logic.{_↔_}
 use mathlib.Core.List.{List, [], _∷_, map}
+use mathlib.Core.Option.{Option, none, some}
 use Rattle.limits.specs.Limits.{maxNames, maxRecords}
 use Rattle.refusal.specs.declared.NameNo.{NameNo}
 use Rattle.refusal.specs.declared.RecordNo.{RecordNo}
 use Rattle.refusal.specs.declared.Refusal.{Refusal}
 use Rattle.refusal.specs.declared.Refusal.the-variants.{RequestTooLong, BadName, TooManyNames, BadIssuer, BookTooLong, BadRecord, TooManyRecords, NoRoom, BadLine, LineTooLong, BadData}
+use Rattle.refusal.specs.declared.Check.the-variants.{Accepted, Refused}
 use Rattle.refusal.specs.Refusal.{number, place}
+use Rattle.refusal.specs.Checks.{checked}
 
 -- the rows in the table's order
 abbrev pub rows : NameNo → RecordNo → ℕ → List Refusal
@@ -24,3 +28,8 @@ Refusal-table =
 -- a refusal is known by its number and place
 abbrev pub Number-and-place-tell : Type 0
 Number-and-place-tell = (p q : Refusal) → number p ≡ number q → place p ≡ place q → p ≡ q
+
+-- accepted exactly when no refusal applies, and refused with the one that does
+abbrev pub Checked-exactly : Type 0
+Checked-exactly =
+    (o : Option Refusal) → ((checked o ≡ Accepted) ↔ (o ≡ none)) × ((r : Refusal) → (checked o ≡ Refused r) ↔ (o ≡ some r))

@@ -2,21 +2,15 @@
 use Prim.Native.Nat.{ℕ, zero, suc, _≤_, _<_, _+_, _-_}
 use native.Mathlib.Omega.{arith}
 use mathlib.Core.Path.{_≡_, refl, sym, ap, _∙_}
-use mathlib.Core.Bool.{Bool, true, false, cond, _||_}
+use mathlib.Core.Bool.{Bool, true, false, not, cond, _||_}
 use mathlib.Core.List.{List, [], _∷_}
 use lib.Dec.{eqb, ltb}
-use lib.ListN.{length, take, drop, length-drop}
-use lib.Seq.{take-all}
-use borrow.Author.Tests.{eq-eqb, ne-eqb, ltb-false}
+use lib.ListN.{length, drop, getD, length-drop, List·getD-eq-default}
+use borrow.Author.Tests.{eq-eqb, ne-eqb, ltb-false, not-true, not-false}
 use Rattle.octets.specs.Lists.{isEmpty}
 use Rattle.name.specs.Places.{parentFrom, parentPlace}
-use Rattle.relevant.specs.declared.Seen.{Seen as SeenAt}
-use Rattle.relevant.specs.declared.Step.{Step}
-use Rattle.relevant.specs.declared.Step.the-variants.{Seen, End}
 use Rattle.relevant.specs.declared.Near.the-variants.{At, Nowhere}
-use Rattle.relevant.specs.Walks.{setOf, nextOwned, nearestFrom, nearestPlace}
-use Rattle.relevant.proofs.WalkSteps.{whole-set}
-use Rattle.relevant.proofs.WalkLaws.{walk-ends, seen-there}
+use Rattle.relevant.specs.Walks.{setOf, nearestFrom, nearestPlace, Owning}
 
 -- a parent stands further on, inside the name
 module _ (s : List ℕ) (at u : ℕ) (up : u ≡ parentPlace s at) (other : u ≡ at → ⊥) where
@@ -50,38 +44,38 @@ module _ (book s : List ℕ) where
   unfolding nearestPlace
   climb-start = record { steps = length s; enough = omega arith; left = refl }
 
-  module _ (at u : ℕ) (k : Climbing book s at) (up : u ≡ parentPlace s at) where
-    pub no-parent : u ≡ at → Nowhere ≡ nearestPlace book s
+  module _ (at p : ℕ) (k : Climbing book s at) (up : p ≡ parentPlace s at) where
+    pub no-parent : p ≡ at → Nowhere ≡ nearestPlace book s
     no-parent e = sym (k .left ∙ go (k .steps))
       where
         go : (steps : ℕ) → nearestFrom steps book s at ≡ Nowhere
         go zero = refl
         go (suc steps) = rw (eq-eqb (parentPlace s at) at (sym up ∙ e))
 
-    module _ (other : u ≡ at → ⊥) where
+    module _ (other : p ≡ at → ⊥) where
       abbrev Looked : Type 0
-      Looked = (steps : ℕ) × (length s ≤ steps + u) × (nearestPlace book s ≡ cond (isEmpty (setOf book (drop at s))) (nearestFrom steps book s u) (At at))
+      Looked = (steps : ℕ) × (length s ≤ steps + p) × (nearestPlace book s ≡ cond (isEmpty (setOf book (drop at s))) (nearestFrom steps book s p) (At at))
 
       looked : Looked
       looked = go (k .steps) (k .enough) (k .left)
         where
           go : (n : ℕ) → length s ≤ n + at → nearestPlace book s ≡ nearestFrom n book s at → Looked
-          go zero l e = absurd (omega (arith, further s at u up other))
+          go zero l e = absurd (omega (arith, further s at p up other))
           go (suc steps) l e =
-              (steps, omega (arith, further s at u up other), e ∙ rw (ne-eqb (parentPlace s at) at (λ p. other (up ∙ p)), up))
+              (steps, omega (arith, further s at p up other), e ∙ rw (ne-eqb (parentPlace s at) at (λ e. other (up ∙ e)), up))
 
-      module _ (o : Step) (f : o ≡ nextOwned book (take (length s - at) (drop at s)) (record { at = 0; number = 0 })) where
-        rest : take (length s - at) (drop at s) ≡ drop at s
-        rest = take-all (length s - at) (drop at s) (omega (arith, length-drop at s))
+      -- u tells which ends of s own records; n octets are left
+      module _ (u : List Bool) (ends : Owning book s u) (n : ℕ) (left : n ≡ length s - at) where
+        here : getD u n false ≡ not (isEmpty (setOf book (drop at s)))
+        here = let back : length s - n ≡ at = omega (arith, further s at p up other) in rw back at (ends .told n (omega arith))
 
-        pub none-owned : o ≡ End → Climbing book s u
-        none-owned g =
-            let (steps, enough, left) = looked in
-            let none = whole-set book (drop at s) ∙ walk-ends book (drop at s) _ o (rw rest at f) g in
-            record { steps = steps; enough = enough; left = left ∙ rw none }
+        pub none-owned : getD u n false ≡ false → Climbing book s p
+        none-owned e =
+            let (steps, enough, from) = looked in
+            record { steps = steps; enough = enough; left = from ∙ rw (not-false (isEmpty (setOf book (drop at s))) (sym here ∙ e)) }
 
-        pub some-owned : (c : SeenAt) → o ≡ Seen c → At at ≡ nearestPlace book s
-        some-owned c g =
-            let (steps, enough, left) = looked in
-            let (cr, seen) = seen-there book (drop at s) _ o (rw rest at f) c g in
-            sym (left ∙ rw (whole-set book (drop at s), seen .left))
+        pub past-owners : 256 ≤ n → Climbing book s p
+        past-owners h = none-owned (List·getD-eq-default u false (omega (arith, ends .long)))
+
+        pub some-owned : getD u n false ≡ true → At at ≡ nearestPlace book s
+        some-owned e = let (steps, enough, from) = looked in sym (from ∙ rw (not-true (isEmpty (setOf book (drop at s))) (sym here ∙ e)))

@@ -5,6 +5,8 @@ pub mod DataTests
 pub mod GrantTests
 pub mod SetWalk
 pub mod GrantWalk
+pub mod CriticalWalk
+pub mod EndWalk
 pub mod ClimbLaws
 pub mod AcceptedBook
 pub mod DecidedLaws

@@ -26,6 +26,9 @@ module _ (book : List ℕ) (at : ℕ) (o : RecordRead) (f : o ≡ recordAt book 
   pub owner-inside : p .fixed ≤ length book
   owner-inside = let (r, t) = record-there book at o f p g in t .owner .inside
 
+  pub data-before : p .rdata ≤ p .next
+  data-before = record-there book at o f p g .1 .order
+
 module _ (book x : List ℕ) (v : Walk) (at k : ℕ) (left : nextOwned book x v ≡ nextOwned book x (record { at = at; number = k })) where
   pub records-over : maxRecords ≤ k → End ≡ nextOwned book x v
   records-over h = sym (left ∙ walk-over book x at k h .0)

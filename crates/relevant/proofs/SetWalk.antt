@@ -22,7 +22,7 @@ use Rattle.relevant.proofs.WalkLaws.{Sees, walk-ends, seen-there}
 abbrev pub Tells : (List ℕ → Bool) → (CaaRecord → Bool) → Type 0
 Tells q p = (d : List ℕ) (c : CaaRecord) → property d ≡ some (c .property) → q d ≡ p c
 
-tells-critical : Tells isCriticalData isUnknownCritical
+pub tells-critical : Tells isCriticalData isUnknownCritical
 unfolding isCriticalData isUnknownCritical
 tells-critical d c e = rw e
 

@@ -16,14 +16,21 @@ use Rattle.record.specs.Records.{Record, wireRecord, isCaa, isSome, isLaidOut, 
 use Rattle.record.specs.declared.RecordAt.{RecordAt}
 use Rattle.record.proofs.RecordFields.{fields-read}
 use Rattle.record.proofs.RecordPlaces.{RecordTo}
-use Rattle.rule.specs.RelevantSet.{CaaRecord, withProperty, caaRecord, caaRecordsFrom}
+use Rattle.rule.specs.RelevantSet.{CaaRecord, withProperty, caaRecord, caaRecordsFrom, caaRecords}
 use Rattle.relevant.specs.declared.Walk.{Walk}
 use Rattle.relevant.specs.declared.Step.the-variants.{Seen, End}
 use Rattle.relevant.specs.Walks.{readable, owned, setOf, nextOwned}
 
--- the records of the owner x that the walk has not passed
+-- the CAA records that the walk has not passed, of any owner and of the owner x
+unfoldable pub allLeft : List ℕ → Walk → List CaaRecord
+allLeft book w = caaRecordsFrom (w .number) (readable (maxRecords - w .number) (drop (w .at) book))
+
 unfoldable pub remaining : List ℕ → List ℕ → Walk → List CaaRecord
 remaining book x w = owned x (caaRecordsFrom (w .number) (readable (maxRecords - w .number) (drop (w .at) book)))
+
+pub whole-book : (book : List ℕ) → caaRecords (readable maxRecords book) ≡ allLeft book (record { at = 0; number = 0 })
+unfolding allLeft
+whole-book book = rw sub-zero
 
 pub whole-set : (book x : List ℕ) → setOf book x ≡ remaining book x (record { at = 0; number = 0 })
 unfolding setOf remaining
@@ -52,6 +59,36 @@ kept :
 kept x k r rest q e g =
     let (caa, owner) = and-eq-true-iff (isCaa (r .type) (r .class)) (equalIgnoringCase (wire (r .owner)) x) .0 e in
     rw (caa, g, owner)
+
+module _ (book : List ℕ) (at : ℕ) (p : RecordAt) (r : Record) (t : RecordTo book at p r) where
+  pub laid-out : isCaa (r .type) (r .class) ≡ true → (q : Property) × (property (r .rdata) ≡ some q)
+  unfolding isLaidOut
+  laid-out caa =
+      let (whole, same, behind) = fields-read book at (r .owner) (p .fixed) (t .owner) r (drop (p .next) book) (t .found) in
+      let good = subst (λ (r : Record). isLaidOut (r .type) (r .class) (r .rdata) ≡ true) same (whole .laid-out) in
+      held (property (r .rdata)) (rw caa at good)
+    where
+      held : (o : Option Property) → isSome o ≡ true → (q : Property) × (o ≡ some q)
+      held none f = absurd (false≢true f)
+      held (some q) f = (q, refl)
+
+-- the records of any owner, one on
+module _ (book : List ℕ) (at k : ℕ) where
+  abbrev leftAt : List CaaRecord
+  leftAt = allLeft book (record { at = at; number = k })
+
+  pub all-over : maxRecords ≤ k → leftAt ≡ []
+  unfolding allLeft
+  all-over h = let none : maxRecords - k ≡ 0 = omega arith in rw none
+
+  module _ (h : k < maxRecords) where
+    pub all-broken : resourceRecord (drop at book) ≡ none → leftAt ≡ []
+    unfolding allLeft
+    all-broken e = rw (room-left k h, e)
+
+    pub all-step : (p : RecordAt) (r : Record) → RecordTo book at p r → leftAt ≡ caaRecord k r ++ allLeft book (record { at = p .next; number = suc k })
+    unfolding allLeft
+    all-step p r t = rw (room-left k h, t .found)
 
 module _ (book x : List ℕ) (at k : ℕ) where
   abbrev w : Walk
@@ -96,21 +133,12 @@ module _ (book x : List ℕ) (at k : ℕ) where
       unfolding remaining
       remaining-on e = remaining-step ∙ passed-over x k r _ e
 
-      laid-out : isOwned x r ≡ true → (q : Property) × (property (r .rdata) ≡ some q)
-      unfolding isLaidOut
-      laid-out e =
-          let (whole, same, behind) = fields-read book at (r .owner) (p .fixed) (t .owner) r (drop (p .next) book) (t .found) in
-          let good = subst (λ (r : Record). isLaidOut (r .type) (r .class) (r .rdata) ≡ true) same (whole .laid-out) in
-          let caa = and-eq-true-iff (isCaa (r .type) (r .class)) (equalIgnoringCase (wire (r .owner)) x) .0 e .0 in
-          held (property (r .rdata)) (rw caa at good)
-        where
-          held : (o : Option Property) → isSome o ≡ true → (q : Property) × (o ≡ some q)
-          held none f = absurd (false≢true f)
-          held (some q) f = (q, refl)
-
       pub remaining-here :
           isOwned x r ≡ true →
           (q : Property) × (property (r .rdata) ≡ some q)
           × (remaining book x w ≡ record { number = k; owner = r .owner; property = q } ∷ remaining book x behind)
       unfolding remaining
-      remaining-here e = let (q, g) = laid-out e in (q, g, remaining-step ∙ kept x k r _ q e g)
+      remaining-here e =
+          let caa = and-eq-true-iff (isCaa (r .type) (r .class)) (equalIgnoringCase (wire (r .owner)) x) .0 e .0 in
+          let (q, g) = laid-out book at p r t caa in
+          (q, g, remaining-step ∙ kept x k r _ q e g)

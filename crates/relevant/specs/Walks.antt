@@ -1,10 +1,11 @@
 -- Definitions by place, for code that walks a book and a name: each is made of the rule's definitions.
-use Prim.Native.Nat.{ℕ, zero, suc, _+_, _-_}
-use mathlib.Core.Bool.{Bool, true, false, cond, _&&_}
+use Prim.Native.Nat.{ℕ, zero, suc, _≤_, _+_, _-_}
+use mathlib.Core.Path.{_≡_}
+use mathlib.Core.Bool.{Bool, true, false, not, cond, _&&_}
 use mathlib.Core.List.{List, [], _∷_}
 use mathlib.Core.Option.{Option, none, some}
 use lib.Dec.{eqb}
-use lib.ListN.{length, drop}
+use lib.ListN.{length, drop, getD}
 use Rattle.limits.specs.Limits.{maxRecords}
 use Rattle.octets.specs.Lists.{any, select, isEmpty}
 use Rattle.octets.specs.Octets.{same, lowered, equalIgnoringCase}
@@ -89,6 +90,11 @@ nearestFrom (suc steps) book s at =
 
 unfoldable pub nearestPlace : List ℕ → List ℕ → Near
 nearestPlace book s = nearestFrom (length s) book s 0
+
+-- u tells, for each length below 256, whether so many last octets of s own a CAA record; more never do
+pub record Owning (book s : List ℕ) (u : List Bool) : Type 0 where
+  pub long : length u ≡ 256
+  pub told : (n : ℕ) → n ≤ length s → getD u n false ≡ not (isEmpty (setOf book (drop (length s - n) s)))
 
 -- what the search from the front of s finds
 abbrev pub foundAt : List ℕ → List ℕ → Near → Lookup

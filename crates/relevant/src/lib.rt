@@ -8,10 +8,14 @@ use refusal::RecordNo;
 use value::ValueRead;
 ghost use mathlib.Core.Path.{_≡_};
 ghost use mathlib.Core.Bool.{Bool};
+ghost use Prim.Native.Nat.{_-_};
+ghost use lib.ListN.{length, drop};
+ghost use Rattle.limits.specs.Limits.{maxRecords};
 ghost use Rattle.octets.specs.Lists.{any, select};
-ghost use Rattle.octets.specs.Octets.{same, lowered};
+ghost use Rattle.octets.specs.Octets.{same, lowered, equalIgnoringCase};
+ghost use Rattle.rule.specs.RelevantSet.{caaRecords};
 ghost use Rattle.rule.specs.Authorizations.{isUnknownCritical, grantees};
-ghost use Rattle.relevant.specs.Walks.{firstNumber, hasTag, setOf, nextOwned, nearestPlace, isCriticalData, tagOfData, grantsTo};
+ghost use Rattle.relevant.specs.Walks.{readable, firstNumber, hasTag, setOf, nextOwned, nearestPlace, Owning, isCriticalData, tagOfData, grantsTo};
 
 // A place in a book, and the number of the record that begins there.
 pub struct Walk {
@@ -124,6 +128,30 @@ pub fn grants(d: &[u8], issuer: &[u8]) -> bool
     octets::same_ignoring_case(name, issuer)
 }
 
+// Whether any CAA record of a book, whatever its owner, has an unknown tag and is critical. Few books have one: the others
+// need no search for each name.
+pub fn any_unknown_critical(book: &[u8]) -> bool
+    ensures { λ r. ⌜ r ≡ any isUnknownCritical (caaRecords (readable maxRecords (now (book .entry)))) ⌝ }
+{
+    let mut at: usize = 0;
+    let mut number: usize = 0;
+    while number < MAX_RECORDS {
+        let RecordRead::Good(r) = record::read_record(book, at) else {
+            return false;
+        };
+        let rdata = r.rdata;
+        at = r.next;
+        number += 1;
+        if !record::is_caa(r.rtype, r.class) {
+            continue;
+        }
+        if is_unknown_critical(&book[rdata..at]) {
+            return true;
+        }
+    }
+    false
+}
+
 // The first unknown critical record of an owner.
 pub fn first_unknown_critical(book: &[u8], owner: &[u8]) -> Found
     ensures { λ r. ⌜ r ≡ firstNumber (select isUnknownCritical (setOf (now (book .entry)) (now (owner .entry)))) ⌝ }
@@ -187,10 +215,50 @@ pub fn any_grants(book: &[u8], owner: &[u8], wild: bool, issuer: &[u8]) -> bool
     }
 }
 
+// Whether a name ends with the octets x, letter case ignored.
+fn ends_with(name: &[u8], x: &[u8]) -> bool
+    ensures { λ r. ⌜ r ≡ equalIgnoringCase (now (x .entry)) (drop (length (now (name .entry)) - length (now (x .entry))) (now (name .entry))) ⌝ }
+{
+    if name.len() < x.len() {
+        return false;
+    }
+    let from = name.len() - x.len();
+    octets::same_ignoring_case(x, &name[from..])
+}
+
+// For each length, whether so many last octets of a name own a CAA record: one walk over the book, however many labels
+// the name has. The climb asks only where a label begins. No owner is longer than 255 octets.
+fn owning_ends(book: &[u8], name: &[u8]) -> [bool; 256]
+    ensures { λ r. ⌜ Owning (now (book .entry)) (now (name .entry)) r ⌝ }
+{
+    let mut owning = [false; 256];
+    let mut at: usize = 0;
+    let mut number: usize = 0;
+    while number < MAX_RECORDS {
+        let RecordRead::Good(r) = record::read_record(book, at) else {
+            return owning;
+        };
+        let from = at;
+        let fixed = r.fixed;
+        at = r.next;
+        number += 1;
+        if !record::is_caa(r.rtype, r.class) {
+            continue;
+        }
+        if !ends_with(name, &book[from..fixed]) {
+            continue;
+        }
+        let n = fixed - from;
+        owning[n] = true;
+    }
+    owning
+}
+
 // The climb: the first place of a name, from its front on, whose rest owns a CAA record. The root is never looked at.
 pub fn nearest(book: &[u8], name: &[u8]) -> Near
     ensures { λ r. ⌜ r ≡ nearestPlace (now (book .entry)) (now (name .entry)) ⌝ }
 {
+    let owning = owning_ends(book, name);
     let mut c = Climb { at: 0 };
     loop {
         let at = c.at;
@@ -199,10 +267,13 @@ pub fn nearest(book: &[u8], name: &[u8]) -> Near
         if parent == at {
             return Near::Nowhere;
         }
-        let w = Walk { at: 0, number: 0 };
-        if let Step::Seen(_) = w.next(book, &name[at..]) {
+        c = up;
+        let n = name.len() - at;
+        if 256 <= n {
+            continue;
+        }
+        if owning[n] {
             return Near::At(at);
         }
-        c = up;
     }
 }

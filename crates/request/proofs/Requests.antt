@@ -9,7 +9,7 @@ use lib.ListN.{length}
 use Rattle.limits.specs.Limits.{maxRequestOctets, maxNames}
 use Rattle.refusal.specs.Refusal.{number, place}
 use Rattle.refusal.specs.declared.Refusal.the-variants.{RequestTooLong, BadName, TooManyNames}
-use Rattle.octets.specs.Lists.{All, all-nil, concat}
+use Rattle.octets.specs.Lists.{All, all-nil, flatten}
 use Rattle.octets.specs.Octets.{Octets}
 use Rattle.octets.specs.Items.{Items, whole, broken, over, wholeItems}
 use Rattle.octets.specs.Theorems.{Items-are-read}
@@ -49,9 +49,9 @@ asked-names [] = rw none-read
 asked-names (x ∷ s) = refl
 
 abbrev Names : List ℕ → List Name → Type 0
-Names s ns = (s ≡ concat (map wire ns)) × All GoodRequested ns × (1 ≤ length ns) × (length ns ≤ maxNames)
+Names s ns = (s ≡ flatten (map wire ns)) × All GoodRequested ns × (1 ≤ length ns) × (length ns ≤ maxNames)
 
-some-name : (x : ℕ) (s : List ℕ) (ns : List Name) → x ∷ s ≡ concat (map wire ns) → 1 ≤ length ns
+some-name : (x : ℕ) (s : List ℕ) (ns : List Name) → x ∷ s ≡ flatten (map wire ns) → 1 ≤ length ns
 some-name x s [] e = absurd (cons≢nil e)
 some-name x s (n ∷ ns) e = omega arith
 

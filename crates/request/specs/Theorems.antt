@@ -10,7 +10,7 @@ use Rattle.limits.specs.Limits.{maxRequestOctets, maxNames}
 use Rattle.refusal.specs.Refusal.{number}
 use Rattle.refusal.specs.declared.Refusal.{Refusal}
 use Rattle.refusal.specs.declared.Refusal.the-variants.{RequestTooLong, BadName, TooManyNames}
-use Rattle.octets.specs.Lists.{All, concat}
+use Rattle.octets.specs.Lists.{All, flatten}
 use Rattle.octets.specs.Octets.{Octets, text}
 use Rattle.octets.specs.Items.{BrokenAt, Beyond}
 use Rattle.octets.specs.Theorems.{Host-label, Reads}
@@ -36,7 +36,7 @@ abbrev pub Request-is-its-names : Type 0
 Request-is-its-names =
     (s : List ℕ) → Octets s → (ns : List Name) →
     ((requestRefusal s ≡ none) × (requestedNames s ≡ ns))
-    ↔ ((s ≡ concat (map wire ns)) × All GoodRequested ns × (1 ≤ length ns) × (length ns ≤ maxNames) × (length s ≤ maxRequestOctets))
+    ↔ ((s ≡ flatten (map wire ns)) × All GoodRequested ns × (1 ≤ length ns) × (length ns ≤ maxNames) × (length s ≤ maxRequestOctets))
 
 -- The rows of the requirements' table, each with its "When" and its place, and nothing of the reader.
 abbrev pub Row-1 : List ℕ → Type 0

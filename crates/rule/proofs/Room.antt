@@ -7,7 +7,7 @@ use mathlib.Core.Bool.{Bool, not}
 use mathlib.Core.List.{List, [], _∷_, map}
 use mathlib.Core.Option.{Option, none, some}
 use lib.ListN.{length, drop, length-append, length-map}
-use Rattle.octets.specs.Lists.{all, select, concat, Selects, selects-nil, selects-take, selects-pass}
+use Rattle.octets.specs.Lists.{all, select, flatten, Selects, selects-nil, selects-take, selects-pass}
 use Rattle.octets.specs.Octets.{same, lower}
 use Rattle.octets.proofs.SelectLaws.{selected}
 use Rattle.name.specs.Names.{Name}
@@ -108,9 +108,9 @@ caa-less at-end = omega arith
 caa-less (is-caa {r} {rs} p t c d l rest) = omega (arith, data-less r, ap length d, length-append (p .tag) (p .value), caa-less rest)
 caa-less (is-other n rest) = omega (arith, caa-less rest)
 
-records-length : (rs : List Record) → length (concat (map wireRecord rs)) ≡ sum recordSize rs
+records-length : (rs : List Record) → length (flatten (map wireRecord rs)) ≡ sum recordSize rs
 records-length [] = refl
-records-length (r ∷ rs) = omega (arith, length-append (wireRecord r) (concat (map wireRecord rs)), records-length rs)
+records-length (r ∷ rs) = omega (arith, length-append (wireRecord r) (flatten (map wireRecord rs)), records-length rs)
 
 pub room-of-the-book : Room-of-the-book
 unfolding authorizations

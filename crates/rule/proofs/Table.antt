@@ -11,8 +11,9 @@ use Rattle.record.specs.Records.{isCaa}
 use Rattle.value.specs.IssueValues.{isDomainName, isParameterOctet, isParameterTag, isParameter, areParameters, issueValue}
 use Rattle.rule.specs.RelevantSet.{lookup, relevantSet}
 use Rattle.rule.specs.Authorizations.{isUnknownCritical, governing, grantee, authorization}
+use Rattle.rule.specs.Verdicts.{verdict}
 use Rattle.rule.specs.Calls.{judgementTold, permittedIssuersTold}
-use Rattle.rule.specs.Edges.{Edges-agree}
+use Rattle.rule.specs.Edges.{Edges-agree, Whole-case}
 use Rattle.rule.specs.Theorems.{Answers-told, List-told}
 
 pub edges-agree : Edges-agree
@@ -21,6 +22,13 @@ unfolding maxLabelOctets maxIssuerOctets isDigit isUpper isLower isLetterOrDigit
     isDomainName isParameterOctet isParameterTag isParameter areParameters issueValue lookup relevantSet
     isUnknownCritical governing grantee authorization
 edges-agree = refl
+
+pub whole-case : Whole-case
+unfolding maxLabelOctets maxIssuerOctets isDigit isUpper isLower isLetterOrDigit isBlank lower equalIgnoringCase
+    isLetterDigitHyphen isLabel isHostLabel isWildcard base isIssuer readProperty property isCritical tagOf isCaa
+    isDomainName isParameterOctet isParameterTag isParameter areParameters issueValue lookup relevantSet
+    isUnknownCritical governing grantee authorization verdict
+whole-case = (refl, refl, refl, refl)
 
 pub answers-told : Answers-told
 unfolding judgementTold permittedIssuersTold

@@ -13,7 +13,10 @@ use Rattle.record.specs.Property.{wireProperty}
 use Rattle.record.specs.Records.{Record}
 use Rattle.value.specs.IssueValues.{IssueValue, malformed, nameless, named, issueValue}
 use Rattle.rule.specs.RelevantSet.{caaRecords}
+use Rattle.rule.specs.declared.Judgement.the-variants.{NotGranted}
 use Rattle.rule.specs.Authorizations.{Authorization, unrestricted, forbidden, granted, authorization}
+use Rattle.rule.specs.Verdicts.{denial, verdict}
+use Rattle.rule.specs.IssuerLists.{listed, issuers, entries}
 
 -- what a row is about
 pub data Cell : Type 0 where
@@ -94,3 +97,24 @@ edges =
 
 abbrev pub Edges-agree : Type 0
 Edges-agree = map (λ e. e .ruled) edges ≡ map (λ e. e .stated) edges
+
+-- The requirements' whole case: its records, what they say of names, and the octets that are printed.
+abbrev pub wholeBook : List Record
+wholeBook =
+    caa "example.com" 0 "issue" "CA1.example.net"
+    ∷ caa "example.com" 0 "issue" "ca2.example.org; account=230123"
+    ∷ caa "example.com" 0 "issue" "ca1.example.net"
+    ∷ caa "pay.example.com" 0 "issue" "ca2.example.org"
+    ∷ []
+
+abbrev pub wholeCase : List String → List Authorization
+wholeCase ns = map (λ n. authorization (caaRecords wholeBook) (dotted n)) ns
+
+abbrev pub Whole-case : Type 0
+Whole-case =
+    (issuers (wholeCase ("www.example.com" ∷ [])) ≡ listed (ca1 ∷ ca2 ∷ []))
+    × (entries (ca1 ∷ ca2 ∷ [])
+    ≡ 15 ∷ 99 ∷ 97 ∷ 49 ∷ 46 ∷ 101 ∷ 120 ∷ 97 ∷ 109 ∷ 112 ∷ 108 ∷ 101 ∷ 46 ∷ 110 ∷ 101 ∷ 116
+    ∷ 15 ∷ 99 ∷ 97 ∷ 50 ∷ 46 ∷ 101 ∷ 120 ∷ 97 ∷ 109 ∷ 112 ∷ 108 ∷ 101 ∷ 46 ∷ 111 ∷ 114 ∷ 103 ∷ [])
+    × (issuers (wholeCase ("www.example.com" ∷ "pay.example.com" ∷ [])) ≡ listed (ca2 ∷ []))
+    × (verdict ca1 (wholeCase ("www.example.com" ∷ "pay.example.com" ∷ [])) ≡ NotGranted (denial 1 3))

@@ -3,7 +3,7 @@ use Prim.Native.Nat.{ℕ}
 use mathlib.Core.Bool.{Bool, not}
 use mathlib.Core.List.{List, [], _∷_, map}
 use lib.ListN.{length}
-use Rattle.octets.specs.Lists.{all, select, concat}
+use Rattle.octets.specs.Lists.{all, select, flatten}
 use Rattle.octets.specs.Octets.{same}
 use Rattle.octets.specs.Reader.{Reader, _>>=_, octet, octets}
 use Rattle.rule.specs.Authorizations.{Authorization, unrestricted, forbidden, granted, permits}
@@ -29,7 +29,7 @@ abbrev pub entry : List ℕ → List ℕ
 entry n = length n ∷ n
 
 abbrev pub entries : List (List ℕ) → List ℕ
-entries ns = concat (map entry ns)
+entries ns = flatten (map entry ns)
 
 -- how a caller reads an entry: the length octet, and then as many octets
 unfoldable pub readEntry : Reader (List ℕ)

@@ -2,10 +2,7 @@
 use Prim.Native.Nat.{_^_, _<_}
 use native.Mathlib.Omega.{arith}
 use Rattle.limits.specs.Limits.{maxNames, maxRecords}
-use Rattle.refusal.specs.declared.Refusal.{Refusal}
-use Rattle.refusal.specs.declared.Refusal.the-variants.{RequestTooLong, BadName, TooManyNames, BadIssuer, BookTooLong, BadRecord, TooManyRecords, NoRoom, BadLine, LineTooLong, BadData}
-use Rattle.refusal.specs.Refusal.{number}
-use Rattle.packed.proofs.Unpacking.{unpacks}
+use Rattle.packed.proofs.Unpacking.{unpacks, number-small}
 use Rattle.rule.specs.declared.Judgement.{Judgement}
 use Rattle.rule.specs.declared.Judgement.the-variants.{Permitted, UnknownCritical, NotGranted, Refused}
 use Rattle.rule.specs.Calls.{Told, judge, judgementTold}
@@ -15,20 +12,6 @@ use Rattle.splinepearl.proofs.NumberBounds.{Fits, judge-fits}
 
 pub told-unpacks : (t : Told) → t .number < 2 ^ 8 → valueOf t 0 < 2 ^ 24 → valueOf t 1 < 2 ^ 16 → Unpacked (packedTold t) t
 told-unpacks t n a b = let u = unpacks (t .number) (valueOf t 0) (valueOf t 1) 0 n a b (omega arith) in (u .0, u .1, u .2, u .3)
-
-pub number-small : (r : Refusal) → number r < 2 ^ 8
-unfolding number
-number-small RequestTooLong = omega arith
-number-small (BadName k) = omega arith
-number-small TooManyNames = omega arith
-number-small BadIssuer = omega arith
-number-small BookTooLong = omega arith
-number-small (BadRecord r) = omega arith
-number-small TooManyRecords = omega arith
-number-small (NoRoom n) = omega arith
-number-small BadLine = omega arith
-number-small LineTooLong = omega arith
-number-small BadData = omega arith
 
 fitting-unpacks : (j : Judgement) → Fits j → Unpacked (packedJudgement j) (judgementTold j)
 unfolding packedJudgement judgementTold maxNames maxRecords

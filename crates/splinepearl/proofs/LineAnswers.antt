@@ -15,6 +15,7 @@ use Rattle.refusal.specs.Refusal.{place}
 use Rattle.record.specs.Property.{Property, wireProperty, property}
 use Rattle.record.proofs.PropertyLaws.{property-is-its-parts}
 use Rattle.packed.specs.Packed.{packed, packedRefusal}
+use Rattle.packed.proofs.Unpacking.{number-small}
 use Rattle.presentation.specs.declared.Made.{Made}
 use Rattle.presentation.specs.declared.Made.the-variants.{Length, Refused}
 use Rattle.presentation.specs.Written.{line}
@@ -22,8 +23,8 @@ use Rattle.presentation.specs.Read.{readLine}
 use Rattle.presentation.specs.Calls.{Output, refused, placed, isWritable, writtenOf, writeLine, readOf, parseLine}
 use Rattle.line_writer.proofs.Measures.{line-short}
 use Rattle.splinepearl.specs.LineAnswers.{madeTold, packedMade}
-use Rattle.splinepearl.specs.Theorems.{Unpacked, Written-line-unpacks, Read-line-unpacks}
-use Rattle.splinepearl.proofs.JudgementUnpacks.{told-unpacks, number-small}
+use Rattle.splinepearl.specs.Theorems.{Unpacked, Lines-told, Written-line-unpacks, Read-line-unpacks}
+use Rattle.splinepearl.proofs.JudgementUnpacks.{told-unpacks}
 
 -- Each case, packed.
 
@@ -85,6 +86,10 @@ read-fits s b = cond-fits (leb (length s) maxLineOctets) (readOf (readLine s) b)
     found (some p) =
         cond-fits (leb (length (wireProperty p)) maxDataOctets) (placed (wireProperty p) b) (refused LineTooLong b)
         (λ e. placed-fits (wireProperty p) b (data-small (length (wireProperty p)) e)) (omega arith)
+
+pub lines-told : Lines-told
+unfolding madeTold
+lines-told = (λ n. refl, λ r. refl)
 
 -- So unpacking gives the number and the length or the place.
 

@@ -15,6 +15,7 @@ use Rattle.octets.specs.Octets.{Octets}
 use Rattle.request.specs.Request.{requestRefusal}
 use Rattle.record.specs.Records.{bookRefusal, records}
 use Rattle.record.proofs.Book.{book-is-its-records}
+use Rattle.packed.proofs.Unpacking.{number-small}
 use Rattle.packed.specs.Packed.{packed, packedRefusal}
 use Rattle.rule.specs.declared.PermittedIssuers.{PermittedIssuers}
 use Rattle.rule.specs.declared.PermittedIssuers.the-variants.{Anyone, Listed, Refused}
@@ -25,7 +26,7 @@ use Rattle.rule.proofs.BufferLaws.{entries-length}
 use Rattle.rule.proofs.Room.{room-of-the-book}
 use Rattle.splinepearl.specs.ListAnswers.{packedIssuers}
 use Rattle.splinepearl.specs.Theorems.{Unpacked, List-unpacks}
-use Rattle.splinepearl.proofs.JudgementUnpacks.{told-unpacks, number-small}
+use Rattle.splinepearl.proofs.JudgementUnpacks.{told-unpacks}
 use Rattle.splinepearl.proofs.RefusalPlaces.{request-fits, book-fits}
 
 -- Each case, packed.

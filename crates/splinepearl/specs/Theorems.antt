@@ -1,8 +1,11 @@
 -- What the definitions of this crate mean. Each statement is proved under its name in proofs/.
 use Prim.Native.Nat.{ℕ}
 use mathlib.Core.Path.{_≡_}
-use mathlib.Core.List.{List}
+use mathlib.Core.List.{List, [], _∷_}
+use Rattle.refusal.specs.declared.Refusal.{Refusal}
+use Rattle.refusal.specs.Refusal.{number, place}
 use Rattle.packed.specs.Packed.{numberIn, fieldA, fieldB, fieldC}
+use Rattle.presentation.specs.declared.Made.the-variants.{Length, Refused as LineRefused}
 use Rattle.presentation.specs.Calls.{writeLine, parseLine}
 use Rattle.octets.specs.Octets.{Octets}
 use Rattle.rule.specs.Calls.{Told, judge, judgementTold, listIssuers, permittedIssuersTold}
@@ -25,6 +28,12 @@ abbrev pub List-unpacks : Type 0
 List-unpacks =
     (request book buffer : List ℕ) → Octets book →
     Unpacked (packedIssuers (listIssuers request book buffer .answer)) (permittedIssuersTold (listIssuers request book buffer .answer))
+
+-- number 0 and the length of what was made, or a refusal's own number and place
+abbrev pub Lines-told : Type 0
+Lines-told =
+    ((n : ℕ) → madeTold (Length n) ≡ record { number = 0; values = n ∷ [] })
+    × ((r : Refusal) → madeTold (LineRefused r) ≡ record { number = number r; values = place r ∷ [] })
 
 -- and of the two calls on lines, whose answers are lengths or refusals
 abbrev pub Written-line-unpacks : Type 0

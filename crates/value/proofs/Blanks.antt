@@ -5,19 +5,14 @@ use mathlib.Core.Bool.{Bool, true, false, cond}
 use mathlib.Core.List.{List, [], _∷_, _++_, append-assoc}
 use Rattle.octets.specs.Lists.{all-nil, all-cons}
 use Rattle.octets.specs.Octets.{isBlank}
+use Rattle.octets.proofs.Trims.{trimmed}
 use Rattle.octets.proofs.Runs.{Blank, Blankless}
 use Rattle.value.specs.IssueValues.{trimStart, unlessLastBlank, trimEnd, trim}
 
 -- What is taken off is blank.
 
 pub trimStart-takes : (s : List ℕ) → (a : List ℕ) × (s ≡ a ++ trimStart s) × Blank a
-trimStart-takes [] = ([], refl, all-nil)
-trimStart-takes (x ∷ s) = go (isBlank x) refl (trimStart-takes s)
-  where
-    go : (t : Bool) → isBlank x ≡ t → (a : List ℕ) × (s ≡ a ++ trimStart s) × Blank a →
-        (a : List ℕ) × (x ∷ s ≡ a ++ cond t (trimStart s) (x ∷ s)) × Blank a
-    go true e k = (x ∷ k .0, ap (λ (l : List ℕ). x ∷ l) (k .1), all-cons e (k .2))
-    go false e k = ([], refl, all-nil)
+trimStart-takes s = let (a, e, blank, first) = trimmed s in (a, e, blank)
 
 pub trimEnd-takes : (s : List ℕ) → (b : List ℕ) × (s ≡ trimEnd s ++ b) × Blank b
 trimEnd-takes [] = ([], refl, all-nil)

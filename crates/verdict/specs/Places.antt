@@ -1,9 +1,13 @@
 -- The verdict on one requested name by place, made of the rule's definitions.
 use Prim.Native.Nat.{ℕ}
-use mathlib.Core.Bool.{Bool, cond}
+use mathlib.Core.Path.{_≡_}
+use mathlib.Core.Bool.{Bool, false, cond}
 use mathlib.Core.List.{List}
-use Rattle.rule.specs.Authorizations.{Authorization, unrestricted, forbidden, granted, decided, permits}
-use Rattle.relevant.specs.Walks.{relevantAt}
+use Rattle.limits.specs.Limits.{maxRecords}
+use Rattle.octets.specs.Lists.{any}
+use Rattle.rule.specs.RelevantSet.{caaRecords}
+use Rattle.rule.specs.Authorizations.{Authorization, isUnknownCritical, unrestricted, forbidden, granted, decided, permits}
+use Rattle.relevant.specs.Walks.{readable, relevantAt}
 use Rattle.verdict.specs.declared.NameVerdict.{NameVerdict}
 use Rattle.verdict.specs.declared.NameVerdict.the-variants.{Permitted, UnknownCritical, NotGranted}
 
@@ -18,3 +22,7 @@ verdictOf issuer a = cond (permits issuer a) Permitted (withheld a)
 -- of the name X in wire form, or of *.X
 unfoldable pub nameVerdict : List ℕ → List ℕ → Bool → List ℕ → NameVerdict
 nameVerdict book s wildcard issuer = verdictOf issuer (decided wildcard (relevantAt book s))
+
+-- `critical` is false only of a book without unknown critical records
+pub record CriticalKnown (critical : Bool) (book : List ℕ) : Type 0 where
+  pub none-critical : critical ≡ false → any isUnknownCritical (caaRecords (readable maxRecords book)) ≡ false

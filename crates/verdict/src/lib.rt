@@ -10,10 +10,10 @@ use rule::Denial;
 use rule::Judgement;
 ghost use mathlib.Core.Path.{_≡_};
 ghost use Rattle.octets.specs.Lists.{select};
-ghost use Rattle.rule.specs.Authorizations.{isIssue, governedBy};
+ghost use Rattle.rule.specs.Authorizations.{isUnknownCritical, isIssue, governedBy};
 ghost use Rattle.rule.specs.Calls.{judge};
-ghost use Rattle.relevant.specs.Walks.{setOf};
-ghost use Rattle.verdict.specs.Places.{verdictOf, nameVerdict};
+ghost use Rattle.relevant.specs.Walks.{setOf, firstNumber};
+ghost use Rattle.verdict.specs.Places.{verdictOf, nameVerdict, CriticalKnown};
 
 // What is said of one requested name.
 pub enum NameVerdict {
@@ -26,24 +26,49 @@ pub enum NameVerdict {
 fn by_issue(book: &[u8], owner: &[u8], issuer: &[u8]) -> NameVerdict
     ensures { λ r. ⌜ r ≡ verdictOf (now (issuer .entry)) (governedBy (select isIssue (setOf (now (book .entry)) (now (owner .entry))))) ⌝ }
 {
-    let Found::At(r) = relevant::first_with_tag(book, owner, false) else {
-        return NameVerdict::Permitted;
-    };
     if relevant::any_grants(book, owner, false, issuer) {
         return NameVerdict::Permitted;
     }
+    let Found::At(r) = relevant::first_with_tag(book, owner, false) else {
+        return NameVerdict::Permitted;
+    };
     NameVerdict::NotGranted(r)
+}
+
+// The first unknown critical record of an owner; no search where the book has none.
+fn first_critical(book: &[u8], critical: bool, owner: &[u8]) -> Found
+    requires { ⌜ CriticalKnown critical (now book) ⌝ }
+    ensures { λ r. ⌜ r ≡ firstNumber (select isUnknownCritical (setOf (now (book .entry)) (now (owner .entry)))) ⌝ }
+{
+    if !critical {
+        return Found::Nothing;
+    }
+    relevant::first_unknown_critical(book, owner)
 }
 
 // Judges one name X, in wire form, or *.X.
 pub fn judge_name(book: &[u8], name: &[u8], wildcard: bool, issuer: &[u8]) -> NameVerdict
     ensures { λ r. ⌜ r ≡ nameVerdict (now (book .entry)) (now (name .entry)) wildcard (now (issuer .entry)) ⌝ }
 {
+    judge_within(book, true, name, wildcard, issuer)
+}
+
+// The same, where `critical` is told of the book once for all names.
+fn judge_within(
+    book: &[u8],
+    critical: bool,
+    name: &[u8],
+    wildcard: bool,
+    issuer: &[u8],
+) -> NameVerdict
+    requires { ⌜ CriticalKnown critical (now book) ⌝ }
+    ensures { λ r. ⌜ r ≡ nameVerdict (now (book .entry)) (now (name .entry)) wildcard (now (issuer .entry)) ⌝ }
+{
     let Near::At(at) = relevant::nearest(book, name) else {
         return NameVerdict::Permitted;
     };
     let owner = &name[at..];
-    if let Found::At(r) = relevant::first_unknown_critical(book, owner) {
+    if let Found::At(r) = first_critical(book, critical, owner) {
         return NameVerdict::UnknownCritical(r);
     }
     if !wildcard {
@@ -70,6 +95,7 @@ pub fn judge(request: &[u8], issuer: &[u8], book: &[u8]) -> Judgement
     if let Check::Refused(r) = record::check_book(book) {
         return Judgement::Refused(r);
     }
+    let critical = relevant::any_unknown_critical(book);
     let mut at: usize = 0;
     let mut k: usize = 0;
     while at < request.len() {
@@ -79,7 +105,7 @@ pub fn judge(request: &[u8], issuer: &[u8], book: &[u8]) -> Judgement
         };
         let base = n.base;
         let next = n.next;
-        match judge_name(book, &request[base..next], n.wildcard, issuer) {
+        match judge_within(book, critical, &request[base..next], n.wildcard, issuer) {
             NameVerdict::Permitted => {}
             NameVerdict::UnknownCritical(rr) => {
                 return Judgement::UnknownCritical(Denial {

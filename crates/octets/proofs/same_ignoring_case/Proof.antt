@@ -4,7 +4,7 @@ use mathlib.Core.Path.{_≡_}
 use lib.ListN.{length, drop}
 use borrow.Author.Needs.{needs}
 use Rattle.octets.specs.Octets.{equalIgnoringCase}
-use Rattle.octets.proofs.TextWalk.{lengths-first, same-turn, same-stop, same-end}
+use Rattle.octets.proofs.TextWalk.{lengths-first, same-turn, same-octet, same-stop, same-end}
 use Rattle.octets.proofs.same_ignoring_case.Statement.{statement}
 use Rattle.octets.proofs.same_ignoring_case.Tie as tie
 
@@ -20,20 +20,11 @@ returns c = search (needs, lengths-first)
 loop-holds : tie.Need-loop-holds Inv-loop μ-loop
 loop-holds c = search needs
 
-shared-slice-read-to-lower : tie.Need-shared-slice-read-to-lower Inv-loop μ-loop
-shared-slice-read-to-lower c = search needs
+shared-slice-read-x : tie.Need-shared-slice-read-x Inv-loop μ-loop
+shared-slice-read-x c = search needs
 
-to-lower-requires : tie.Need-to-lower-requires Inv-loop μ-loop
-to-lower-requires c κs = search needs
-
-shared-slice-read-to-lower-2 : tie.Need-shared-slice-read-to-lower-2 Inv-loop μ-loop
-shared-slice-read-to-lower-2 c = search needs
-
-to-lower-requires-2 : tie.Need-to-lower-requires-2 Inv-loop μ-loop
-to-lower-requires-2 c κs = search needs
-
-returns-2 : tie.Need-returns-2 Inv-loop μ-loop
-returns-2 c = search (needs, same-stop)
+shared-slice-read-y : tie.Need-shared-slice-read-y Inv-loop μ-loop
+shared-slice-read-y c = search needs
 
 add-i : tie.Need-add-i Inv-loop μ-loop
 add-i c = search needs
@@ -42,7 +33,22 @@ loop-less : tie.Need-loop-less Inv-loop μ-loop
 loop-less c = search needs
 
 loop-again : tie.Need-loop-again Inv-loop μ-loop
-loop-again c = search (needs, same-turn)
+loop-again c = search (needs, same-octet)
+
+to-lower-requires : tie.Need-to-lower-requires Inv-loop μ-loop
+to-lower-requires c κs = search needs
+
+to-lower-requires-2 : tie.Need-to-lower-requires-2 Inv-loop μ-loop
+to-lower-requires-2 c κs = search needs
+
+returns-2 : tie.Need-returns-2 Inv-loop μ-loop
+returns-2 c = search (needs, same-stop)
+
+loop-less-2 : tie.Need-loop-less-2 Inv-loop μ-loop
+loop-less-2 c = search needs
+
+loop-again-2 : tie.Need-loop-again-2 Inv-loop μ-loop
+loop-again-2 c = search (needs, same-turn)
 
 returns-3 : tie.Need-returns-3 Inv-loop μ-loop
 returns-3 c = search (needs, same-end)
@@ -55,12 +61,14 @@ same-ignoring-case-spec =
     μ-loop
     returns
     loop-holds
-    shared-slice-read-to-lower
-    to-lower-requires
-    shared-slice-read-to-lower-2
-    to-lower-requires-2
-    returns-2
+    shared-slice-read-x
+    shared-slice-read-y
     add-i
     loop-less
     loop-again
+    to-lower-requires
+    to-lower-requires-2
+    returns-2
+    loop-less-2
+    loop-again-2
     returns-3)

@@ -1,8 +1,14 @@
 -- `by_issue` meets its contract.
 use borrow.Author.Needs.{needs}
-use Rattle.verdict.proofs.NameWays.{no-issue, issue-granted, issue-not-granted}
+use Rattle.verdict.proofs.NameWays.{issue-granted, no-issue, issue-not-granted}
 use Rattle.verdict.proofs.by_issue.Statement.{statement}
 use Rattle.verdict.proofs.by_issue.Tie as tie
+
+any-grants-requires : tie.Need-any-grants-requires
+any-grants-requires c κs = search needs
+
+returns : tie.Need-returns
+returns c = search (needs, issue-granted)
 
 first-with-tag-requires : tie.Need-first-with-tag-requires
 first-with-tag-requires c κs = search needs
@@ -13,14 +19,8 @@ enum-known-r c = search needs
 enum-told : tie.Need-enum-told
 enum-told c = search needs
 
-returns : tie.Need-returns
-returns c = search (needs, no-issue)
-
-any-grants-requires : tie.Need-any-grants-requires
-any-grants-requires c κs = search needs
-
 returns-2 : tie.Need-returns-2
-returns-2 c = search (needs, issue-granted)
+returns-2 c = search (needs, no-issue)
 
 returns-3 : tie.Need-returns-3
 returns-3 c = search (needs, issue-not-granted)
@@ -29,10 +29,10 @@ pub by-issue-spec : {M : Type 1} → statement M
 by-issue-spec =
     tie.close
     (tie.spec
+    any-grants-requires
+    returns
     first-with-tag-requires
     enum-known-r
     enum-told
-    returns
-    any-grants-requires
     returns-2
     returns-3)

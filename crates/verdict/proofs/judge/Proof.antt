@@ -4,15 +4,16 @@ use lib.ListN.{length}
 use borrow.Author.Needs.{needs}
 use Rattle.limits.specs.Limits.{maxNames}
 use Rattle.request.proofs.RequestPlaces.{next-inside, left-less}
+use Rattle.verdict.proofs.NameWays.{critical-known}
 use Rattle.verdict.proofs.NameWalk.{Judged, request-refused, issuer-refused, book-refused, names-start, no-bad-name, base-first, name-critical, name-ungranted, few, name-passed, all-passed}
 use Rattle.verdict.proofs.judge.Statement.{statement}
 use Rattle.verdict.proofs.judge.Tie as tie
 
 abbrev Inv-loop : tie.InvT-loop
-Inv-loop request issuer book at₀ k₀ at k = Judged request issuer book at k
+Inv-loop request issuer book critical at₀ k₀ at k = Judged request issuer book at k
 
 abbrev μ-loop : tie.MeasureT-loop
-μ-loop request issuer book at₀ k₀ at k = length request - at
+μ-loop request issuer book critical at₀ k₀ at k = length request - at
 
 check-request-requires : tie.Need-check-request-requires Inv-loop μ-loop
 check-request-requires c κs = search needs
@@ -50,6 +51,9 @@ returns-3 c = search (needs, book-refused)
 enum-told-3 : tie.Need-enum-told-3 Inv-loop μ-loop
 enum-told-3 c = search needs
 
+any-unknown-critical-requires : tie.Need-any-unknown-critical-requires Inv-loop μ-loop
+any-unknown-critical-requires c κs = search needs
+
 loop-holds : tie.Need-loop-holds Inv-loop μ-loop
 loop-holds c = search (needs, names-start)
 
@@ -65,17 +69,17 @@ enum-told-4 c = search needs
 returns-4 : tie.Need-returns-4 Inv-loop μ-loop
 returns-4 c = search (needs, no-bad-name)
 
-sub-judge-name : tie.Need-sub-judge-name Inv-loop μ-loop
-sub-judge-name c = search (needs, base-first)
+sub-judge-within : tie.Need-sub-judge-within Inv-loop μ-loop
+sub-judge-within c = search (needs, base-first)
 
-part-judge-name-start : tie.Need-part-judge-name-start Inv-loop μ-loop
-part-judge-name-start c = search (needs, base-first)
+part-judge-within-start : tie.Need-part-judge-within-start Inv-loop μ-loop
+part-judge-within-start c = search (needs, base-first)
 
-part-judge-name-end : tie.Need-part-judge-name-end Inv-loop μ-loop
-part-judge-name-end c = search (needs, next-inside)
+part-judge-within-end : tie.Need-part-judge-within-end Inv-loop μ-loop
+part-judge-within-end c = search (needs, next-inside)
 
-judge-name-requires : tie.Need-judge-name-requires Inv-loop μ-loop
-judge-name-requires c κs = search needs
+judge-within-requires : tie.Need-judge-within-requires Inv-loop μ-loop
+judge-within-requires c κs = search (needs, critical-known)
 
 enum-told-5 : tie.Need-enum-told-5 Inv-loop μ-loop
 enum-told-5 c = search needs
@@ -123,15 +127,16 @@ judge-spec =
     enum-known-r-3
     returns-3
     enum-told-3
+    any-unknown-critical-requires
     loop-holds
     requested-name-requires
     enum-known-n
     enum-told-4
     returns-4
-    sub-judge-name
-    part-judge-name-start
-    part-judge-name-end
-    judge-name-requires
+    sub-judge-within
+    part-judge-within-start
+    part-judge-within-end
+    judge-within-requires
     enum-told-5
     enum-known-rr
     returns-5

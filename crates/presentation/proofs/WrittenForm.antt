@@ -1,0 +1,85 @@
+-- Which octets stand for themselves in a value, what units stand for, and how a line is written, octet for octet.
+use Prim.Native.Nat.{ℕ, _+_, _/_, _%_, _≤_, _<_}
+use native.Mathlib.Omega.{arith}
+use mathlib.Core.Path.{_≡_, refl}
+use mathlib.Core.Logic.{_↔_, _≢_, _⊎_, inl, inr}
+use mathlib.Core.Bool.{Bool, true, false, cond, _&&_, _||_, not, and-eq-true-iff, and-false}
+use mathlib.Core.List.{List, [], _∷_, append-assoc}
+use lib.Dec.{leb, ltb, eqb}
+use borrow.Author.Tests.{leb-true, le-leb, lt-leb, ltb-false, eqb-false, ne-eqb, not-true}
+use Rattle.octets.specs.Lists.{all-nil, all-cons}
+use Rattle.octets.specs.Octets.{between}
+use Rattle.octets.proofs.ListLaws.{or-false}
+use Rattle.presentation.specs.Written.{digit, threeDigits, decimal, escaped, line}
+use Rattle.presentation.specs.Read.{isInQuotes, isBare}
+use Rattle.presentation.specs.Theorems.{Plain-octets, Unit-values, Octet-as-written, Line-as-written}
+use Rattle.presentation.proofs.WrittenParts.{is-digit, flags-written}
+
+-- a range of octets, and a test that none of the others passes
+ranged : (low x : ℕ) (t : Bool) → between low 126 x && not t ≡ true → (low ≤ x) × (x ≤ 126) × (t ≡ false)
+ranged low x t h =
+    let (range, other) = and-eq-true-iff (between low 126 x) (not t) .0 h in
+    let (above, below) = and-eq-true-iff (leb low x) (leb x 126) .0 range in
+    (leb-true low x above, leb-true x 126 below, not-true t other)
+
+pub plain-octets : Plain-octets
+unfolding isInQuotes isBare
+plain-octets x = (
+  (
+    λ h. let (low, high, none) = ranged 32 x (eqb x 34 || eqb x 92) h in
+        let (a, b) = or-false (eqb x 34) (eqb x 92) .0 none in
+        (low, high, eqb-false x 34 a, eqb-false x 92 b),
+    λ (low, high, a, b). rw (le-leb 32 x low, le-leb x 126 high, ne-eqb x 34 a, ne-eqb x 92 b),
+  ),
+  (
+    λ h. let (low, high, none) = ranged 33 x _ h in
+        let (abcd, e) = or-false _ (eqb x 41) .0 none in
+        let (abc, d) = or-false _ (eqb x 40) .0 abcd in
+        let (ab, c) = or-false _ (eqb x 59) .0 abc in
+        let (a, b) = or-false (eqb x 34) (eqb x 92) .0 ab in
+        (low, high, eqb-false x 34 a, eqb-false x 92 b, eqb-false x 59 c, eqb-false x 40 d, eqb-false x 41 e),
+    λ (low, high, a, b, c, d, e). rw (le-leb 33 x low, le-leb x 126 high, ne-eqb x 34 a, ne-eqb x 92 b, ne-eqb x 59 c, ne-eqb x 40 d, ne-eqb x 41 e),
+  ),
+)
+
+pub unit-values : Unit-values
+unit-values x a b c = (refl, refl, omega arith)
+
+pub octet-as-written : Octet-as-written
+unfolding escaped
+octet-as-written x = (
+  λ (low, high, a, b). rw (ne-eqb x 34 a, ne-eqb x 92 b, le-leb 32 x low, le-leb x 126 high),
+  special,
+  λ small far. (_, _, _, other far, all-cons (is-digit (x / 100) (omega arith)) (all-cons (is-digit (x / 10 % 10) (omega arith)) (all-cons (is-digit (x % 10) (omega arith)) all-nil)), omega arith),
+)
+  where
+    special : (x ≡ 34) ⊎ (x ≡ 92) → escaped x ≡ 92 ∷ x ∷ []
+    special (inl e) = rw e
+    special (inr e) = rw e
+
+    outside : (x < 32) ⊎ (126 < x) → between 32 126 x ≡ false
+    outside (inl h) = rw (lt-leb 32 x h)
+    outside (inr h) = rw (lt-leb x 126 h, and-false)
+
+    unlike : (c : ℕ) → 32 ≤ c → c ≤ 126 → (x < 32) ⊎ (126 < x) → eqb x c ≡ false
+    unlike c low high (inl h) = ne-eqb x c (λ e. omega arith)
+    unlike c low high (inr h) = ne-eqb x c (λ e. omega arith)
+
+    other : (x < 32) ⊎ (126 < x) → escaped x ≡ 92 ∷ threeDigits x
+    other far = rw (unlike 34 (omega arith) (omega arith) far, unlike 92 (omega arith) (omega arith) far, outside far)
+
+-- a number of two or three digits begins with none of them zero
+zeroless : (n : ℕ) → n < 256 → (s : List ℕ) → decimal n ≡ 48 ∷ s → s ≡ []
+unfolding decimal
+zeroless n h = go (ltb n 10) refl (ltb n 100) refl
+  where
+    go :
+        (t : Bool) → ltb n 10 ≡ t → (u : Bool) → ltb n 100 ≡ u → (s : List ℕ) →
+        cond t (digit n ∷ []) (cond u (digit (n / 10) ∷ digit (n % 10) ∷ []) (threeDigits n)) ≡ 48 ∷ s → s ≡ []
+    go true t u e s k = cc
+    go false t true u s k = let m = ltb-false n 10 t in let z : 48 + n / 10 ≡ 48 = cc in absurd (omega arith)
+    go false t false u s k = let m = ltb-false n 100 u in let z : 48 + n / 100 ≡ 48 = cc in absurd (omega arith)
+
+pub line-as-written : Line-as-written
+unfolding line
+line-as-written p = (simp append-assoc, λ h. (flags-written (p .flags) h, zeroless (p .flags) h))

@@ -1,0 +1,209 @@
+// The stored runs: tries the four calls on each case of cases.bin and writes a line for each; crates/runs/stdout holds what is wanted.
+//
+// cases.bin is numbers of three octets, high octet first, and parts, each a number and that many octets: first the number of cases, then
+// for each its title, its call, request (or data, or line), issuer domain name, book, and the room of the lent buffer.
+//
+// Proved: it is safe and ends, and `answer` is the call that its number names, on the parts in their order.
+use libc::STDOUT_FILENO;
+ghost use mathlib.Core.Path.{_≡_};
+ghost use Prim.Native.Nat.{_<_};
+ghost use Rattle.io.specs.Counts.{Counts};
+ghost use Rattle.runs.specs.Answers.{answerOf, bufferAfter};
+
+const TITLE_ROOM: usize = 60;
+
+// More than any limit of a request, a book, a line or its data.
+const ROOM: usize = 33000;
+
+const ISSUER_ROOM: usize = 300;
+
+// How much of a buffer is shown.
+const SHOWN: usize = 64;
+
+// Told where the file ends too early: more than three octets can say, and than any room.
+const CUT_OFF: usize = 16777216;
+
+// A part as it was read: whether it is whole, and how many octets of it stand at the front of the buffer.
+struct Part {
+    pub whole: bool,
+    pub length: usize,
+}
+
+fn wide(b: u8) -> usize
+    ensures { λ r. ⌜ r < 256 ⌝ }
+{
+    b as usize
+}
+
+fn read_number(fd: i32) -> usize {
+    let mut n = [0u8; 3];
+    if io::read_full(fd, &mut n) < 3 {
+        return CUT_OFF;
+    }
+    wide(n[0]) * 65536 + wide(n[1]) * 256 + wide(n[2])
+}
+
+fn read_part(fd: i32, out: &mut [u8]) -> Part
+    ensures { λ r. ⌜ Counts (r .length) (now (out .exit)) ⌝ }
+{
+    let n = read_number(fd);
+    if n <= out.len() {
+        if io::read_full(fd, &mut out[..n]) == n {
+            return Part {
+                whole: true,
+                length: n,
+            };
+        }
+    }
+    Part {
+        whole: false,
+        length: 0,
+    }
+}
+
+// The call's packed answer: 1 judges, 2 lists, 3 writes a line, 4 reads one.
+fn answer(call: usize, request: &[u8], issuer: &[u8], book: &[u8], buffer: &mut [u8]) -> u64
+    ensures packed { λ r. ⌜ r ≡ answerOf call (now (request .entry)) (now (issuer .entry)) (now (book .entry)) (now (buffer .entry)) ⌝ }
+    ensures octets { λ r. ⌜ now (buffer .exit) ≡ bufferAfter call (now (request .entry)) (now (book .entry)) (now (buffer .entry)) ⌝ }
+{
+    if call == 1 {
+        return splinepearl::caa_judge(request, issuer, book);
+    }
+    if call == 2 {
+        return splinepearl::caa_permitted_issuers(request, book, buffer);
+    }
+    if call == 3 {
+        return splinepearl::caa_write_line(request, buffer);
+    }
+    splinepearl::caa_read_line(request, buffer)
+}
+
+// A sum that tells order too: it stands for what a buffer holds behind its shown front.
+fn checksum(s: &[u8]) -> u64 {
+    let mut sum: u64 = 0;
+    let mut i: usize = 0;
+    while i < s.len() {
+        sum = (sum * 31 + wide(s[i]) as u64) % 4294967296;
+        i += 1;
+    }
+    sum
+}
+
+// Printable octets but `\` as they are, others as `\` and two hex digits.
+fn print_octet(b: u8) {
+    if 32 <= b {
+        if b <= 126 {
+            if b != b'\\' {
+                io::write_all(STDOUT_FILENO, &[b]);
+                return;
+            }
+        }
+    }
+    io::write_all(STDOUT_FILENO, b"\\");
+    io::print_hex(STDOUT_FILENO, wide(b) as u64, 2);
+}
+
+// The front of the buffer, and the checksum of all of it.
+fn print_buffer(s: &[u8]) {
+    io::write_all(STDOUT_FILENO, b" [");
+    let mut i: usize = 0;
+    while i < s.len() {
+        if i == SHOWN {
+            io::write_all(STDOUT_FILENO, b"..");
+            break;
+        }
+        print_octet(s[i]);
+        i += 1;
+    }
+    io::write_all(STDOUT_FILENO, b"] ");
+    io::print_hex(STDOUT_FILENO, checksum(s), 8);
+}
+
+// The answer's number and its fields a and b; no call fills the field above b, which would be seen in b.
+fn print_answer(packed: u64) {
+    io::write_all(STDOUT_FILENO, b": ");
+    io::print_decimal(STDOUT_FILENO, packed % 256);
+    io::write_all(STDOUT_FILENO, b" ");
+    io::print_decimal(STDOUT_FILENO, packed / 256 % 16777216);
+    io::write_all(STDOUT_FILENO, b" ");
+    io::print_decimal(STDOUT_FILENO, packed / 4294967296);
+}
+
+// Runs a case and writes its line.
+fn run(title: &[u8], call: usize, request: &[u8], issuer: &[u8], book: &[u8], buffer: &mut [u8]) {
+    io::write_all(STDOUT_FILENO, title);
+    print_answer(answer(call, request, issuer, book, buffer));
+    if call != 1 {
+        print_buffer(buffer);
+    }
+    io::write_all(STDOUT_FILENO, b"\n");
+}
+
+// Reads a case and, where it is whole, runs it; whether it is.
+fn run_next(fd: i32) -> bool {
+    let mut title = [0u8; TITLE_ROOM];
+    let mut request = [0u8; ROOM];
+    let mut issuer = [0u8; ISSUER_ROOM];
+    let mut book = [0u8; ROOM];
+    let mut buffer = [b'_'; ROOM];
+    let titled = read_part(fd, &mut title);
+    let call = read_number(fd);
+    let requested = read_part(fd, &mut request);
+    let named = read_part(fd, &mut issuer);
+    let booked = read_part(fd, &mut book);
+    let room = read_number(fd);
+    if !titled.whole {
+        return false;
+    }
+    if call == 0 {
+        return false;
+    }
+    if 4 < call {
+        return false;
+    }
+    if !requested.whole {
+        return false;
+    }
+    if !named.whole {
+        return false;
+    }
+    if !booked.whole {
+        return false;
+    }
+    if ROOM < room {
+        return false;
+    }
+    let t = titled.length;
+    let q = requested.length;
+    let i = named.length;
+    let b = booked.length;
+    run(
+        &title[..t],
+        call,
+        &request[..q],
+        &issuer[..i],
+        &book[..b],
+        &mut buffer[..room],
+    );
+    true
+}
+
+fn main() {
+    let fd = os::open_read(b"cases.bin");
+    let cases = read_number(fd);
+    let mut k: usize = 0;
+    while k < cases {
+        if !run_next(fd) {
+            break;
+        }
+        k += 1;
+    }
+    // the last case ends the file
+    let mut after = [0u8; 1];
+    if k == cases {
+        if io::read_full(fd, &mut after) == 0 {
+            return;
+        }
+    }
+    io::write_all(STDOUT_FILENO, b"cases.bin is malformed\n");
+}
