@@ -4,7 +4,7 @@ use native.Mathlib.Omega.{arith}
 use mathlib.Core.Path.{_≡_, refl, sym, ap, _∙_}
 use mathlib.Core.Bool.{Bool, true, false, cond, not}
 use mathlib.Core.List.{List}
-use mathlib.Core.Option.{Option, none, some}
+use mathlib.Core.Option.{none, some}
 use lib.Dec.{ltb}
 use lib.ListN.{length}
 use borrow.Author.Tests.{not-true, not-false, ltb-false, lt-leb, le-leb}
@@ -22,7 +22,7 @@ use Rattle.request.specs.Request.{requestRefusal}
 use Rattle.record.specs.Records.{recordItems, recordRefusal, bookRefusal}
 use Rattle.rule.specs.declared.PermittedIssuers.{PermittedIssuers}
 use Rattle.rule.specs.declared.PermittedIssuers.the-variants.{Anyone, Listed, Refused}
-use Rattle.rule.specs.IssuerLists.{anyone, listed, issuers, entries}
+use Rattle.rule.specs.IssuerLists.{listed, issuers, entries}
 use Rattle.rule.specs.Calls.{authorizations, Listing, listIssuers}
 use Rattle.rule.proofs.PermittedLaws.{permitted-issuers}
 use Rattle.issuers.specs.declared.SoFar.{SoFar}

@@ -5,8 +5,6 @@ use mathlib.Core.Bool.{Bool, true, false, false≢true}
 use mathlib.Core.List.{List, [], _∷_, map}
 use mathlib.Core.Option.{none}
 use lib.ListN.{length}
-use Rattle.octets.specs.Lists.{any, select}
-use Rattle.octets.specs.Octets.{same, lowered}
 use Rattle.name.specs.Names.{Name, wire}
 use Rattle.name.specs.Theorems.{GoodName}
 use Rattle.request.specs.declared.Requested.{Requested}

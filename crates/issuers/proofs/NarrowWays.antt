@@ -2,17 +2,14 @@
 use Prim.Native.Nat.{ℕ}
 use mathlib.Core.Path.{_≡_, refl, sym, ap, _∙_}
 use mathlib.Core.Bool.{Bool, true, false, not, Bool·beq, false≢true}
-use mathlib.Core.List.{List, [], _∷_}
+use mathlib.Core.List.{List}
 use borrow.Author.Tests.{not-true, not-false}
 use Rattle.octets.specs.Lists.{any, select, All}
 use Rattle.octets.specs.Octets.{same, lowered, equalIgnoringCase}
 use Rattle.octets.proofs.ListLaws.{All-imp}
 use Rattle.octets.proofs.Texts.{same-equal}
-use Rattle.name.specs.Names.{wire}
-use Rattle.rule.specs.Authorizations.{grantees}
-use Rattle.rule.specs.IssuerLists.{anyone, listed, distinct}
+use Rattle.rule.specs.IssuerLists.{anyone, listed}
 use Rattle.issuers.specs.Narrowing.{narrowed}
-use Rattle.rule.specs.RelevantSet.{CaaRecord, caaRecords}
 use Rattle.rule.proofs.DistinctLaws.{distinct-all}
 use Rattle.rule.proofs.GranteeLaws.{grantees-small}
 use Rattle.issuers.proofs.Narrowing.{narrowed-again}

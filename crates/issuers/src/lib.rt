@@ -157,7 +157,8 @@ fn grantee(book: &[u8], rdata: Span) -> GranteeRead
     };
     let from = n.from;
     let to = n.to;
-    if !issuer::is_issuer(&v[from..to]) {
+    let name = &v[from..to];
+    if !issuer::is_issuer(name) {
         return GranteeRead::Nobody;
     }
     let start = rdata.from + p.value;

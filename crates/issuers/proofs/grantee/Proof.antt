@@ -32,14 +32,14 @@ enum-known-n c = search needs
 returns-2 : tie.Need-returns-2
 returns-2 c = search (needs, no-name)
 
-sub-is-issuer : tie.Need-sub-is-issuer
-sub-is-issuer c = search (needs, name-from)
+sub-name : tie.Need-sub-name
+sub-name c = search (needs, name-from)
 
-part-is-issuer-start : tie.Need-part-is-issuer-start
-part-is-issuer-start c = search (needs, name-from)
+part-name-start : tie.Need-part-name-start
+part-name-start c = search (needs, name-from)
 
-part-is-issuer-end : tie.Need-part-is-issuer-end
-part-is-issuer-end c = search (needs, name-to)
+part-name-end : tie.Need-part-name-end
+part-name-end c = search (needs, name-to)
 
 is-issuer-requires : tie.Need-is-issuer-requires
 is-issuer-requires c κs = search needs
@@ -72,9 +72,9 @@ grantee-spec =
     read-value-requires
     enum-known-n
     returns-2
-    sub-is-issuer
-    part-is-issuer-start
-    part-is-issuer-end
+    sub-name
+    part-name-start
+    part-name-end
     is-issuer-requires
     returns-3
     add-start
