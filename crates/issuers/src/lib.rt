@@ -162,9 +162,11 @@ fn grantee(book: &[u8], rdata: Span) -> GranteeRead
         return GranteeRead::Nobody;
     }
     let start = rdata.from + p.value;
+    let first = start + from;
+    let end = start + to;
     GranteeRead::At(Span {
-        from: start + from,
-        to: start + to,
+        from: first,
+        to: end,
     })
 }
 

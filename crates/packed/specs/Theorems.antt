@@ -27,3 +27,7 @@ Refusal-unpacks =
     × ((r : Refusal) → (packedCheck (Refused r) ≡ packedRefusal r)
     × (place r < 2 ^ 24 → (numberIn (packedRefusal r) ≡ number r) × (fieldA (packedRefusal r) ≡ place r)
     × (fieldB (packedRefusal r) ≡ 0) × (fieldC (packedRefusal r) ≡ 0)))
+
+-- the bits of an answer, in one number: 21, name 1, record 3, and 5 in the field that no answer uses yet
+abbrev pub Packed-example : Type 0
+Packed-example = packed 21 1 3 5 ≡ 1407387768455445

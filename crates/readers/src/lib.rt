@@ -1,4 +1,5 @@
-// The readers, exported so that a program in another language can hold its own against them.
+// The readers, exported so that a program in another language can hold its own against them. Places are told modulo the width of
+// their field: 2^24 in a, 2^16 in b and c.
 use name::NameEnd;
 use record::PropertyRead;
 use record::PropertyTag;

@@ -1,4 +1,4 @@
--- Definitions by place, for code that walks a book and a name: each is made of the rule's definitions.
+-- Definitions by place, for code that walks a book and a name; Theorems.antt ties the search to the rule's definitions.
 use Prim.Native.Nat.{ℕ, zero, suc, _≤_, _+_, _-_}
 use mathlib.Core.Path.{_≡_}
 use mathlib.Core.Bool.{Bool, true, false, not, cond, _&&_}

@@ -100,7 +100,7 @@ fn is_domain_name(s: &[u8]) -> bool
     loop {
         let e = octets::piece_end(s, at, b'.');
         if !octets::is_label(&s[at..e]) {
-            return false; // as behind a closing dot
+            return false; // a closing dot leaves an empty label here
         }
         if s.len() <= e {
             return true;
@@ -139,7 +139,7 @@ fn are_parameters(s: &[u8]) -> bool
     loop {
         let e = octets::piece_end(s, at, b';');
         if !is_parameter(&s[at..e]) {
-            return false; // as behind a closing semicolon
+            return false; // a closing semicolon leaves an empty parameter here
         }
         if s.len() <= e {
             return true;

@@ -46,7 +46,7 @@ fn first_critical(book: &[u8], critical: bool, owner: &[u8]) -> Found
     relevant::first_unknown_critical(book, owner)
 }
 
-// Judges one name X, in wire form, or *.X.
+// Judges one name X, in wire form, or *.X: for callers that have no whole request.
 pub fn judge_name(book: &[u8], name: &[u8], wildcard: bool, issuer: &[u8]) -> NameVerdict
     ensures { λ r. ⌜ r ≡ nameVerdict (now (book .entry)) (now (name .entry)) wildcard (now (issuer .entry)) ⌝ }
 {

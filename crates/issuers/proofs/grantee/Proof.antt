@@ -50,11 +50,11 @@ returns-3 c = search (needs, name-no-issuer)
 add-start : tie.Need-add-start
 add-start c = search (needs, value-fits)
 
-add-t14 : tie.Need-add-t14
-add-t14 c = search (needs, name-from-fits)
+add-first : tie.Need-add-first
+add-first c = search (needs, name-from-fits)
 
-add-t18 : tie.Need-add-t18
-add-t18 c = search (needs, name-to-fits)
+add-end : tie.Need-add-end
+add-end c = search (needs, name-to-fits)
 
 returns-4 : tie.Need-returns-4
 returns-4 c = search (needs, name-granted)
@@ -78,6 +78,6 @@ grantee-spec =
     is-issuer-requires
     returns-3
     add-start
-    add-t14
-    add-t18
+    add-first
+    add-end
     returns-4)
