@@ -29,7 +29,7 @@ pub fn put_lowered(text: &[u8], out: &mut [u8]) -> usize
     }
     let mut i: usize = 0;
     while i < text.len() {
-        out[i] = octets::to_lower(text[i]);
+        out[i] = ascii::to_lower(text[i]);
         i += 1;
     }
     i

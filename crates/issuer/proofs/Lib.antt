@@ -1,3 +1,2 @@
 pub mod Dotted
 pub mod AnyCase
-pub mod IssuerTests

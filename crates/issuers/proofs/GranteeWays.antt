@@ -15,11 +15,11 @@ use denote.Enum.Declared.{tagOf as variant}
 use borrow.Author.Tests.{not-true, not-false}
 use Rattle.octets.specs.Octets.{lowered}
 use Rattle.issuer.specs.Issuer.{isIssuer}
-use Rattle.record.specs.Places.{propertyAt, valuePart}
-use Rattle.record.specs.declared.PropertyAt.{PropertyAt}
-use Rattle.record.specs.declared.PropertyRead.{PropertyRead}
-use Rattle.record.specs.declared.PropertyRead.the-variants.{Good, Fault}
-use Rattle.record.proofs.PropertyPlaces.{property-there, no-property}
+use Rattle.property_reader.specs.Places.{propertyAt, valuePart}
+use Rattle.property_reader.specs.declared.PropertyAt.{PropertyAt}
+use Rattle.property_reader.specs.declared.PropertyRead.{PropertyRead}
+use Rattle.property_reader.specs.declared.PropertyRead.the-variants.{Good, Fault}
+use Rattle.property_reader.proofs.PropertyPlaces.{property-there, no-property}
 use Rattle.value.specs.IssueValues.{issueValue}
 use Rattle.value.specs.Places.{valueAt}
 use Rattle.value.specs.declared.NameAt.{NameAt}

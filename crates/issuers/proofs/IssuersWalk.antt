@@ -7,13 +7,13 @@ use mathlib.Core.Option.{none}
 use lib.ListN.{length}
 use Rattle.name.specs.Names.{Name, wire}
 use Rattle.name.specs.Theorems.{GoodName}
-use Rattle.request.specs.declared.Requested.{Requested}
-use Rattle.request.specs.declared.RequestedRead.{RequestedRead}
-use Rattle.request.specs.declared.RequestedRead.the-variants.{Good, Fault}
+use Rattle.request_reader.specs.declared.Requested.{Requested}
+use Rattle.request_reader.specs.declared.RequestedRead.{RequestedRead}
+use Rattle.request_reader.specs.declared.RequestedRead.the-variants.{Good, Fault}
 use Rattle.request.specs.Request.{isWildcard, base, requestedNames, requestRefusal}
-use Rattle.request.specs.Places.{requestedAt}
-use Rattle.request.proofs.RequestPlaces.{next-inside}
-use Rattle.request.proofs.AcceptedNames.{NamesLeft, NextName, all-names, names-end, names-good, next-name}
+use Rattle.request_reader.specs.Places.{requestedAt}
+use Rattle.request_reader.proofs.RequestPlaces.{next-inside}
+use Rattle.request_reader.proofs.AcceptedNames.{NamesLeft, NextName, all-names, names-end, names-good, next-name}
 use Rattle.record.specs.Records.{records, bookRefusal}
 use Rattle.rule.specs.RelevantSet.{caaRecords}
 use Rattle.rule.specs.Authorizations.{Authorization, authorization, decided}

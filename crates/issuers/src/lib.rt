@@ -1,13 +1,13 @@
 // Who may sign? The call that lists the permitted issuers.
 use limits::MAX_RECORDS;
-use record::PropertyRead;
+use property_reader::PropertyRead;
 use refusal::Check;
 use refusal::Refusal;
 use relevant::Found;
 use relevant::Near;
 use relevant::Step;
 use relevant::Walk;
-use request::RequestedRead;
+use request_reader::RequestedRead;
 use rule::PermittedIssuers;
 use value::ValueRead;
 ghost use mathlib.Core.Path.{_≡_};
@@ -90,7 +90,7 @@ fn holds(book: &[u8], names: Names, name: &[u8]) -> bool
             return false;
         }
         let at = names.spans[i];
-        if octets::same_ignoring_case(name, part(book, at)) {
+        if text::same_ignoring_case(name, part(book, at)) {
             return true;
         }
         i += 1;
@@ -148,17 +148,17 @@ fn grantee(book: &[u8], rdata: Span) -> GranteeRead
     ensures { λ r. ⌜ granteeAt (now (book .entry)) r ≡ granteeOfData (part (now (book .entry)) rdata) ⌝ }
 {
     let d = part(book, rdata);
-    let PropertyRead::Good(p) = record::read_property(d) else {
+    let PropertyRead::Good(p) = property_reader::read_property(d) else {
         return GranteeRead::Nobody;
     };
-    let v = record::value_part(d);
+    let v = property_reader::value_part(d);
     let ValueRead::Named(n) = value::read_value(v) else {
         return GranteeRead::Nobody;
     };
     let from = n.from;
     let to = n.to;
     let name = &v[from..to];
-    if !issuer::is_issuer(name) {
+    if !issuer_reader::is_issuer(name) {
         return GranteeRead::Nobody;
     }
     let start = rdata.from + p.value;
@@ -268,7 +268,7 @@ fn narrow(request: &[u8], book: &[u8], before: SoFar, by: Governing) -> SoFar
         };
     }
     if before.wild == wild {
-        if octets::same_ignoring_case(part(request, before.owner), part(request, owner)) {
+        if text::same_ignoring_case(part(request, before.owner), part(request, owner)) {
             return before;
         }
     }
@@ -309,7 +309,7 @@ fn issuers_of(request: &[u8], book: &[u8]) -> SoFar
     let mut at: usize = 0;
     while at < request.len() {
         // An accepted request has no bad name; one would be granted to nobody.
-        let RequestedRead::Good(n) = request::requested_name(request, at) else {
+        let RequestedRead::Good(n) = request_reader::requested_name(request, at) else {
             return nobody;
         };
         let base = n.base;
@@ -370,10 +370,10 @@ pub fn permitted_issuers(request: &[u8], book: &[u8], buffer: &mut [u8]) -> Perm
     ensures answer { λ r. ⌜ r ≡ listIssuers (now (request .entry)) (now (book .entry)) (now (buffer .entry)) .answer ⌝ }
     ensures octets { λ r. ⌜ now (buffer .exit) ≡ listIssuers (now (request .entry)) (now (book .entry)) (now (buffer .entry)) .buffer ⌝ }
 {
-    if let Check::Refused(r) = request::check_request(request) {
+    if let Check::Refused(r) = request_reader::check_request(request) {
         return PermittedIssuers::Refused(r);
     }
-    if let Check::Refused(r) = record::check_book(book) {
+    if let Check::Refused(r) = record_reader::check_book(book) {
         return PermittedIssuers::Refused(r);
     }
     let found = issuers_of(request, book);

@@ -11,7 +11,7 @@ use lib.ListN.{length, take, drop, getD}
 use lib.Seq.{take-length}
 use borrow.Author.Tests.{eq-eqb, ne-eqb}
 use Rattle.octets.specs.Lists.{ends}
-use Rattle.octets.proofs.LabelTests.{ends-at}
+use Rattle.text.proofs.LabelTests.{ends-at}
 use Rattle.presentation.specs.Written.{quote}
 use Rattle.presentation.specs.Read.{unescaped, isInQuotes, isBare, lineValue}
 use Rattle.line_unit.specs.declared.Style.the-variants.{Quoted, Bare}

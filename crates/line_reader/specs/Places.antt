@@ -7,7 +7,7 @@ use lib.Dec.{eqb}
 use lib.ListN.{length}
 use Rattle.octets.specs.Lists.{ends}
 use Rattle.octets.specs.Decimal.{decimalOctet}
-use Rattle.octets.specs.Places.{placeOf}
+use Rattle.text.specs.Places.{placeOf}
 use Rattle.record.specs.Property.{wireProperty}
 use Rattle.presentation.specs.Written.{quote}
 use Rattle.presentation.specs.Read.{unescaped, field, isLineTag}

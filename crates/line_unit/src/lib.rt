@@ -72,7 +72,7 @@ fn read_escape(s: &[u8], at: usize) -> UnitRead
         return UnitRead::Fault;
     }
     let x = s[at];
-    if octets::is_digit(x) {
+    if ascii::is_digit(x) {
         if s.len() - at < 3 {
             return UnitRead::Fault;
         }

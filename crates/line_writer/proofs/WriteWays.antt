@@ -12,13 +12,13 @@ use Rattle.refusal.specs.declared.Refusal.the-variants.{NoRoom, LineTooLong, Ba
 use Rattle.octets.specs.Lists.{all}
 use Rattle.octets.specs.Octets.{isLetterOrDigit}
 use Rattle.buffer.specs.Buffer.{Put}
-use Rattle.record.specs.Places.{propertyAt, tagIn, valueIn, tagPart, valuePart}
+use Rattle.property_reader.specs.Places.{propertyAt, tagIn, valueIn, tagPart, valuePart}
 use Rattle.record.specs.Property.{Property, property}
-use Rattle.record.specs.declared.PropertyAt.{PropertyAt}
-use Rattle.record.specs.declared.PropertyRead.{PropertyRead}
-use Rattle.record.specs.declared.PropertyRead.the-variants.{Good, Fault}
+use Rattle.property_reader.specs.declared.PropertyAt.{PropertyAt}
+use Rattle.property_reader.specs.declared.PropertyRead.{PropertyRead}
+use Rattle.property_reader.specs.declared.PropertyRead.the-variants.{Good, Fault}
 use Rattle.record.proofs.PropertyLaws.{property-is-its-parts}
-use Rattle.record.proofs.PropertyPlaces.{PropertyTo, property-there, no-property}
+use Rattle.property_reader.proofs.PropertyPlaces.{PropertyTo, property-there, no-property}
 use Rattle.presentation.specs.declared.Made.the-variants.{Length}
 use Rattle.presentation.specs.Calls.{refused, placed, writeLine}
 use Rattle.presentation.proofs.Placed.{placed-there, placed-nowhere}

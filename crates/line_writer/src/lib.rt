@@ -1,7 +1,7 @@
 // CAA data as a line of text: the presentation format of RFC 8659 section 4.1.1.
 use limits::MAX_DATA_OCTETS;
 use presentation::Made;
-use record::PropertyRead;
+use property_reader::PropertyRead;
 use refusal::Refusal;
 ghost use mathlib.Core.Path.{_≡_};
 ghost use Prim.Native.Nat.{_≤_};
@@ -126,14 +126,14 @@ pub fn write_line(d: &[u8], buffer: &mut [u8]) -> Made
     if MAX_DATA_OCTETS < d.len() {
         return Made::Refused(Refusal::LineTooLong);
     }
-    let PropertyRead::Good(p) = record::read_property(d) else {
+    let PropertyRead::Good(p) = property_reader::read_property(d) else {
         return Made::Refused(Refusal::BadData);
     };
-    let tag = record::tag_part(d);
+    let tag = property_reader::tag_part(d);
     if !presentation::is_letters_and_digits(tag) {
         return Made::Refused(Refusal::BadData);
     }
-    let value = record::value_part(d);
+    let value = property_reader::value_part(d);
     let n = line_length(p.flags, tag, value);
     if buffer.len() < n {
         return Made::Refused(Refusal::NoRoom(n));

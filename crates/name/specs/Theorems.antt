@@ -10,7 +10,6 @@ use Rattle.limits.specs.Limits.{maxLabelOctets, maxNameOctets}
 use Rattle.octets.specs.Lists.{All}
 use Rattle.octets.specs.Octets.{text, lowered, equalIgnoringCase}
 use Rattle.name.specs.Names.{Name, wire, name, sameName, ancestors}
-use Rattle.name.specs.Places.{parentPlace}
 
 -- labels of 1 to 63 octets, 255 octets in all with the closing zero (RFC 1035 section 2.3.4)
 abbrev pub GoodName : Name → Type 0
@@ -38,10 +37,3 @@ Whole-names =
 abbrev pub Ancestors-by-labels-taken-off : Type 0
 Ancestors-by-labels-taken-off =
     (x : Name) → (length (ancestors x) ≡ length x) × ((k : ℕ) → k < length x → getD (ancestors x) k [] ≡ drop k x)
-
--- taking off one label by place is taking off the first label; at the root there is none to take off
-abbrev pub Parent-by-place : Type 0
-Parent-by-place =
-    ((p l : List ℕ) (ls : Name) (rest : List ℕ) → 1 ≤ length l →
-    drop (parentPlace (p ++ (wire (l ∷ ls) ++ rest)) (length p)) (p ++ (wire (l ∷ ls) ++ rest)) ≡ wire ls ++ rest)
-    × ((p rest : List ℕ) → parentPlace (p ++ (wire [] ++ rest)) (length p) ≡ length p)

@@ -16,10 +16,6 @@ pub mod SmallLetters
 pub mod SelectedLists
 pub mod Tests
 pub mod Walks
-pub mod TextWalk
-pub mod LabelTests
-pub mod PieceEnds
-pub mod PieceWalk
 pub mod Decimals
 pub mod Runs
 pub mod ItemWalk

@@ -6,5 +6,4 @@ pub mod Reader
 pub mod Items
 pub mod Decimal
 pub mod Grammar
-pub mod Places
 pub mod Theorems

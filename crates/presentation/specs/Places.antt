@@ -6,7 +6,7 @@ use mathlib.Core.Option.{Option, none, some}
 use lib.ListN.{length, drop}
 use Rattle.octets.specs.Octets.{isBlank}
 use Rattle.octets.specs.Decimal.{decimalOctet}
-use Rattle.octets.specs.Places.{placeOf}
+use Rattle.text.specs.Places.{placeOf}
 use Rattle.presentation.specs.declared.FieldRead.{FieldRead}
 use Rattle.presentation.specs.declared.FieldRead.the-variants.{Good as GoodField, Fault as NoField}
 use Rattle.presentation.specs.declared.OctetRead.{OctetRead}

@@ -20,7 +20,7 @@ pub fn is_letters_and_digits(s: &[u8]) -> bool
 {
     let mut i: usize = 0;
     while i < s.len() {
-        if !octets::is_letter_or_digit(s[i]) {
+        if !ascii::is_letter_or_digit(s[i]) {
             return false;
         }
         i += 1;
@@ -48,7 +48,7 @@ pub fn decimal_octet(s: &[u8]) -> OctetRead
     let mut i: usize = 0;
     while i < s.len() {
         let b = s[i];
-        if !octets::is_digit(b) {
+        if !ascii::is_digit(b) {
             return OctetRead::Fault;
         }
         n = n * 10 + (b - b'0') as usize;
@@ -114,7 +114,7 @@ fn field_end(s: &[u8], at: usize) -> usize
 {
     let mut e: usize = at;
     while e < s.len() {
-        if octets::is_blank(s[e]) {
+        if ascii::is_blank(s[e]) {
             return e;
         }
         e += 1;
@@ -128,7 +128,7 @@ fn blanks_end(s: &[u8], at: usize) -> usize
 {
     let mut e: usize = at;
     while e < s.len() {
-        if !octets::is_blank(s[e]) {
+        if !ascii::is_blank(s[e]) {
             return e;
         }
         e += 1;

@@ -3,9 +3,9 @@ use Prim.Native.Nat.{ℕ}
 use mathlib.Core.Bool.{Bool, cond}
 use mathlib.Core.Path.{_≡_}
 use Rattle.packed.specs.Packed.{packed}
-use Rattle.request.specs.declared.Requested.{Requested}
-use Rattle.request.specs.declared.RequestedRead.{RequestedRead}
-use Rattle.request.specs.declared.RequestedRead.the-variants.{Good}
+use Rattle.request_reader.specs.declared.Requested.{Requested}
+use Rattle.request_reader.specs.declared.RequestedRead.{RequestedRead}
+use Rattle.request_reader.specs.declared.RequestedRead.the-variants.{Good}
 use Rattle.readers.specs.Packs.{packedRequested}
 
 pub told : {A : Type 0} (f : A → ℕ) (o d a : A) (r : ℕ) → o ≡ d → o ≡ a → r ≡ f a → r ≡ f d

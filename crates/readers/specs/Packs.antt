@@ -2,16 +2,16 @@
 use Prim.Native.Nat.{ℕ}
 use mathlib.Core.Bool.{Bool, true, false, cond}
 use Rattle.packed.specs.Packed.{packed}
-use Rattle.name.specs.declared.NameEnd.{NameEnd}
-use Rattle.name.specs.declared.NameEnd.the-variants.{At, Fault}
-use Rattle.request.specs.declared.RequestedRead.{RequestedRead}
-use Rattle.request.specs.declared.RequestedRead.the-variants.{Good as GoodName, Fault as NameFault}
-use Rattle.record.specs.declared.PropertyRead.{PropertyRead}
-use Rattle.record.specs.declared.PropertyRead.the-variants.{Good as GoodProperty, Fault as PropertyFault}
+use Rattle.name_reader.specs.declared.NameEnd.{NameEnd}
+use Rattle.name_reader.specs.declared.NameEnd.the-variants.{At, Fault}
+use Rattle.request_reader.specs.declared.RequestedRead.{RequestedRead}
+use Rattle.request_reader.specs.declared.RequestedRead.the-variants.{Good as GoodName, Fault as NameFault}
+use Rattle.property_reader.specs.declared.PropertyRead.{PropertyRead}
+use Rattle.property_reader.specs.declared.PropertyRead.the-variants.{Good as GoodProperty, Fault as PropertyFault}
 use Rattle.record.specs.declared.PropertyTag.{PropertyTag}
 use Rattle.record.specs.declared.PropertyTag.the-variants.{Issue, IssueWild, Iodef, Unknown}
-use Rattle.record.specs.declared.RecordRead.{RecordRead}
-use Rattle.record.specs.declared.RecordRead.the-variants.{Good as GoodRecord, Fault as RecordFault}
+use Rattle.record_reader.specs.declared.RecordRead.{RecordRead}
+use Rattle.record_reader.specs.declared.RecordRead.the-variants.{Good as GoodRecord, Fault as RecordFault}
 use Rattle.value.specs.declared.ValueRead.{ValueRead}
 use Rattle.value.specs.declared.ValueRead.the-variants.{Malformed, Nameless, Named}
 

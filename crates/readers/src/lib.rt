@@ -1,22 +1,23 @@
 // The readers, exported so that a program in another language can hold its own against them. Places are told modulo the width of
 // their field: 2^24 in a, 2^16 in b and c.
-use name::NameEnd;
-use record::PropertyRead;
+use name_reader::NameEnd;
+use property_reader::PropertyRead;
 use record::PropertyTag;
-use record::RecordRead;
-use request::RequestedRead;
+use record_reader::RecordRead;
+use request_reader::RequestedRead;
 use value::ValueRead;
 ghost use mathlib.Core.Path.{_≡_};
 ghost use Rattle.refusal.specs.Checks.{checked};
 ghost use Rattle.packed.specs.Packed.{packedCheck};
 ghost use Rattle.octets.specs.Octets.{equalIgnoringCase};
-ghost use Rattle.name.specs.Places.{nameEnd};
+ghost use Rattle.name_reader.specs.Places.{nameEnd};
 ghost use Rattle.request.specs.Request.{requestRefusal};
-ghost use Rattle.request.specs.Places.{requestedAt};
+ghost use Rattle.request_reader.specs.Places.{requestedAt};
 ghost use Rattle.issuer.specs.Issuer.{issuerRefusal};
 ghost use Rattle.record.specs.Property.{tagOf};
 ghost use Rattle.record.specs.Records.{bookRefusal};
-ghost use Rattle.record.specs.Places.{propertyAt, recordAt};
+ghost use Rattle.property_reader.specs.Places.{propertyAt};
+ghost use Rattle.record_reader.specs.Places.{recordAt};
 ghost use Rattle.value.specs.Places.{valueAt};
 ghost use Rattle.readers.specs.Packs.{packedBool, packedEnd, packedRequested, packedProperty, packedTag, packedRecord, packedValue};
 
@@ -24,21 +25,21 @@ ghost use Rattle.readers.specs.Packs.{packedBool, packedEnd, packedReque
 pub extern "C" fn readers_check_request(s: &[u8]) -> u64
     ensures { λ r. ⌜ r ≡ packedCheck (checked (requestRefusal (now (s .entry)))) ⌝ }
 {
-    packed::pack_check(request::check_request(s))
+    packed::pack_check(request_reader::check_request(s))
 }
 
 #[no_mangle]
 pub extern "C" fn readers_check_issuer(d: &[u8]) -> u64
     ensures { λ r. ⌜ r ≡ packedCheck (checked (issuerRefusal (now (d .entry)))) ⌝ }
 {
-    packed::pack_check(issuer::check_issuer(d))
+    packed::pack_check(issuer_reader::check_issuer(d))
 }
 
 #[no_mangle]
 pub extern "C" fn readers_check_book(b: &[u8]) -> u64
     ensures { λ r. ⌜ r ≡ packedCheck (checked (bookRefusal (now (b .entry)))) ⌝ }
 {
-    packed::pack_check(record::check_book(b))
+    packed::pack_check(record_reader::check_book(b))
 }
 
 // 1 where the two are the same.
@@ -46,7 +47,7 @@ pub extern "C" fn readers_check_book(b: &[u8]) -> u64
 pub extern "C" fn readers_same(a: &[u8], b: &[u8]) -> u64
     ensures { λ r. ⌜ r ≡ packedBool (equalIgnoringCase (now (a .entry)) (now (b .entry))) ⌝ }
 {
-    if octets::same_ignoring_case(a, b) {
+    if text::same_ignoring_case(a, b) {
         return 1;
     }
     0
@@ -57,7 +58,7 @@ pub extern "C" fn readers_same(a: &[u8], b: &[u8]) -> u64
 pub extern "C" fn readers_name_end(s: &[u8], at: usize) -> u64
     ensures { λ r. ⌜ r ≡ packedEnd (nameEnd (now (s .entry)) at) ⌝ }
 {
-    let NameEnd::At(e) = name::name_end(s, at) else {
+    let NameEnd::At(e) = name_reader::name_end(s, at) else {
         return 0;
     };
     packed::pack(1, e as u64, 0, 0)
@@ -68,7 +69,7 @@ pub extern "C" fn readers_name_end(s: &[u8], at: usize) -> u64
 pub extern "C" fn readers_requested_name(s: &[u8], at: usize) -> u64
     ensures { λ r. ⌜ r ≡ packedRequested (requestedAt (now (s .entry)) at) ⌝ }
 {
-    let RequestedRead::Good(n) = request::requested_name(s, at) else {
+    let RequestedRead::Good(n) = request_reader::requested_name(s, at) else {
         return 0;
     };
     if n.wildcard {
@@ -82,7 +83,7 @@ pub extern "C" fn readers_requested_name(s: &[u8], at: usize) -> u64
 pub extern "C" fn readers_property(d: &[u8]) -> u64
     ensures { λ r. ⌜ r ≡ packedProperty (propertyAt (now (d .entry))) ⌝ }
 {
-    let PropertyRead::Good(p) = record::read_property(d) else {
+    let PropertyRead::Good(p) = property_reader::read_property(d) else {
         return 0;
     };
     packed::pack(1, p.value as u64, p.flags as u64, 0)
@@ -93,7 +94,7 @@ pub extern "C" fn readers_property(d: &[u8]) -> u64
 pub extern "C" fn readers_tag(t: &[u8]) -> u64
     ensures { λ r. ⌜ r ≡ packedTag (tagOf (now (t .entry))) ⌝ }
 {
-    match record::tag_of(t) {
+    match property_reader::tag_of(t) {
         PropertyTag::Unknown => 0,
         PropertyTag::Issue => 1,
         PropertyTag::IssueWild => 2,
@@ -106,7 +107,7 @@ pub extern "C" fn readers_tag(t: &[u8]) -> u64
 pub extern "C" fn readers_record(s: &[u8], at: usize) -> u64
     ensures { λ r. ⌜ r ≡ packedRecord (recordAt (now (s .entry)) at) ⌝ }
 {
-    let RecordRead::Good(r) = record::read_record(s, at) else {
+    let RecordRead::Good(r) = record_reader::read_record(s, at) else {
         return 0;
     };
     packed::pack(1, r.next as u64, r.fixed as u64, r.rdata as u64)

@@ -1,9 +1,3 @@
 pub mod PropertyLaws
-pub mod TagTests
-pub mod PropertyPlaces
 pub mod RecordLaws
-pub mod RecordFields
-pub mod RecordPlaces
-pub mod RecordWays
 pub mod Book
-pub mod BookWalk

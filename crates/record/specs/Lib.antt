@@ -1,4 +1,3 @@
 pub mod Property
 pub mod Records
-pub mod Places
 pub mod Theorems

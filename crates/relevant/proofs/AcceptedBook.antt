@@ -17,10 +17,10 @@ use Rattle.name.specs.Names.{wire, name}
 use Rattle.name.specs.Theorems.{GoodName}
 use Rattle.name.proofs.NameLaws.{name-is-its-labels}
 use Rattle.name.proofs.NameField.{wire-full}
-use Rattle.name.proofs.PlaceLaws.{name-to}
+use Rattle.name_reader.proofs.PlaceLaws.{name-to}
 use Rattle.record.specs.Property.{Property, property}
 use Rattle.record.specs.Records.{Record, isCaa, resourceRecord, recordItems, recordRefusal, records, bookRefusal}
-use Rattle.record.proofs.RecordFields.{fields-read}
+use Rattle.record_reader.proofs.RecordFields.{fields-read}
 use Rattle.rule.specs.RelevantSet.{CaaRecord, withProperty, caaRecordsFrom, caaRecords}
 use Rattle.relevant.specs.Walks.{before, readable}
 

@@ -14,10 +14,10 @@ use Rattle.octets.proofs.ListLaws.{All-head}
 use Rattle.name.specs.Names.{Label, Name, wire, sameName, ancestors}
 use Rattle.name.specs.Theorems.{GoodName}
 use Rattle.name.proofs.NameLaws.{fewer-labels}
-use Rattle.name.proofs.Parents.{root-stays, behind-label, label-passed}
+use Rattle.name_reader.proofs.Parents.{root-stays, behind-label, label-passed}
 use Rattle.name.proofs.WholeNames.{whole-names}
 use Rattle.request.specs.Request.{isWildcard, base}
-use Rattle.request.proofs.RequestPlaces.{good-base}
+use Rattle.request_reader.proofs.RequestPlaces.{good-base}
 use Rattle.record.specs.Records.{records, bookRefusal}
 use Rattle.rule.specs.RelevantSet.{CaaRecord, caaRecords, Lookup, asLookup, lookup, firstFound, relevantSet}
 use Rattle.rule.specs.Authorizations.{decided, authorization}

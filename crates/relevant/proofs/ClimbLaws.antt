@@ -8,7 +8,7 @@ use lib.Dec.{eqb, ltb}
 use lib.ListN.{length, drop, getD, length-drop, List·getD-eq-default}
 use borrow.Author.Tests.{eq-eqb, ne-eqb, ltb-false, not-true, not-false}
 use Rattle.octets.specs.Lists.{isEmpty}
-use Rattle.name.specs.Places.{parentFrom, parentPlace}
+use Rattle.name_reader.specs.Places.{parentFrom, parentPlace}
 use Rattle.relevant.specs.declared.Near.the-variants.{At, Nowhere}
 use Rattle.relevant.specs.Walks.{setOf, nearestFrom, nearestPlace, Owning}
 

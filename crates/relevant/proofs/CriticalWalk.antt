@@ -12,11 +12,11 @@ use Rattle.octets.specs.Lists.{any, select, consIf}
 use Rattle.octets.proofs.ListLaws.{or-false}
 use Rattle.record.specs.Property.{property}
 use Rattle.record.specs.Records.{Record, isCaa}
-use Rattle.record.specs.Places.{recordAt}
-use Rattle.record.specs.declared.RecordAt.{RecordAt}
-use Rattle.record.specs.declared.RecordRead.{RecordRead}
-use Rattle.record.specs.declared.RecordRead.the-variants.{Good, Fault}
-use Rattle.record.proofs.RecordPlaces.{RecordTo, no-record, record-there}
+use Rattle.record_reader.specs.Places.{recordAt}
+use Rattle.record_reader.specs.declared.RecordAt.{RecordAt}
+use Rattle.record_reader.specs.declared.RecordRead.{RecordRead}
+use Rattle.record_reader.specs.declared.RecordRead.the-variants.{Good, Fault}
+use Rattle.record_reader.proofs.RecordPlaces.{RecordTo, no-record, record-there}
 use Rattle.rule.specs.RelevantSet.{CaaRecord, caaRecord, caaRecords}
 use Rattle.rule.specs.Authorizations.{isUnknownCritical}
 use Rattle.relevant.specs.Walks.{readable, owned, setOf, isCriticalData}

@@ -8,15 +8,15 @@ use mathlib.Core.List.{List}
 use denote.Enum.Declared.{tagOf as variant}
 use Rattle.octets.proofs.ListLaws.{not-passed}
 use Rattle.record.specs.Property.{Property, isCritical, tagOf}
-use Rattle.record.specs.Places.{propertyAt, tagPart}
-use Rattle.record.specs.declared.PropertyAt.{PropertyAt}
-use Rattle.record.specs.declared.PropertyRead.{PropertyRead}
-use Rattle.record.specs.declared.PropertyRead.the-variants.{Good, Fault}
+use Rattle.property_reader.specs.Places.{propertyAt, tagPart}
+use Rattle.property_reader.specs.declared.PropertyAt.{PropertyAt}
+use Rattle.property_reader.specs.declared.PropertyRead.{PropertyRead}
+use Rattle.property_reader.specs.declared.PropertyRead.the-variants.{Good, Fault}
 use Rattle.record.specs.declared.PropertyTag.{PropertyTag}
 use Rattle.record.specs.declared.PropertyTag.the-variants.{Issue, IssueWild, Iodef, Unknown}
 use Rattle.record.proofs.PropertyTag.{the-type}
 use Rattle.record.proofs.PropertyLaws.{critical-bit}
-use Rattle.record.proofs.PropertyPlaces.{PropertyTo, property-there, no-property}
+use Rattle.property_reader.proofs.PropertyPlaces.{PropertyTo, property-there, no-property}
 use Rattle.rule.specs.Authorizations.{isIssueTag, isIssueWildTag, isUnknownTag, isUnknownCritical}
 use Rattle.relevant.specs.Walks.{isCriticalData, tagOfData}
 

@@ -9,7 +9,7 @@ use lib.ListN.{length, take, drop, length-drop}
 use lib.Seq.{take-all}
 use borrow.Author.Tests.{eqb-false}
 use Rattle.octets.specs.Lists.{select, isEmpty}
-use Rattle.name.specs.Places.{parentPlace}
+use Rattle.name_reader.specs.Places.{parentPlace}
 use Rattle.refusal.specs.declared.RecordNo.{RecordNo}
 use Rattle.rule.specs.RelevantSet.{CaaRecord, found}
 use Rattle.rule.specs.Authorizations.{Authorization, unrestricted, forbidden, granted, isUnknownCritical, isIssue, isIssueWild, orElse, governing, grantees, governedBy, unlessForbidden, decided}

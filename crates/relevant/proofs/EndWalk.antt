@@ -15,15 +15,15 @@ use Rattle.limits.specs.Limits.{maxRecords, maxNameOctets}
 use Rattle.octets.specs.Lists.{isEmpty}
 use Rattle.octets.specs.Octets.{equalIgnoringCase}
 use Rattle.octets.proofs.ListLaws.{decided}
-use Rattle.octets.proofs.TextWalk.{lengths-first}
+use Rattle.text.proofs.TextWalk.{lengths-first}
 use Rattle.name.specs.Names.{wire}
 use Rattle.name.proofs.NameLaws.{name-is-its-labels}
 use Rattle.record.specs.Records.{Record, isCaa}
-use Rattle.record.specs.Places.{recordAt}
-use Rattle.record.specs.declared.RecordAt.{RecordAt}
-use Rattle.record.specs.declared.RecordRead.{RecordRead}
-use Rattle.record.specs.declared.RecordRead.the-variants.{Good, Fault}
-use Rattle.record.proofs.RecordPlaces.{RecordTo, no-record, record-there}
+use Rattle.record_reader.specs.Places.{recordAt}
+use Rattle.record_reader.specs.declared.RecordAt.{RecordAt}
+use Rattle.record_reader.specs.declared.RecordRead.{RecordRead}
+use Rattle.record_reader.specs.declared.RecordRead.the-variants.{Good, Fault}
+use Rattle.record_reader.proofs.RecordPlaces.{RecordTo, no-record, record-there}
 use Rattle.relevant.specs.Walks.{setOf, Owning}
 use Rattle.relevant.proofs.WalkSteps.{remaining, whole-set, isOwned, walk-over, walk-broken, remaining-on, remaining-here}
 

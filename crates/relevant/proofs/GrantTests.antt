@@ -14,7 +14,7 @@ use Rattle.octets.proofs.ListLaws.{alike}
 use Rattle.octets.proofs.Texts.{same-equal}
 use Rattle.issuer.specs.Issuer.{isIssuer}
 use Rattle.record.specs.Property.{Property, property}
-use Rattle.record.specs.Places.{valueIn, valuePart}
+use Rattle.property_reader.specs.Places.{valueIn, valuePart}
 use Rattle.value.specs.IssueValues.{areParameters, issueValue}
 use Rattle.value.specs.Places.{valueAt}
 use Rattle.value.specs.declared.NameAt.{NameAt}

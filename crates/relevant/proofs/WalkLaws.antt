@@ -9,11 +9,11 @@ use lib.ListN.{length, take, drop}
 use Rattle.limits.specs.Limits.{maxRecords}
 use Rattle.record.specs.Property.{property}
 use Rattle.record.specs.Records.{Record}
-use Rattle.record.specs.Places.{recordAt}
-use Rattle.record.specs.declared.RecordAt.{RecordAt}
-use Rattle.record.specs.declared.RecordRead.{RecordRead}
-use Rattle.record.specs.declared.RecordRead.the-variants.{Good, Fault}
-use Rattle.record.proofs.RecordPlaces.{RecordTo, no-record, record-there}
+use Rattle.record_reader.specs.Places.{recordAt}
+use Rattle.record_reader.specs.declared.RecordAt.{RecordAt}
+use Rattle.record_reader.specs.declared.RecordRead.{RecordRead}
+use Rattle.record_reader.specs.declared.RecordRead.the-variants.{Good, Fault}
+use Rattle.record_reader.proofs.RecordPlaces.{RecordTo, no-record, record-there}
 use Rattle.rule.specs.RelevantSet.{CaaRecord}
 use Rattle.relevant.specs.declared.Walk.{Walk}
 use Rattle.relevant.specs.declared.Seen.{Seen as SeenAt}

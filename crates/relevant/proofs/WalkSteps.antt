@@ -13,9 +13,9 @@ use Rattle.octets.specs.Octets.{equalIgnoringCase}
 use Rattle.name.specs.Names.{wire}
 use Rattle.record.specs.Property.{Property, property}
 use Rattle.record.specs.Records.{Record, wireRecord, isCaa, isSome, isLaidOut, resourceRecord}
-use Rattle.record.specs.declared.RecordAt.{RecordAt}
-use Rattle.record.proofs.RecordFields.{fields-read}
-use Rattle.record.proofs.RecordPlaces.{RecordTo}
+use Rattle.record_reader.specs.declared.RecordAt.{RecordAt}
+use Rattle.record_reader.proofs.RecordFields.{fields-read}
+use Rattle.record_reader.proofs.RecordPlaces.{RecordTo}
 use Rattle.rule.specs.RelevantSet.{CaaRecord, withProperty, caaRecord, caaRecordsFrom, caaRecords}
 use Rattle.relevant.specs.declared.Walk.{Walk}
 use Rattle.relevant.specs.declared.Step.the-variants.{Seen, End}

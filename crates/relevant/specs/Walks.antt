@@ -11,7 +11,7 @@ use Rattle.octets.specs.Lists.{any, select, isEmpty}
 use Rattle.octets.specs.Octets.{same, lowered, equalIgnoringCase}
 use Rattle.octets.specs.Reader.{Reader}
 use Rattle.name.specs.Names.{Name, wire}
-use Rattle.name.specs.Places.{parentPlace}
+use Rattle.name_reader.specs.Places.{parentPlace}
 use Rattle.record.specs.Property.{Property, property}
 use Rattle.record.specs.Records.{Record, wireRecord, isCaa, resourceRecord}
 use Rattle.rule.specs.RelevantSet.{CaaRecord, Lookup, empty, found, caaRecords}

@@ -1,9 +1,9 @@
 // The relevant record set of a name in a book: the walk over its records, the nearest name that owns any, and what decides.
 use limits::MAX_RECORDS;
-use name::Climb;
-use record::PropertyRead;
+use name_reader::Climb;
+use property_reader::PropertyRead;
 use record::PropertyTag;
-use record::RecordRead;
+use record_reader::RecordRead;
 use refusal::RecordNo;
 use value::ValueRead;
 ghost use mathlib.Core.Path.{_≡_};
@@ -56,13 +56,13 @@ impl Walk {
         let mut at = self.at;
         let mut number = self.number;
         while number < MAX_RECORDS {
-            let RecordRead::Good(r) = record::read_record(book, at) else {
+            let RecordRead::Good(r) = record_reader::read_record(book, at) else {
                 return Step::End;
             };
             let fixed = r.fixed;
             let next = r.next;
-            if record::is_caa(r.rtype, r.class) {
-                if octets::same_ignoring_case(&book[at..fixed], owner) {
+            if record_reader::is_caa(r.rtype, r.class) {
+                if text::same_ignoring_case(&book[at..fixed], owner) {
                     return Step::Seen(Seen {
                         rr: RecordNo(number),
                         rdata: r.rdata,
@@ -84,13 +84,13 @@ impl Walk {
 pub fn is_unknown_critical(d: &[u8]) -> bool
     ensures { λ r. ⌜ r ≡ isCriticalData (now (d .entry)) ⌝ }
 {
-    let PropertyRead::Good(p) = record::read_property(d) else {
+    let PropertyRead::Good(p) = property_reader::read_property(d) else {
         return false;
     };
     if p.flags < 128 {
         return false;
     }
-    let PropertyTag::Unknown = record::tag_of(record::tag_part(d)) else {
+    let PropertyTag::Unknown = property_reader::tag_of(property_reader::tag_part(d)) else {
         return false;
     };
     true
@@ -100,10 +100,10 @@ pub fn is_unknown_critical(d: &[u8]) -> bool
 pub fn has_tag(d: &[u8], wild: bool) -> bool
     ensures { λ r. ⌜ r ≡ tagOfData wild (now (d .entry)) ⌝ }
 {
-    let PropertyRead::Good(_) = record::read_property(d) else {
+    let PropertyRead::Good(_) = property_reader::read_property(d) else {
         return false;
     };
-    match record::tag_of(record::tag_part(d)) {
+    match property_reader::tag_of(property_reader::tag_part(d)) {
         PropertyTag::Issue => !wild,
         PropertyTag::IssueWild => wild,
         PropertyTag::Iodef => false,
@@ -115,17 +115,17 @@ pub fn has_tag(d: &[u8], wild: bool) -> bool
 pub fn grants(d: &[u8], issuer: &[u8]) -> bool
     ensures { λ r. ⌜ r ≡ grantsTo (now (d .entry)) (now (issuer .entry)) ⌝ }
 {
-    let v = record::value_part(d);
+    let v = property_reader::value_part(d);
     let ValueRead::Named(n) = value::read_value(v) else {
         return false;
     };
     let from = n.from;
     let to = n.to;
     let name = &v[from..to];
-    if !issuer::is_issuer(name) {
+    if !issuer_reader::is_issuer(name) {
         return false;
     }
-    octets::same_ignoring_case(name, issuer)
+    text::same_ignoring_case(name, issuer)
 }
 
 // Whether any CAA record of a book, whatever its owner, has an unknown tag and is critical. Few books have one: the others
@@ -136,13 +136,13 @@ pub fn any_unknown_critical(book: &[u8]) -> bool
     let mut at: usize = 0;
     let mut number: usize = 0;
     while number < MAX_RECORDS {
-        let RecordRead::Good(r) = record::read_record(book, at) else {
+        let RecordRead::Good(r) = record_reader::read_record(book, at) else {
             return false;
         };
         let rdata = r.rdata;
         at = r.next;
         number += 1;
-        if !record::is_caa(r.rtype, r.class) {
+        if !record_reader::is_caa(r.rtype, r.class) {
             continue;
         }
         if is_unknown_critical(&book[rdata..at]) {
@@ -223,7 +223,7 @@ fn ends_with(name: &[u8], x: &[u8]) -> bool
         return false;
     }
     let from = name.len() - x.len();
-    octets::same_ignoring_case(x, &name[from..])
+    text::same_ignoring_case(x, &name[from..])
 }
 
 // For each length, whether so many last octets of a name own a CAA record: one walk over the book, however many labels
@@ -235,14 +235,14 @@ fn owning_ends(book: &[u8], name: &[u8]) -> [bool; 256]
     let mut at: usize = 0;
     let mut number: usize = 0;
     while number < MAX_RECORDS {
-        let RecordRead::Good(r) = record::read_record(book, at) else {
+        let RecordRead::Good(r) = record_reader::read_record(book, at) else {
             return owning;
         };
         let from = at;
         let fixed = r.fixed;
         at = r.next;
         number += 1;
-        if !record::is_caa(r.rtype, r.class) {
+        if !record_reader::is_caa(r.rtype, r.class) {
             continue;
         }
         if !ends_with(name, &book[from..fixed]) {

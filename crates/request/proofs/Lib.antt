@@ -1,8 +1,2 @@
 pub mod RequestedNames
 pub mod Requests
-pub mod WildcardTests
-pub mod HostNames
-pub mod RequestPlaces
-pub mod BasePlaces
-pub mod RequestWalk
-pub mod AcceptedNames

@@ -1,3 +1,2 @@
 pub mod Request
-pub mod Places
 pub mod Theorems

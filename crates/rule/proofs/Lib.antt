@@ -15,3 +15,4 @@ pub mod BufferLaws
 pub mod Room
 pub mod ReadBackLaws
 pub mod CallLaws
+pub mod CriticalLists

@@ -8,7 +8,7 @@ use lib.ListN.{length, take, drop}
 use Rattle.refusal.specs.declared.Refusal.{Refusal}
 use Rattle.refusal.specs.declared.Refusal.the-variants.{RequestTooLong, BadName, TooManyNames, BadIssuer, BookTooLong, BadRecord, TooManyRecords, NoRoom, BadLine, LineTooLong, BadData}
 use Rattle.refusal.specs.Refusal.{number, place}
-use Rattle.octets.specs.Lists.{All, Distinct, Selects}
+use Rattle.octets.specs.Lists.{All, Any, Distinct, Selects}
 use Rattle.octets.specs.Octets.{Octets, lowered}
 use Rattle.octets.specs.Items.{whole, items}
 use Rattle.name.specs.Names.{Name}
@@ -26,7 +26,7 @@ use Rattle.rule.specs.Authorizations.{Authorization, unrestricted, forbi
 use Rattle.rule.specs.Verdicts.{denial, verdict}
 use Rattle.rule.specs.IssuerLists.{Issuers, anyone, listed, issuers, entries, readEntry}
 use Rattle.rule.specs.Calls.{authorizations, judge, Listing, listIssuers, judgementTold, permittedIssuersTold}
-use Rattle.rule.specs.Meaning.{CaaRecordsOf, OwnedBy, NearestAt, Unrestricted, PermittedTo, ForbiddenBy, GovernedFrom, GoverningRecords, LowestNot, Before, GrantedBefore}
+use Rattle.rule.specs.Meaning.{CaaRecordsOf, OwnedBy, NearestAt, UnknownCriticalRecord, Relevant, Unrestricted, PermittedTo, ForbiddenBy, GovernedFrom, GoverningRecords, LowestNot, Before, GrantedBefore}
 
 -- the CAA records are those of type 257 and class 1, numbered from 0 over all records
 abbrev pub Caa-records : Type 0
@@ -137,6 +137,15 @@ List-in-the-buffer =
     × ((ns : List (List ℕ)) → issuers (authorizations request book) ≡ listed ns → total ns ≤ length buffer →
     listIssuers request book buffer
     ≡ record { answer = Listed (length ns) (total ns); buffer = entries ns ++ drop (total ns) buffer })
+
+-- an unknown critical record in the relevant set of any requested name gives an empty list, in any buffer
+abbrev pub Unknown-critical-lists-nobody : Type 0
+Unknown-critical-lists-nobody =
+    (request book buffer : List ℕ) → requestRefusal request ≡ none → bookRefusal book ≡ none →
+    Any
+    (λ n. (rs : List CaaRecord) × Relevant (caaRecords (records book)) n rs × Any UnknownCriticalRecord rs)
+    (requestedNames request) →
+    listIssuers request book buffer ≡ record { answer = Listed 0 0; buffer = buffer }
 
 -- a buffer as long as the book is always enough
 abbrev pub Room-of-the-book : Type 0

@@ -9,9 +9,9 @@ use lib.ListN.{length, take, drop, length-drop}
 use lib.Seq.{take-all}
 use Rattle.octets.specs.Lists.{all-nil, all-cons}
 use Rattle.octets.specs.Pieces.{split, join}
-use Rattle.octets.specs.Places.{pieceEnd}
+use Rattle.text.specs.Places.{pieceEnd}
 use Rattle.octets.proofs.PieceLaws.{pieces-join}
-use Rattle.octets.proofs.PieceWalk.{pieces-more, pieces-last}
+use Rattle.text.proofs.PieceWalk.{pieces-more, pieces-last}
 use Rattle.value.proofs.Classes.{Free}
 
 pub join-more : (c : ℕ) (p : List ℕ) (ps : List (List ℕ)) → ps ≢ [] → join c (p ∷ ps) ≡ p ++ (c ∷ join c ps)

@@ -9,7 +9,7 @@ use lib.ListN.{length, take, drop}
 use Rattle.octets.specs.Lists.{all}
 use Rattle.octets.specs.Octets.{isBlank}
 use Rattle.octets.specs.Pieces.{split}
-use Rattle.octets.specs.Places.{pieceEnd}
+use Rattle.text.specs.Places.{pieceEnd}
 use Rattle.octets.proofs.ListLaws.{all-true, not-passed}
 use Rattle.octets.proofs.PieceLaws.{pieces-join}
 use Rattle.value.specs.declared.Class.the-variants.{Blank, LetterOrDigit, ParameterOctet}

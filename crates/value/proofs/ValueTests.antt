@@ -6,7 +6,7 @@ use mathlib.Core.Bool.{Bool, true, false}
 use mathlib.Core.List.{List}
 use lib.ListN.{length, take, drop, take-append-drop}
 use Rattle.octets.specs.Pieces.{split}
-use Rattle.octets.specs.Places.{pieceEnd}
+use Rattle.text.specs.Places.{pieceEnd}
 use Rattle.value.specs.declared.ValueRead.{ValueRead}
 use Rattle.value.specs.declared.ValueRead.the-variants.{Malformed}
 use Rattle.value.specs.IssueValues.{trim, areParameters, nameIn, issueValue}

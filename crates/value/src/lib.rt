@@ -43,8 +43,8 @@ fn is_in(b: u8, class: Class) -> bool
     ensures { λ r. ⌜ r ≡ inClass class b ⌝ }
 {
     match class {
-        Class::Blank => octets::is_blank(b),
-        Class::LetterOrDigit => octets::is_letter_or_digit(b),
+        Class::Blank => ascii::is_blank(b),
+        Class::LetterOrDigit => ascii::is_letter_or_digit(b),
         Class::ParameterOctet => is_parameter_octet(b),
     }
 }
@@ -69,7 +69,7 @@ fn trim_start(s: &[u8]) -> &[u8]
 {
     let mut t = s;
     while 0 < t.len() {
-        if !octets::is_blank(t[0]) {
+        if !ascii::is_blank(t[0]) {
             return t;
         }
         t = &t[1..];
@@ -84,7 +84,7 @@ fn trim_end(s: &[u8]) -> &[u8]
     let mut t = s;
     while 0 < t.len() {
         let last = t.len() - 1;
-        if !octets::is_blank(t[last]) {
+        if !ascii::is_blank(t[last]) {
             return t;
         }
         t = &t[..last];
@@ -98,8 +98,8 @@ fn is_domain_name(s: &[u8]) -> bool
 {
     let mut at: usize = 0;
     loop {
-        let e = octets::piece_end(s, at, b'.');
-        if !octets::is_label(&s[at..e]) {
+        let e = text::piece_end(s, at, b'.');
+        if !text::is_label(&s[at..e]) {
             return false; // a closing dot leaves an empty label here
         }
         if s.len() <= e {
@@ -114,7 +114,7 @@ fn is_parameter(s: &[u8]) -> bool
     ensures { λ r. ⌜ r ≡ isParameter (now (s .entry)) ⌝ }
 {
     let p = trim_start(trim_end(s));
-    let e = octets::piece_end(p, 0, b'=');
+    let e = text::piece_end(p, 0, b'=');
     if p.len() <= e {
         return false;
     }
@@ -137,7 +137,7 @@ fn are_parameters(s: &[u8]) -> bool
     }
     let mut at: usize = 0;
     loop {
-        let e = octets::piece_end(s, at, b';');
+        let e = text::piece_end(s, at, b';');
         if !is_parameter(&s[at..e]) {
             return false; // a closing semicolon leaves an empty parameter here
         }
@@ -170,7 +170,7 @@ fn read_name(s: &[u8]) -> ValueRead
 pub fn read_value(s: &[u8]) -> ValueRead
     ensures { λ r. ⌜ r ≡ valueAt (now (s .entry)) ⌝ }
 {
-    let e = octets::piece_end(s, 0, b';');
+    let e = text::piece_end(s, 0, b';');
     if e < s.len() {
         if !are_parameters(&s[e + 1..]) {
             return ValueRead::Malformed;

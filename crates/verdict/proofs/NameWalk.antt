@@ -19,13 +19,13 @@ use Rattle.refusal.specs.declared.Check.{Check}
 use Rattle.refusal.specs.declared.Check.the-variants.{Accepted, Refused as CheckRefused}
 use Rattle.name.specs.Names.{Name, wire}
 use Rattle.name.specs.Theorems.{GoodName}
-use Rattle.request.specs.declared.Requested.{Requested}
-use Rattle.request.specs.declared.RequestedRead.{RequestedRead}
-use Rattle.request.specs.declared.RequestedRead.the-variants.{Good, Fault}
+use Rattle.request_reader.specs.declared.Requested.{Requested}
+use Rattle.request_reader.specs.declared.RequestedRead.{RequestedRead}
+use Rattle.request_reader.specs.declared.RequestedRead.the-variants.{Good, Fault}
 use Rattle.request.specs.Request.{isWildcard, base, requestedNames, requestRefusal}
-use Rattle.request.specs.Places.{requestedAt}
-use Rattle.request.proofs.RequestPlaces.{requested-there}
-use Rattle.request.proofs.AcceptedNames.{NamesLeft, NextName, all-names, names-end, names-few, names-good, next-name}
+use Rattle.request_reader.specs.Places.{requestedAt}
+use Rattle.request_reader.proofs.RequestPlaces.{requested-there}
+use Rattle.request_reader.proofs.AcceptedNames.{NamesLeft, NextName, all-names, names-end, names-few, names-good, next-name}
 use Rattle.issuer.specs.Issuer.{issuerRefusal}
 use Rattle.record.specs.Records.{records, bookRefusal}
 use Rattle.rule.specs.declared.Judgement.{Judgement}

@@ -5,7 +5,7 @@ use refusal::RecordNo;
 use refusal::Refusal;
 use relevant::Found;
 use relevant::Near;
-use request::RequestedRead;
+use request_reader::RequestedRead;
 use rule::Denial;
 use rule::Judgement;
 ghost use mathlib.Core.Path.{_≡_};
@@ -86,13 +86,13 @@ fn judge_within(
 pub fn judge(request: &[u8], issuer: &[u8], book: &[u8]) -> Judgement
     ensures { λ r. ⌜ r ≡ judge (now (request .entry)) (now (issuer .entry)) (now (book .entry)) ⌝ }
 {
-    if let Check::Refused(r) = request::check_request(request) {
+    if let Check::Refused(r) = request_reader::check_request(request) {
         return Judgement::Refused(r);
     }
-    if let Check::Refused(r) = issuer::check_issuer(issuer) {
+    if let Check::Refused(r) = issuer_reader::check_issuer(issuer) {
         return Judgement::Refused(r);
     }
-    if let Check::Refused(r) = record::check_book(book) {
+    if let Check::Refused(r) = record_reader::check_book(book) {
         return Judgement::Refused(r);
     }
     let critical = relevant::any_unknown_critical(book);
@@ -100,7 +100,7 @@ pub fn judge(request: &[u8], issuer: &[u8], book: &[u8]) -> Judgement
     let mut k: usize = 0;
     while at < request.len() {
         // An accepted request has no bad name; one would be refused all the same.
-        let RequestedRead::Good(n) = request::requested_name(request, at) else {
+        let RequestedRead::Good(n) = request_reader::requested_name(request, at) else {
             return Judgement::Refused(Refusal::BadName(NameNo(k)));
         };
         let base = n.base;

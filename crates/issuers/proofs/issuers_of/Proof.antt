@@ -2,7 +2,7 @@
 use Prim.Native.Nat.{_-_}
 use lib.ListN.{length}
 use borrow.Author.Needs.{needs}
-use Rattle.request.proofs.RequestPlaces.{left-less}
+use Rattle.request_reader.proofs.RequestPlaces.{left-less}
 use Rattle.issuers.proofs.IssuersWalk.{Narrowing, names-start, no-bad-name, name-forbidden, name-open, name-narrowed, all-narrowed}
 use Rattle.issuers.proofs.issuers_of.Statement.{statement}
 use Rattle.issuers.proofs.issuers_of.Tie as tie

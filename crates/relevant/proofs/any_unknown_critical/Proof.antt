@@ -3,7 +3,7 @@ use Prim.Native.Nat.{_-_}
 use borrow.Author.Needs.{needs}
 use borrow.Author.Tests.{not-true, not-false}
 use Rattle.limits.specs.Limits.{maxRecords}
-use Rattle.record.proofs.RecordPlaces.{record-inside}
+use Rattle.record_reader.proofs.RecordPlaces.{record-inside}
 use Rattle.relevant.proofs.NextWays.{data-before}
 use Rattle.relevant.proofs.CriticalWalk.{CriticalLeft, critical-start, none-critical, none-readable, no-caa-passed, critical-found, critical-passed}
 use Rattle.relevant.proofs.any_unknown_critical.Statement.{statement}

@@ -7,7 +7,7 @@ use borrow.Author.Needs.{needs}
 use borrow.Author.Tests.{not-true, not-false}
 use Rattle.octets.specs.Lists.{all}
 use Rattle.octets.specs.Pieces.{split}
-use Rattle.octets.proofs.PieceWalk.{piece-from, piece-within, pieces-less, pieces-turn, pieces-end, pieces-stop}
+use Rattle.text.proofs.PieceWalk.{piece-from, piece-within, pieces-less, pieces-turn, pieces-end, pieces-stop}
 use Rattle.value.specs.IssueValues.{isParameter}
 use Rattle.value.proofs.ParameterTests.{only-blanks, by-pieces}
 use Rattle.value.proofs.are_parameters.Statement.{statement}

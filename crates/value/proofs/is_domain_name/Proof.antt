@@ -8,7 +8,7 @@ use borrow.Author.Tests.{not-true, not-false}
 use Rattle.octets.specs.Lists.{all}
 use Rattle.octets.specs.Label.{isLabel}
 use Rattle.octets.specs.Pieces.{split}
-use Rattle.octets.proofs.PieceWalk.{piece-from, piece-within, pieces-less, pieces-turn, pieces-end, pieces-stop}
+use Rattle.text.proofs.PieceWalk.{piece-from, piece-within, pieces-less, pieces-turn, pieces-end, pieces-stop}
 use Rattle.value.specs.IssueValues.{isDomainName}
 use Rattle.value.proofs.is_domain_name.Statement.{statement}
 use Rattle.value.proofs.is_domain_name.Tie as tie

@@ -3,7 +3,7 @@ use mathlib.Core.Path.{sym}
 use lib.Seq.{length-take-le}
 use borrow.Author.Needs.{needs}
 use borrow.Author.Tests.{not-true, not-false}
-use Rattle.octets.proofs.PieceWalk.{piece-within}
+use Rattle.text.proofs.PieceWalk.{piece-within}
 use Rattle.value.proofs.ParameterTests.{no-equals, no-tag, bad-tag, by-value}
 use Rattle.value.proofs.is_parameter.Statement.{statement}
 use Rattle.value.proofs.is_parameter.Tie as tie

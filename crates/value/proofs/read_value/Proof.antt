@@ -4,7 +4,7 @@ use mathlib.Core.Logic.{⊎-elim}
 use lib.Seq.{length-take-le}
 use borrow.Author.Needs.{needs}
 use borrow.Author.Tests.{not-true, not-false}
-use Rattle.octets.proofs.PieceWalk.{piece-within}
+use Rattle.text.proofs.PieceWalk.{piece-within}
 use Rattle.value.proofs.ValueTests.{name-alone, name-first, parameters-bad}
 use Rattle.value.proofs.read_value.Statement.{statement}
 use Rattle.value.proofs.read_value.Tie as tie

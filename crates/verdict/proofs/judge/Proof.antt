@@ -3,7 +3,7 @@ use Prim.Native.Nat.{_-_}
 use lib.ListN.{length}
 use borrow.Author.Needs.{needs}
 use Rattle.limits.specs.Limits.{maxNames}
-use Rattle.request.proofs.RequestPlaces.{next-inside, left-less}
+use Rattle.request_reader.proofs.RequestPlaces.{next-inside, left-less}
 use Rattle.verdict.proofs.NameWays.{critical-known}
 use Rattle.verdict.proofs.NameWalk.{Judged, request-refused, issuer-refused, book-refused, names-start, no-bad-name, base-first, name-critical, name-ungranted, few, name-passed, all-passed}
 use Rattle.verdict.proofs.judge.Statement.{statement}

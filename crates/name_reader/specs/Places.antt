@@ -1,0 +1,27 @@
+-- Definitions by place, for code that walks a slice: each is a value definition at what is left of the slice from a place on.
+use Prim.Native.Nat.{ℕ, _+_, _-_}
+use mathlib.Core.Bool.{Bool, cond, _||_}
+use mathlib.Core.List.{List, [], _∷_}
+use mathlib.Core.Option.{Option, none, some}
+use lib.Dec.{eqb, ltb}
+use lib.ListN.{length, drop}
+use Rattle.name_reader.specs.declared.NameEnd.{NameEnd}
+use Rattle.name_reader.specs.declared.NameEnd.the-variants.{At, Fault}
+use Rattle.name.specs.Names.{Name, name}
+
+-- where what is left of s begins
+abbrev pub endOf : List ℕ → Option (Name × List ℕ) → NameEnd
+endOf s none = Fault
+endOf s (some r) = At (length s - length (r .1))
+
+-- where the name that begins at `at` ends
+unfoldable pub nameEnd : List ℕ → ℕ → NameEnd
+nameEnd s at = endOf s (name (drop at s))
+
+-- one label off: behind the label that begins at `at`, given what stands there; the same place where no label does
+abbrev pub parentFrom : ℕ → List ℕ → ℕ
+parentFrom at [] = at
+parentFrom at (n ∷ s) = cond (eqb n 0 || ltb (length s) n) at (at + 1 + n)
+
+unfoldable pub parentPlace : List ℕ → ℕ → ℕ
+parentPlace s at = parentFrom at (drop at s)

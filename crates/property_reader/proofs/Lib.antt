@@ -1,0 +1,2 @@
+pub mod TagTests
+pub mod PropertyPlaces

@@ -1,0 +1,4 @@
+pub mod RecordFields
+pub mod RecordPlaces
+pub mod RecordWays
+pub mod BookWalk

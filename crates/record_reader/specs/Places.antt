@@ -1,0 +1,25 @@
+-- Definitions by place, for code that walks a slice: each is a value definition at what is left of the slice from a place on.
+use Prim.Native.Nat.{ℕ, _+_, _-_}
+use mathlib.Core.List.{List}
+use mathlib.Core.Option.{Option, none, some}
+use lib.ListN.{length, drop}
+use Rattle.name.specs.Names.{wire}
+use Rattle.record.specs.Records.{Record, resourceRecord}
+use Rattle.record_reader.specs.declared.RecordRead.{RecordRead}
+use Rattle.record_reader.specs.declared.RecordRead.the-variants.{Good as GoodRecordAt, Fault as RecordFault}
+
+-- the record ends where what is left begins, and so does its data
+abbrev pub recordPlaces : List ℕ → ℕ → Option (Record × List ℕ) → RecordRead
+recordPlaces s at none = RecordFault
+recordPlaces s at (some r) =
+    GoodRecordAt (record {
+      fixed = at + length (wire (r .0 .owner));
+      rtype = r .0 .type;
+      class = r .0 .class;
+      rdata = length s - length (r .1) - length (r .0 .rdata);
+      next = length s - length (r .1);
+    })
+
+-- the record that begins at `at`
+unfoldable pub recordAt : List ℕ → ℕ → RecordRead
+recordAt s at = recordPlaces s at (resourceRecord (drop at s))

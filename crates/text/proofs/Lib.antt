@@ -1,0 +1,4 @@
+pub mod TextWalk
+pub mod LabelTests
+pub mod PieceEnds
+pub mod PieceWalk
