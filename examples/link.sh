@@ -1,5 +1,5 @@
 #!/usr/bin/env bash
-# Links the library from C, C++ and Rust, and holds what comes out to the requirements' whole case.
+# Links the library from C and Rust, tries the header in C++, and holds what comes out to the requirements' whole case.
 #
 #     bash examples/link.sh [LIBS]    LIBS is the folder of libsplinepearl.a (target/staticlib)
 set -eu

@@ -4,8 +4,8 @@ use std::collections::HashSet;
 
 use crate::answer::{Permitted, Refusal};
 use crate::book::read_book;
+use crate::buffer::put_at_front;
 use crate::issuer::IssuerName;
-use crate::lent::put_at_front;
 use crate::request::read_request;
 use crate::rule::{caa_records, standing, Standing};
 

@@ -1,6 +1,6 @@
 //! Judges the request.bin, issuer.txt and book.bin of a folder, and prints the desk's line.
 //!
-//!     cargo run --example desk -- ../../examples/whole-case
+//!     SPLINEPEARL_LIBS=/path/of/the/archive cargo run --example desk -- ../../examples/whole-case
 //!
 //! The exit status is 0 where the issuer may sign, 1 where it may not.
 

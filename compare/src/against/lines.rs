@@ -1,6 +1,6 @@
 //! Writing and reading lines against ours: the answer and every octet of the buffer.
 
-use super::lent::{sizes_to_try, Lent};
+use super::buffer::{sizes_to_try, TwoBuffers};
 use super::log::{Call, Differences, Tally};
 use super::Part;
 use crate::answer::{Made, Refusal};
@@ -142,10 +142,10 @@ impl Conversion {
         differences: &mut Differences,
     ) -> Made {
         let buffer = generator.buffer(room);
-        let mut lent = Lent::new(&buffer, generator);
-        let ours = (self.ours)(given, lent.ours());
-        let theirs = (self.theirs)(given, lent.theirs());
-        let left = lent.difference();
+        let mut buffers = TwoBuffers::new(&buffer, generator);
+        let ours = (self.ours)(given, buffers.ours());
+        let theirs = (self.theirs)(given, buffers.theirs());
+        let left = buffers.difference();
         if theirs != Ok(ours) || left.is_some() {
             let inputs: [(&str, &[u8]); 2] = [(self.input, given), ("buffer", &buffer)];
             let [they_left, we_left] = left.unwrap_or_default();

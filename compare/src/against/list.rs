@@ -1,6 +1,6 @@
 //! Who may issue against ours: the answer and every octet of the buffer.
 
-use super::lent::{sizes_to_try, Lent};
+use super::buffer::{sizes_to_try, TwoBuffers};
 use super::log::{Call, Differences, Tally};
 use super::Part;
 use crate::answer::{Permitted, Refusal};
@@ -69,10 +69,10 @@ impl ListComparison {
         buffer: &[u8],
         differences: &mut Differences,
     ) -> Permitted {
-        let mut lent = Lent::new(buffer, &mut self.generator);
-        let ours = permitted_issuers(request, book, lent.ours());
-        let theirs = (self.theirs)(request, book, lent.theirs());
-        let left = lent.difference();
+        let mut buffers = TwoBuffers::new(buffer, &mut self.generator);
+        let ours = permitted_issuers(request, book, buffers.ours());
+        let theirs = (self.theirs)(request, book, buffers.theirs());
+        let left = buffers.difference();
         if theirs != Ok(ours) || left.is_some() {
             let inputs = [("request", request), ("book", book), ("buffer", buffer)];
             let [they_left, we_left] = left.unwrap_or_default();

@@ -1,7 +1,7 @@
 //! Another implementation's answers against ours, on the stored cases and on random ones.
 
+mod buffer;
 mod judge;
-mod lent;
 mod lines;
 mod list;
 mod log;

@@ -4,8 +4,8 @@ use std::fmt;
 
 use super::check::{Check, Expected};
 use super::reader::Case;
+use crate::buffer::MARGIN;
 use crate::calls::{told, Desk};
-use crate::lent::MARGIN;
 use crate::limits::LINE_OCTETS;
 use crate::value::{read_value, IssueValue};
 

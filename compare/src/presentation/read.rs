@@ -1,7 +1,7 @@
 //! From a line to CAA data.
 
 use crate::answer::{Made, Refusal};
-use crate::lent::put_at_front;
+use crate::buffer::put_at_front;
 use crate::limits::{DATA_OCTETS, LINE_OCTETS};
 use crate::value::{is_blank, leading_blanks};
 

@@ -2,7 +2,7 @@
 
 use crate::answer::{Made, Refusal};
 use crate::book::read_property;
-use crate::lent::put_at_front;
+use crate::buffer::put_at_front;
 use crate::limits::DATA_OCTETS;
 
 /// Writes CAA data as a line: flags, tag in small letters, value in double quotes.

@@ -2,21 +2,21 @@
 
 use std::ops::Range;
 
+use crate::buffer::MARGIN;
 use crate::generate::Generator;
-use crate::lent::MARGIN;
 
 /// Two buffers with the same octets, one for each implementation.
-pub struct Lent {
+pub struct TwoBuffers {
     ours: Vec<u8>,
     theirs: Vec<u8>,
     lent: Range<usize>,
 }
 
-impl Lent {
-    pub fn new(buffer: &[u8], generator: &mut Generator) -> Lent {
+impl TwoBuffers {
+    pub fn new(buffer: &[u8], generator: &mut Generator) -> TwoBuffers {
         let margins = [generator.buffer(MARGIN), generator.buffer(MARGIN)];
         let octets = [&margins[0], buffer, &margins[1]].concat();
-        Lent {
+        TwoBuffers {
             ours: octets.clone(),
             theirs: octets,
             lent: MARGIN..MARGIN + buffer.len(),
@@ -62,18 +62,18 @@ mod tests {
     #[test]
     fn every_octet_counts_on_and_around_the_buffer() {
         let mut generator = Generator::new(1);
-        let mut lent = Lent::new(b"abc", &mut generator);
-        assert_eq!(lent.difference(), None);
-        lent.ours()[2] = b'x';
-        let [theirs, ours] = lent.difference().unwrap();
+        let mut buffers = TwoBuffers::new(b"abc", &mut generator);
+        assert_eq!(buffers.difference(), None);
+        buffers.ours()[2] = b'x';
+        let [theirs, ours] = buffers.difference().unwrap();
         assert_eq!(theirs, "; 63 at 2 of the buffer");
         assert_eq!(ours, "; 78 at 2 of the buffer");
-        lent.theirs()[2] = b'x';
-        assert_eq!(lent.difference(), None);
+        buffers.theirs()[2] = b'x';
+        assert_eq!(buffers.difference(), None);
         let last = lent.theirs.len() - 1;
         for place in [0, last] {
             lent.theirs[place] ^= 1;
-            assert!(lent.difference().is_some());
+            assert!(buffers.difference().is_some());
             lent.theirs[place] ^= 1;
         }
     }
