@@ -70,11 +70,11 @@ mod tests {
         assert_eq!(ours, "; 78 at 2 of the buffer");
         buffers.theirs()[2] = b'x';
         assert_eq!(buffers.difference(), None);
-        let last = lent.theirs.len() - 1;
+        let last = buffers.theirs.len() - 1;
         for place in [0, last] {
-            lent.theirs[place] ^= 1;
+            buffers.theirs[place] ^= 1;
             assert!(buffers.difference().is_some());
-            lent.theirs[place] ^= 1;
+            buffers.theirs[place] ^= 1;
         }
     }
 

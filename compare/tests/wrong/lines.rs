@@ -1,8 +1,8 @@
 //! Writing and reading lines with one mistake.
 
 use compare::against::Other;
+use compare::buffer::put_at_front;
 use compare::calls::{Convert, Lines};
-use compare::lent::put_at_front;
 use compare::limits::{DATA_OCTETS, LINE_OCTETS};
 use compare::{read_line, write_line, Made, Refusal, Word};
 

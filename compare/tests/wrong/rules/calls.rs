@@ -1,6 +1,6 @@
 //! The two calls over the rule with its mistakes. Refusals are left to the right ones.
 
-use compare::lent::put_at_front;
+use compare::buffer::put_at_front;
 use compare::{Answer, Permitted, Word};
 
 use super::mistake::Mistake;
