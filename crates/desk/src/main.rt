@@ -2,7 +2,7 @@
 //
 // Proved: from the octets that were read, the line is that of desk_line's definition. Assumed, since no contract can speak of the outside:
 // open and read hand over what stands in the files, and write puts the line out.
-use desk_line::LINE_OCTETS;
+use desk_text::LINE_OCTETS;
 use libc::STDOUT_FILENO;
 use limits::MAX_BOOK_OCTETS;
 use limits::MAX_ISSUER_OCTETS;

@@ -1,5 +1,1 @@
-pub mod AnswerLines
-pub mod Decimals
-pub mod Texts
-pub mod Puts
-pub mod Answers
+pub mod DeskLines

@@ -15,14 +15,16 @@ use Rattle.rule.specs.RelevantSet.{CaaRecord}
 use Rattle.rule.specs.Authorizations.{grantee, consSome, grantees}
 use Rattle.issuers.specs.Narrowing.{joined}
 use Rattle.issuers.proofs.Narrowing.{joined-distinct}
-use Rattle.relevant.specs.declared.Walk.{Walk}
-use Rattle.relevant.specs.declared.Seen.{Seen as SeenAt}
-use Rattle.relevant.specs.declared.Step.{Step}
-use Rattle.relevant.specs.declared.Step.the-variants.{Seen, End}
-use Rattle.relevant.specs.Walks.{setOf, nextOwned, hasTag, tagOfData}
-use Rattle.relevant.proofs.WalkSteps.{remaining, whole-set}
-use Rattle.relevant.proofs.WalkLaws.{walk-ends, seen-there}
-use Rattle.relevant.proofs.SetWalk.{tells-tag, dataOf}
+use Rattle.record_walk.specs.declared.Walk.{Walk}
+use Rattle.record_walk.specs.declared.Seen.{Seen as SeenAt}
+use Rattle.record_walk.specs.declared.Step.{Step}
+use Rattle.record_walk.specs.declared.Step.the-variants.{Seen, End}
+use Rattle.relevant.specs.Places.{setOf, hasTag}
+use Rattle.record_walk.specs.Walks.{nextOwned}
+use Rattle.property_tests.specs.DataTests.{tagOfData}
+use Rattle.record_walk.proofs.WalkSteps.{remaining, whole-set}
+use Rattle.record_walk.proofs.WalkLaws.{walk-ends, seen-there, dataOf}
+use Rattle.property_tests.proofs.TestLaws.{tells-tag}
 use Rattle.issuers.specs.declared.Span.{Span}
 use Rattle.issuers.specs.declared.Names.{Names}
 use Rattle.issuers.specs.declared.GranteeRead.{GranteeRead}

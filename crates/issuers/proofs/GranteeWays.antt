@@ -21,12 +21,12 @@ use Rattle.property_reader.specs.declared.PropertyRead.{PropertyRead}
 use Rattle.property_reader.specs.declared.PropertyRead.the-variants.{Good, Fault}
 use Rattle.property_reader.proofs.PropertyPlaces.{property-there, no-property}
 use Rattle.value.specs.IssueValues.{issueValue}
-use Rattle.value.specs.Places.{valueAt}
-use Rattle.value.specs.declared.NameAt.{NameAt}
-use Rattle.value.specs.declared.ValueRead.{ValueRead}
-use Rattle.value.specs.declared.ValueRead.the-variants.{Malformed, Nameless, Named}
-use Rattle.value.proofs.ValueRead.{the-type}
-use Rattle.value.proofs.ValuePlaces.{read-malformed, read-nameless, read-named, name-from, name-to}
+use Rattle.value_reader.specs.Places.{valueAt}
+use Rattle.value_reader.specs.declared.NameAt.{NameAt}
+use Rattle.value_reader.specs.declared.ValueRead.{ValueRead}
+use Rattle.value_reader.specs.declared.ValueRead.the-variants.{Malformed, Nameless, Named}
+use Rattle.value_reader.proofs.ValueRead.{the-type}
+use Rattle.value_reader.proofs.ValuePlaces.{read-malformed, read-nameless, read-named, name-from, name-to}
 use Rattle.rule.specs.Authorizations.{holder, grantee}
 use Rattle.issuers.specs.declared.Span.{Span}
 use Rattle.issuers.specs.Places.{part, granteeOfData}

@@ -21,7 +21,7 @@ use Rattle.rule.specs.IssuerLists.{Issuers, anyone, listed, issuers}
 use Rattle.issuers.specs.Narrowing.{narrowed, narrowedBy}
 use Rattle.rule.specs.Calls.{authorizations}
 use Rattle.issuers.proofs.Narrowing.{narrowed-more, narrowed-end, narrowed-nobody, select-nothing}
-use Rattle.relevant.specs.Walks.{relevantAt}
+use Rattle.relevant.specs.Places.{relevantAt}
 use Rattle.relevant.proofs.ByPlace.{authorization-by-place}
 use Rattle.issuers.specs.declared.Span.{Span}
 use Rattle.issuers.specs.declared.Governing.{Governing}

@@ -13,7 +13,7 @@ use Rattle.issuers.specs.Narrowing.{narrowed}
 use Rattle.rule.proofs.DistinctLaws.{distinct-all}
 use Rattle.rule.proofs.GranteeLaws.{grantees-small}
 use Rattle.issuers.proofs.Narrowing.{narrowed-again}
-use Rattle.relevant.specs.Walks.{hasTag, setOf}
+use Rattle.relevant.specs.Places.{hasTag, setOf}
 use Rattle.issuers.specs.declared.Names.{Names}
 use Rattle.issuers.specs.declared.Governing.{Governing}
 use Rattle.issuers.specs.declared.SoFar.{SoFar}

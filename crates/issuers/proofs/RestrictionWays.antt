@@ -18,7 +18,7 @@ use Rattle.relevant.specs.declared.Found.{Found}
 use Rattle.relevant.specs.declared.Found.the-variants.{At, Nothing}
 use Rattle.relevant.specs.declared.Near.{Near}
 use Rattle.relevant.specs.declared.Near.the-variants.{At as NearAt, Nowhere}
-use Rattle.relevant.specs.Walks.{firstNumber, hasTag, nearestPlace, relevantAt}
+use Rattle.relevant.specs.Places.{firstNumber, hasTag, nearestPlace, relevantAt}
 use Rattle.relevant.proofs.DecidedLaws.{ungoverned, governed, near-label, setThere, decided-nowhere, decided-critical, decided-plain, decided-star, decided-issuewild}
 use Rattle.issuers.specs.declared.Span.{Span}
 use Rattle.issuers.specs.Places.{part, grantedBy}

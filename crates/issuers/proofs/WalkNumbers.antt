@@ -10,11 +10,12 @@ use Rattle.limits.specs.Limits.{maxRecords}
 use Rattle.octets.specs.Octets.{equalIgnoringCase}
 use Rattle.name.specs.Names.{wire}
 use Rattle.record.specs.Records.{Record, wireRecord, isCaa, resourceRecord}
-use Rattle.relevant.specs.declared.Walk.{Walk}
-use Rattle.relevant.specs.declared.Seen.{Seen as SeenAt}
-use Rattle.relevant.specs.declared.Step.{Step}
-use Rattle.relevant.specs.declared.Step.the-variants.{Seen}
-use Rattle.relevant.specs.Walks.{before, readable, nextAmong, nextOwned}
+use Rattle.record_walk.specs.declared.Walk.{Walk}
+use Rattle.record_walk.specs.declared.Seen.{Seen as SeenAt}
+use Rattle.record_walk.specs.declared.Step.{Step}
+use Rattle.record_walk.specs.declared.Step.the-variants.{Seen}
+use Rattle.relevant.specs.Places.{before, readable}
+use Rattle.record_walk.specs.Walks.{nextAmong, nextOwned}
 
 few-readable : (room : ℕ) (s : List ℕ) → length (readable room s) ≤ room
 few-readable zero s = omega arith

@@ -1,15 +1,15 @@
 // Who may sign? The call that lists the permitted issuers.
 use limits::MAX_RECORDS;
 use property_reader::PropertyRead;
+use record_walk::Step;
+use record_walk::Walk;
 use refusal::Check;
 use refusal::Refusal;
 use relevant::Found;
 use relevant::Near;
-use relevant::Step;
-use relevant::Walk;
 use request_reader::RequestedRead;
 use rule::PermittedIssuers;
-use value::ValueRead;
+use value_reader::ValueRead;
 ghost use mathlib.Core.Path.{_≡_};
 ghost use mathlib.Core.List.{List, [], _∷_};
 ghost use mathlib.Core.Option.{none};
@@ -24,7 +24,7 @@ ghost use Rattle.record.specs.Records.{bookRefusal};
 ghost use Rattle.rule.specs.Authorizations.{decided};
 ghost use Rattle.rule.specs.IssuerLists.{issuers, entry, entries};
 ghost use Rattle.rule.specs.Calls.{authorizations, listIssuers};
-ghost use Rattle.relevant.specs.Walks.{relevantAt};
+ghost use Rattle.relevant.specs.Places.{relevantAt};
 ghost use Rattle.issuers.specs.Places.{part, namesIn, pushed, granteeAt, granteeOfData, grantedBy, restrictedTo, issuersIn, Sound, NarrowedBy};
 
 // A text in a slice: where it begins and ends.
@@ -152,7 +152,7 @@ fn grantee(book: &[u8], rdata: Span) -> GranteeRead
         return GranteeRead::Nobody;
     };
     let v = property_reader::value_part(d);
-    let ValueRead::Named(n) = value::read_value(v) else {
+    let ValueRead::Named(n) = value_reader::read_value(v) else {
         return GranteeRead::Nobody;
     };
     let from = n.from;
@@ -186,7 +186,7 @@ fn granted_by(book: &[u8], owner: &[u8], wild: bool) -> Names
         let from = c.rdata;
         let behind = c.walk;
         let to = behind.at;
-        if relevant::has_tag(&book[from..to], wild) {
+        if property_tests::has_tag(&book[from..to], wild) {
             if let GranteeRead::At(at) = grantee(book, Span { from, to }) {
                 if !holds(book, names, part(book, at)) {
                     names = push(names, at);
@@ -216,11 +216,11 @@ fn restriction_of(request: &[u8], book: &[u8], name: Span, wildcard: bool) -> Re
     ensures { λ r. ⌜ restrictedTo (now (request .entry)) (now (book .entry)) r ≡ issuers (decided wildcard (relevantAt (now (book .entry)) (part (now (request .entry)) name)) ∷ []) ⌝ }
 {
     let x = part(request, name);
-    let Near::At(at) = relevant::nearest(book, x) else {
+    let Near::At(at) = nearest_owner::nearest(book, x) else {
         return Restriction::Open;
     };
     let owner = &x[at..];
-    if let Found::At(_) = relevant::first_unknown_critical(book, owner) {
+    if let Found::At(_) = critical_records::first_unknown_critical(book, owner) {
         return Restriction::Forbidden;
     }
     let place = Span {
@@ -228,14 +228,14 @@ fn restriction_of(request: &[u8], book: &[u8], name: Span, wildcard: bool) -> Re
         to: name.to,
     };
     if wildcard {
-        if let Found::At(_) = relevant::first_with_tag(book, owner, true) {
+        if let Found::At(_) = issue_records::first_with_tag(book, owner, true) {
             return Restriction::Governed(Governing {
                 owner: place,
                 wild: true,
             });
         }
     }
-    let Found::At(_) = relevant::first_with_tag(book, owner, false) else {
+    let Found::At(_) = issue_records::first_with_tag(book, owner, false) else {
         return Restriction::Open;
     };
     Restriction::Governed(Governing {

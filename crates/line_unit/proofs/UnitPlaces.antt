@@ -12,12 +12,12 @@ use borrow.Author.Tests.{le-leb, lt-leb, ne-eqb}
 use Rattle.octets.specs.Octets.{isDigit}
 use Rattle.octets.specs.Decimal.{decimalFrom, decimalOctet}
 use Rattle.octets.proofs.Walks.{drop-step}
-use Rattle.presentation.specs.declared.OctetRead.{OctetRead}
-use Rattle.presentation.specs.declared.OctetRead.the-variants.{Good as GoodOctet, Fault as NoOctet}
 use Rattle.presentation.specs.Written.{backslash}
 use Rattle.presentation.specs.Read.{Unit, numbered, valueOf, threeMore, isInQuotes, isBare}
-use Rattle.presentation.specs.Places.{decimalIn}
-use Rattle.presentation.proofs.DecimalWalk.{octet-there, octet-missing}
+use Rattle.decimal_text.specs.declared.OctetRead.{OctetRead}
+use Rattle.decimal_text.specs.declared.OctetRead.the-variants.{Good as GoodOctet, Fault as NoOctet}
+use Rattle.decimal_text.specs.Places.{decimalIn}
+use Rattle.decimal_text.proofs.DecimalWalk.{octet-there, octet-missing}
 use Rattle.line_unit.specs.declared.Style.{Style}
 use Rattle.line_unit.specs.declared.UnitRead.{UnitRead}
 use Rattle.line_unit.specs.declared.UnitRead.the-variants.{Good, Fault}

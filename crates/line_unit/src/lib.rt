@@ -1,5 +1,5 @@
 // What stands for one octet of a value in a line: the octet itself, a backslash and an octet, or a backslash and three digits.
-use presentation::OctetRead;
+use decimal_text::OctetRead;
 ghost use mathlib.Core.Path.{_≡_};
 ghost use Rattle.presentation.specs.Read.{isInQuotes, isBare};
 ghost use Rattle.line_unit.specs.Places.{plainIn, escapeAt, unitAt};
@@ -77,7 +77,7 @@ fn read_escape(s: &[u8], at: usize) -> UnitRead
             return UnitRead::Fault;
         }
         let next: usize = at + 3;
-        let OctetRead::Good(octet) = presentation::decimal_octet(&s[at..next]) else {
+        let OctetRead::Good(octet) = decimal_text::decimal_octet(&s[at..next]) else {
             return UnitRead::Fault;
         };
         return UnitRead::Good(UnitAt { octet, next });

@@ -1,5 +1,1 @@
-pub mod ValueLoops
-pub mod EscapedOctets
-pub mod LineParts
-pub mod Measures
 pub mod WriteWays

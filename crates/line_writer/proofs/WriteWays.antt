@@ -1,17 +1,16 @@
 -- The ways out of write_line: what writeLine is at each, from what the code has found.
 use Prim.Native.Nat.{ℕ, _≤_, _<_}
 use native.Mathlib.Omega.{arith}
-use mathlib.Core.Path.{_≡_, refl, ap, _∙_}
+use mathlib.Core.Path.{_≡_, refl, sym, ap, _∙_}
 use mathlib.Core.Bool.{Bool, true, false}
 use mathlib.Core.List.{List}
 use mathlib.Core.Option.{Option, none, some}
 use lib.ListN.{length, length-append}
 use borrow.Author.Tests.{le-leb, lt-leb}
 use Rattle.limits.specs.Limits.{maxDataOctets}
-use Rattle.refusal.specs.declared.Refusal.the-variants.{NoRoom, LineTooLong, BadData}
+use Rattle.refusal.specs.declared.Refusal.the-variants.{LineTooLong, BadData}
 use Rattle.octets.specs.Lists.{all}
 use Rattle.octets.specs.Octets.{isLetterOrDigit}
-use Rattle.buffer.specs.Buffer.{Put}
 use Rattle.property_reader.specs.Places.{propertyAt, tagIn, valueIn, tagPart, valuePart}
 use Rattle.record.specs.Property.{Property, property}
 use Rattle.property_reader.specs.declared.PropertyAt.{PropertyAt}
@@ -19,10 +18,10 @@ use Rattle.property_reader.specs.declared.PropertyRead.{PropertyRead}
 use Rattle.property_reader.specs.declared.PropertyRead.the-variants.{Good, Fault}
 use Rattle.record.proofs.PropertyLaws.{property-is-its-parts}
 use Rattle.property_reader.proofs.PropertyPlaces.{PropertyTo, property-there, no-property}
-use Rattle.presentation.specs.declared.Made.the-variants.{Length}
+use Rattle.presentation.specs.declared.Made.{Made}
 use Rattle.presentation.specs.Calls.{refused, placed, writeLine}
-use Rattle.presentation.proofs.Placed.{placed-there, placed-nowhere}
-use Rattle.line_writer.specs.Places.{lineOf}
+use Rattle.property_line.specs.Places.{lineOf, writeProperty}
+use Rattle.property_line.proofs.PropertyWays.{property-placed}
 
 module _ (d b : List ℕ) where
   pub data-too-long : 4096 < length d → writeLine d b ≡ refused LineTooLong b
@@ -38,11 +37,11 @@ module _ (d b : List ℕ) where
         let long = length-append (q .tag) (q .value) in
         (omega (arith, ap length whole), omega (arith, ap length whole))
 
-    pub tag-short : (t : List ℕ) → t ≡ tagPart d → length t ≤ maxDataOctets
+    tag-short : (t : List ℕ) → t ≡ tagPart d → length t ≤ maxDataOctets
     unfolding tagPart maxDataOctets
     tag-short t e = rw e (parts-short (property d) refl .0)
 
-    pub value-short : (v : List ℕ) → v ≡ valuePart d → length v ≤ maxDataOctets
+    value-short : (v : List ℕ) → v ≡ valuePart d → length v ≤ maxDataOctets
     unfolding valuePart maxDataOctets
     value-short v e = rw e (parts-short (property d) refl .1)
 
@@ -70,9 +69,11 @@ module _ (d b : List ℕ) where
                   let rest : v ≡ q .value = value ∙ rw (k .found) in
                   rw (le-leb (length d) 4096 fits, k .found, ← same, ← plain, h, k .flags, rest)
 
-          module _ (n : ℕ) (m : n ≡ length (lineOf (p .flags) t v)) where
-            pub no-room : length b < n → writeLine d b ≡ refused (NoRoom n) b
-            no-room l = is-placed ∙ placed-nowhere (lineOf (p .flags) t v) b n m l
+          is-passed : writeLine d b ≡ writeProperty (p .flags) t v b
+          is-passed = is-placed ∙ sym (property-placed (p .flags) t v b (tag-short t tag) (value-short v value))
 
-            pub line-stands : (x : List ℕ) (k : ℕ) → n ≤ length b → Put (lineOf (p .flags) t v) b x k → writeLine d b ≡ record { answer = Length n; buffer = x }
-            line-stands x k l q = is-placed ∙ placed-there (lineOf (p .flags) t v) b x n k m l q
+          pub passed-answer : (m : Made) → m ≡ writeProperty (p .flags) t v b .answer → m ≡ writeLine d b .answer
+          passed-answer m e = rw is-passed e
+
+          pub passed-octets : (x : List ℕ) → x ≡ writeProperty (p .flags) t v b .buffer → x ≡ writeLine d b .buffer
+          passed-octets x e = rw is-passed e

@@ -17,6 +17,8 @@ pub mod SelectedLists
 pub mod Tests
 pub mod Walks
 pub mod Decimals
+pub mod WrittenDecimals
 pub mod Runs
 pub mod ItemWalk
+pub mod ItemRoom
 pub mod ReadAt

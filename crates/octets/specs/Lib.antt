@@ -5,5 +5,6 @@ pub mod Pieces
 pub mod Reader
 pub mod Items
 pub mod Decimal
+pub mod WrittenDecimal
 pub mod Grammar
 pub mod Theorems

@@ -16,6 +16,7 @@ use Rattle.octets.specs.Pieces.{split, join}
 use Rattle.octets.specs.Reader.{Reader, valueFrom, number, inOctets}
 use Rattle.octets.specs.Items.{Items, whole, broken, over, wholeItems, itemFault, items, BrokenAt, Beyond}
 use Rattle.octets.specs.Decimal.{decimalFrom, decimalOctet}
+use Rattle.octets.specs.WrittenDecimal.{decimal}
 use Rattle.octets.specs.Grammar.{label}
 
 -- octets are the numbers below 256, all of them: any slice of octets is such a list
@@ -99,6 +100,13 @@ Decimal-octets =
     (s : List ℕ) (n : ℕ) →
     (decimalOctet s ≡ some n)
     ↔ ((1 ≤ length s) × (length s ≤ 3) × All (λ x. isDigit x ≡ true) s × (decimalFrom 0 s ≡ n) × (n ≤ 255))
+
+-- a decimal is digits that say the number, and begins with a zero only where that is all of it
+abbrev pub Decimals : Type 0
+Decimals =
+    (n : ℕ) →
+    (decimal n ≢ []) × All (λ x. isDigit x ≡ true) (decimal n) × (decimalFrom 0 (decimal n) ≡ n)
+    × ((s : List ℕ) → decimal n ≡ code "0" ∷ s → s ≡ [])
 
 -- the items if they are whole; else the fault, with the place of a broken one
 abbrev pub Item-faults : Type 1

@@ -1,8 +1,4 @@
-pub mod DecimalPieces
 pub mod Placed
-pub mod RunEnds
-pub mod DecimalWalk
-pub mod FieldPlaces
 pub mod Units
 pub mod Fields
 pub mod LineValues

@@ -1,6 +1,5 @@
 pub mod Written
 pub mod Read
 pub mod Calls
-pub mod Places
 pub mod Grammar
 pub mod Theorems

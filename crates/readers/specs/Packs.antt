@@ -12,8 +12,8 @@ use Rattle.record.specs.declared.PropertyTag.{PropertyTag}
 use Rattle.record.specs.declared.PropertyTag.the-variants.{Issue, IssueWild, Iodef, Unknown}
 use Rattle.record_reader.specs.declared.RecordRead.{RecordRead}
 use Rattle.record_reader.specs.declared.RecordRead.the-variants.{Good as GoodRecord, Fault as RecordFault}
-use Rattle.value.specs.declared.ValueRead.{ValueRead}
-use Rattle.value.specs.declared.ValueRead.the-variants.{Malformed, Nameless, Named}
+use Rattle.value_reader.specs.declared.ValueRead.{ValueRead}
+use Rattle.value_reader.specs.declared.ValueRead.the-variants.{Malformed, Nameless, Named}
 
 abbrev pub packedBool : Bool → ℕ
 packedBool true = 1

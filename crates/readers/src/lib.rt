@@ -5,7 +5,7 @@ use property_reader::PropertyRead;
 use record::PropertyTag;
 use record_reader::RecordRead;
 use request_reader::RequestedRead;
-use value::ValueRead;
+use value_reader::ValueRead;
 ghost use mathlib.Core.Path.{_≡_};
 ghost use Rattle.refusal.specs.Checks.{checked};
 ghost use Rattle.packed.specs.Packed.{packedCheck};
@@ -18,7 +18,7 @@ ghost use Rattle.record.specs.Property.{tagOf};
 ghost use Rattle.record.specs.Records.{bookRefusal};
 ghost use Rattle.property_reader.specs.Places.{propertyAt};
 ghost use Rattle.record_reader.specs.Places.{recordAt};
-ghost use Rattle.value.specs.Places.{valueAt};
+ghost use Rattle.value_reader.specs.Places.{valueAt};
 ghost use Rattle.readers.specs.Packs.{packedBool, packedEnd, packedRequested, packedProperty, packedTag, packedRecord, packedValue};
 
 #[no_mangle]
@@ -118,7 +118,7 @@ pub extern "C" fn readers_record(s: &[u8], at: usize) -> u64
 pub extern "C" fn readers_value(v: &[u8]) -> u64
     ensures { λ r. ⌜ r ≡ packedValue (valueAt (now (v .entry))) ⌝ }
 {
-    match value::read_value(v) {
+    match value_reader::read_value(v) {
         ValueRead::Malformed => 0,
         ValueRead::Nameless => 1,
         ValueRead::Named(n) => packed::pack(2, n.to as u64, n.from as u64, 0),

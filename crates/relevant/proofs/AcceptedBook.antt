@@ -22,7 +22,7 @@ use Rattle.record.specs.Property.{Property, property}
 use Rattle.record.specs.Records.{Record, isCaa, resourceRecord, recordItems, recordRefusal, records, bookRefusal}
 use Rattle.record_reader.proofs.RecordFields.{fields-read}
 use Rattle.rule.specs.RelevantSet.{CaaRecord, withProperty, caaRecordsFrom, caaRecords}
-use Rattle.relevant.specs.Walks.{before, readable}
+use Rattle.relevant.specs.Places.{before, readable}
 
 -- a record that is read begins with its owner, whatever the octets
 owner-first :

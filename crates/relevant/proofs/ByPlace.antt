@@ -23,7 +23,7 @@ use Rattle.rule.specs.RelevantSet.{CaaRecord, caaRecords, Lookup, asLookup, loo
 use Rattle.rule.specs.Authorizations.{decided, authorization}
 use Rattle.relevant.specs.declared.Near.{Near}
 use Rattle.relevant.specs.declared.Near.the-variants.{At}
-use Rattle.relevant.specs.Walks.{readable, owned, setOf, nearestFrom, nearestPlace, foundAt, relevantAt}
+use Rattle.relevant.specs.Places.{readable, owned, setOf, nearestFrom, nearestPlace, foundAt, relevantAt}
 use Rattle.relevant.specs.Theorems.{Relevant-set-by-place}
 use Rattle.relevant.proofs.AcceptedBook.{accepted-readable, GoodCaaOwners, good-owners}
 

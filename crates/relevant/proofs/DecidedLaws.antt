@@ -1,24 +1,24 @@
 -- What the searches of a name's relevant set found says of that name: the set, its unknown critical records, and those that govern.
 use Prim.Native.Nat.{ℕ, zero, suc, _≤_, _<_, _-_}
 use native.Mathlib.Omega.{arith}
-use mathlib.Core.Path.{_≡_, refl, sym, _∙_}
+use mathlib.Core.Path.{_≡_, refl, sym, ap, _∙_}
 use mathlib.Core.Bool.{Bool, true, false, cond}
 use mathlib.Core.List.{List, [], _∷_}
 use lib.Dec.{eqb}
 use lib.ListN.{length, take, drop, length-drop}
 use lib.Seq.{take-all}
 use borrow.Author.Tests.{eqb-false}
+use Rattle.refusal.specs.declared.RecordNo.{RecordNo}
 use Rattle.octets.specs.Lists.{select, isEmpty}
 use Rattle.name_reader.specs.Places.{parentPlace}
-use Rattle.refusal.specs.declared.RecordNo.{RecordNo}
 use Rattle.rule.specs.RelevantSet.{CaaRecord, found}
 use Rattle.rule.specs.Authorizations.{Authorization, unrestricted, forbidden, granted, isUnknownCritical, isIssue, isIssueWild, orElse, governing, grantees, governedBy, unlessForbidden, decided}
 use Rattle.relevant.specs.declared.Found.{Found}
 use Rattle.relevant.specs.declared.Found.the-variants.{At, Nothing}
 use Rattle.relevant.specs.declared.Near.{Near}
 use Rattle.relevant.specs.declared.Near.the-variants.{At as NearAt, Nowhere}
-use Rattle.relevant.specs.Walks.{setOf, firstNumber, hasTag, nearestFrom, nearestPlace, relevantAt}
-use Rattle.relevant.proofs.ClimbLaws.{closer}
+use Rattle.relevant.specs.Places.{setOf, firstNumber, hasTag, nearestFrom, nearestPlace, relevantAt}
+use Rattle.relevant.proofs.ParentBounds.{closer}
 
 none-first : (cs : List CaaRecord) → firstNumber cs ≡ Nothing → cs ≡ []
 none-first [] e = refl
@@ -39,6 +39,21 @@ ungoverned gs e = rw (none-first gs e)
 pub governed : (gs : List CaaRecord) (r : RecordNo) → firstNumber gs ≡ At r → governedBy gs ≡ granted (r .0) (grantees gs)
 governed [] r e = let z : _≡_ {A = ℕ} 0 1 = cc in absurd (omega arith)
 governed (g ∷ gs) r e = cc
+
+-- for X the issue records govern; for *.X these only where there is no issuewild record
+module _ {wildcard : Bool} (rs : List CaaRecord) where
+  pub governing-plain : wildcard ≡ false → governing wildcard rs ≡ select isIssue rs
+  unfolding governing
+  governing-plain w = rw w
+
+  module _ (w : wildcard ≡ true) (t : Found) (d : t ≡ firstNumber (select (hasTag true) rs)) where
+    pub governing-star : t ≡ Nothing → governing wildcard rs ≡ select isIssue rs
+    unfolding governing
+    governing-star h = rw (w, none-first (select isIssueWild rs) (sym d ∙ h))
+
+    pub governing-issuewild : (r : RecordNo) → t ≡ At r → governing wildcard rs ≡ select (hasTag true) rs
+    unfolding governing
+    governing-issuewild r h = rw (w, or-first (select isIssueWild rs) (select isIssue rs) r (sym d ∙ h))
 
 -- where the search ends, a label begins
 module _ (book s : List ℕ) where
@@ -81,19 +96,15 @@ module _ (book s : List ℕ) (o : Near) (f : o ≡ nearestPlace book s) where
       decided-critical wildcard r h = rw found-there (critical (select isUnknownCritical setThere) _ r (sym e ∙ h))
 
       module _ (none : u ≡ Nothing) where
-        by-governing : (wildcard : Bool) → decided wildcard (relevantAt book s) ≡ governedBy (governing wildcard setThere)
+        pub by-governing : (wildcard : Bool) → decided wildcard (relevantAt book s) ≡ governedBy (governing wildcard setThere)
         by-governing wildcard = rw (found-there, none-first (select isUnknownCritical setThere) (sym e ∙ none))
 
-        -- for X the issue records govern; for *.X these only where there is no issuewild record
         pub decided-plain : {wildcard : Bool} → wildcard ≡ false → decided wildcard (relevantAt book s) ≡ governedBy (select isIssue setThere)
-        unfolding governing
-        decided-plain w = rw w (by-governing false)
+        decided-plain w = by-governing _ ∙ ap governedBy (governing-plain setThere w)
 
         module _ {wildcard : Bool} (w : wildcard ≡ true) (t : Found) (d : t ≡ firstNumber (select (hasTag true) setThere)) where
           pub decided-star : t ≡ Nothing → decided wildcard (relevantAt book s) ≡ governedBy (select isIssue setThere)
-          unfolding governing
-          decided-star h = rw w (by-governing true ∙ rw (none-first (select isIssueWild setThere) (sym d ∙ h)))
+          decided-star h = by-governing _ ∙ ap governedBy (governing-star setThere w t d h)
 
           pub decided-issuewild : (r : RecordNo) → t ≡ At r → decided wildcard (relevantAt book s) ≡ governedBy (select (hasTag true) setThere)
-          unfolding governing
-          decided-issuewild r h = rw w (by-governing true ∙ rw (or-first (select isIssueWild setThere) (select isIssue setThere) r (sym d ∙ h)))
+          decided-issuewild r h = by-governing _ ∙ ap governedBy (governing-issuewild setThere w t d r h)

@@ -1,13 +1,5 @@
-pub mod WalkSteps
-pub mod WalkLaws
-pub mod NextWays
-pub mod DataTests
-pub mod GrantTests
-pub mod SetWalk
-pub mod GrantWalk
-pub mod CriticalWalk
-pub mod EndWalk
-pub mod ClimbLaws
+pub mod Tells
+pub mod ParentBounds
 pub mod AcceptedBook
 pub mod DecidedLaws
 pub mod ByPlace

@@ -7,7 +7,7 @@ use Rattle.name.specs.Names.{Name, wire}
 use Rattle.name.specs.Theorems.{GoodName}
 use Rattle.record.specs.Records.{records, bookRefusal}
 use Rattle.rule.specs.RelevantSet.{caaRecords, relevantSet}
-use Rattle.relevant.specs.Walks.{relevantAt}
+use Rattle.relevant.specs.Places.{relevantAt}
 
 -- searching an accepted book by place, from the wire form of a name, finds the relevant set of that name
 abbrev pub Relevant-set-by-place : Type 0

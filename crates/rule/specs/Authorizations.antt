@@ -58,7 +58,7 @@ abbrev pub orElse : List CaaRecord → List CaaRecord → List CaaRecord
 orElse [] others = others
 orElse (r ∷ rs) others = r ∷ rs
 
--- RFC 8659 section 4.3: for X the issue records; for *.X the issuewild records if there are any, else the issue records
+-- RFC 8659 section 4.3 (the requirements' "governing records"): for X the issue records; for *.X the issuewild records if there are any, else the issue records
 unfoldable pub governing : Bool → List CaaRecord → List CaaRecord
 governing wildcard rs = cond wildcard (orElse (select isIssueWild rs) (select isIssue rs)) (select isIssue rs)
 

@@ -1,35 +1,13 @@
--- What the call that lists the permitted issuers answers: packed by the code, and found again by unpacking.
-use Prim.Native.Nat.{ℕ, _^_, _≤_, _<_}
-use native.Mathlib.Omega.{arith}
-use mathlib.Core.Path.{_≡_, refl}
-use mathlib.Core.Bool.{Bool, true, false, cond}
-use mathlib.Core.List.{List, [], _∷_}
-use mathlib.Core.Option.{Option, none, some}
-use lib.Dec.{leb}
-use lib.ListN.{length}
-use Rattle.limits.specs.Limits.{maxBookOctets}
+-- Each case of what the call that lists the permitted issuers answers, packed.
+use Prim.Native.Nat.{ℕ}
+use mathlib.Core.Path.{_≡_}
 use Rattle.refusal.specs.declared.Refusal.{Refusal}
-use Rattle.refusal.specs.declared.Refusal.the-variants.{NoRoom}
-use Rattle.refusal.specs.Refusal.{place}
-use Rattle.octets.specs.Octets.{Octets}
-use Rattle.request.specs.Request.{requestRefusal}
-use Rattle.record.specs.Records.{bookRefusal, records}
-use Rattle.record.proofs.Book.{book-is-its-records}
-use Rattle.packed.proofs.Unpacking.{number-small}
 use Rattle.packed.specs.Packed.{packed, packedRefusal}
 use Rattle.rule.specs.declared.PermittedIssuers.{PermittedIssuers}
 use Rattle.rule.specs.declared.PermittedIssuers.the-variants.{Anyone, Listed, Refused}
-use Rattle.rule.specs.IssuerLists.{Issuers, anyone, listed, issuers, entries}
-use Rattle.rule.specs.Calls.{refusalTold, authorizations, firstRefusal, written, unlessRefused, listIssuers, permittedIssuersTold}
-use Rattle.rule.specs.Theorems.{total}
-use Rattle.rule.proofs.BufferLaws.{entries-length}
-use Rattle.rule.proofs.Room.{room-of-the-book}
-use Rattle.splinepearl.specs.ListAnswers.{packedIssuers}
-use Rattle.splinepearl.specs.Theorems.{Unpacked, List-unpacks}
-use Rattle.splinepearl.proofs.JudgementUnpacks.{told-unpacks}
-use Rattle.splinepearl.proofs.RefusalPlaces.{request-fits, book-fits}
+use Rattle.rule.specs.Calls.{permittedIssuersTold}
+use Rattle.answers.specs.ListAnswers.{packedIssuers}
 
--- Each case, packed.
 module _ (x j : PermittedIssuers) (is : x ≡ j) (r : ℕ) where
   pub anyone-packed : r ≡ packed 30 0 0 0 → x ≡ Anyone → r ≡ packedIssuers j
   unfolding packedIssuers permittedIssuersTold
@@ -42,47 +20,3 @@ module _ (x j : PermittedIssuers) (is : x ≡ j) (r : ℕ) where
   pub list-refusal-packed : (q : Refusal) → r ≡ packedRefusal q → x ≡ Refused q → r ≡ packedIssuers j
   unfolding packedIssuers permittedIssuersTold packedRefusal
   list-refusal-packed q p e = rw (← is, e) p
-
--- Each number fits its field: a list is no longer than the book.
-abbrev ListFits : PermittedIssuers → Type 0
-ListFits Anyone = Unit {0}
-ListFits (Listed count octets) = (octets < 2 ^ 24) × (count < 2 ^ 16)
-ListFits (Refused r) = place r < 2 ^ 24
-
-count-less : (ns : List (List ℕ)) → length ns ≤ total ns
-count-less [] = omega arith
-count-less (n ∷ ns) = omega (arith, count-less ns)
-
-module _ (request book buffer : List ℕ) (octets : Octets book) where
-  list-small : bookRefusal book ≡ none → (ns : List (List ℕ)) → issuers (authorizations request book) ≡ listed ns →
-      (length (entries ns) < 2 ^ 24) × (length ns < 2 ^ 16)
-  unfolding maxBookOctets
-  list-small f ns g =
-      let (whole, good, few, short) = book-is-its-records book octets (records book) .0 (f, refl) in (
-        omega (arith, entries-length ns, room-of-the-book request book octets f ns g),
-        omega (arith, count-less ns, room-of-the-book request book octets f ns g),
-      )
-
-  fits : (c d : Option Refusal) → requestRefusal request ≡ c → bookRefusal book ≡ d → (i : Issuers) →
-      issuers (authorizations request book) ≡ i → ListFits (listIssuers request book buffer .answer)
-  unfolding listIssuers place
-  fits (some r) d e f i g = rw e (rw e at (request-fits request))
-  fits none (some r) e f i g = rw (e, f) (rw f at (book-fits book))
-  fits none none e f anyone g = rw (e, f, g) tt
-  fits none none e f (listed ns) g = rw (e, f, g) (by (leb (length (entries ns)) (length buffer)) (list-small f ns g))
-    where
-      by : (t : Bool) → (length (entries ns) < 2 ^ 24) × (length ns < 2 ^ 16) →
-          ListFits (unlessRefused (firstRefusal (none ∷ none ∷ cond t none (some (NoRoom (length (entries ns)))) ∷ [])) (written (listed ns) buffer) buffer .answer)
-      by true h = h
-      by false h = h .0
-
-fitting-unpacks : (x : PermittedIssuers) → ListFits x → Unpacked (packedIssuers x) (permittedIssuersTold x)
-unfolding packedIssuers permittedIssuersTold
-fitting-unpacks Anyone h = told-unpacks (permittedIssuersTold Anyone) (omega arith) (omega arith) (omega arith)
-fitting-unpacks (Listed count octets) h = told-unpacks (permittedIssuersTold (Listed count octets)) (omega arith) (h .0) (h .1)
-fitting-unpacks (Refused r) h = told-unpacks (refusalTold r) (number-small r) h (omega arith)
-
-pub list-unpacks : List-unpacks
-list-unpacks request book buffer octets =
-    fitting-unpacks (listIssuers request book buffer .answer)
-    (fits request book buffer octets (requestRefusal request) (bookRefusal book) refl refl (issuers (authorizations request book)) refl)

@@ -7,7 +7,7 @@ use Rattle.rule.specs.declared.Denial.{Denial}
 use Rattle.rule.specs.declared.Judgement.{Judgement}
 use Rattle.rule.specs.declared.Judgement.the-variants.{Permitted, UnknownCritical, NotGranted, Refused}
 use Rattle.rule.specs.Calls.{judgementTold}
-use Rattle.splinepearl.specs.Answers.{packedJudgement}
+use Rattle.answers.specs.Answers.{packedJudgement}
 
 module _ (x j : Judgement) (is : x ≡ j) where
   pub permitted-packed : x ≡ Permitted → 0 ≡ packedJudgement j

@@ -5,9 +5,9 @@ use rule::PermittedIssuers;
 ghost use mathlib.Core.Path.{_≡_};
 ghost use Rattle.presentation.specs.Calls.{writeLine, parseLine};
 ghost use Rattle.rule.specs.Calls.{judge, listIssuers};
-ghost use Rattle.splinepearl.specs.Answers.{packedJudgement};
-ghost use Rattle.splinepearl.specs.ListAnswers.{packedIssuers};
-ghost use Rattle.splinepearl.specs.LineAnswers.{packedMade};
+ghost use Rattle.answers.specs.Answers.{packedJudgement};
+ghost use Rattle.answers.specs.ListAnswers.{packedIssuers};
+ghost use Rattle.answers.specs.LineAnswers.{packedMade};
 
 // May this issuer sign? 0 permitted; 20 and 21 with the name's number in a and the record's in b; a refusal with its place in a.
 #[no_mangle]

@@ -1,17 +1,11 @@
 -- The pieces of a text where its first piece is known.
-use Prim.Native.Nat.{ℕ, _+_, _-_, _≤_, _<_}
-use native.Mathlib.Nat.{sub-zero}
-use native.Mathlib.Omega.{arith}
+use Prim.Native.Nat.{ℕ}
 use mathlib.Core.Path.{_≡_, refl, ap, _∙_, sym}
 use mathlib.Core.Logic.{_≢_}
 use mathlib.Core.List.{List, [], _∷_, _++_, cons≢nil}
-use lib.ListN.{length, take, drop, length-drop}
-use lib.Seq.{take-all}
 use Rattle.octets.specs.Lists.{all-nil, all-cons}
 use Rattle.octets.specs.Pieces.{split, join}
-use Rattle.text.specs.Places.{pieceEnd}
 use Rattle.octets.proofs.PieceLaws.{pieces-join}
-use Rattle.text.proofs.PieceWalk.{pieces-more, pieces-last}
 use Rattle.value.proofs.Classes.{Free}
 
 pub join-more : (c : ℕ) (p : List ℕ) (ps : List (List ℕ)) → ps ≢ [] → join c (p ∷ ps) ≡ p ++ (c ∷ join c ps)
@@ -26,17 +20,3 @@ split-more c {p} h s =
     let k = pieces-join c s (split c s) .0 refl in
     pieces-join c (p ++ (c ∷ s)) (p ∷ split c s) .1
     (ap (λ (l : List ℕ). p ++ (c ∷ l)) (k .0) ∙ sym (join-more c p (split c s) (k .1)), cons≢nil, all-cons h (k .2))
-
--- Cut at a place.
-
--- `&s[n..]` is what is left of s from n on
-pub rest-whole : {A : Type 0} (s : List A) (n : ℕ) → take (length s - n) (drop n s) ≡ drop n s
-rest-whole s n = take-all (length s - n) (drop n s) (omega (arith, length-drop n s))
-
--- e is where the first piece ends
-module _ (c : ℕ) (s : List ℕ) (e : ℕ) (cut : e ≡ pieceEnd c s 0) where
-  pub cut-last : length s ≤ e → split c s ≡ take e s ∷ []
-  cut-last h = rw sub-zero at (pieces-last c s 0 e cut h)
-
-  pub cut-more : e < length s → split c s ≡ take e s ∷ split c (drop (e + 1) s)
-  cut-more h = rw sub-zero at (pieces-more c s 0 e cut (e + 1) h refl)

@@ -1,12 +1,7 @@
 pub mod Classes
 pub mod Blanks
 pub mod Cuts
-pub mod TrimWalk
 pub mod DomainNames
 pub mod Parameters
-pub mod ParameterTests
 pub mod ParameterParts
 pub mod Values
-pub mod NamePlaces
-pub mod ValueTests
-pub mod ValuePlaces

@@ -1,4 +1,3 @@
 pub mod IssueValues
 pub mod Productions
-pub mod Places
 pub mod Theorems

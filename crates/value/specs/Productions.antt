@@ -1,4 +1,4 @@
--- RFC 8659 section 4.2 as its productions, in the RFC's order; the parameter tag as the requirements have it.
+-- RFC 8659 section 4.2 as its productions, each behind those that it is made of; the parameter tag as the requirements have it.
 use Prim.Native.Nat.{ℕ}
 use Prim.Native.Char.{code}
 use mathlib.Core.Path.{_≡_}

@@ -35,9 +35,10 @@ use Rattle.rule.specs.Authorizations.{Authorization, unrestricted, forbidden, g
 use Rattle.rule.specs.Verdicts.{denied, verdictFrom, verdict}
 use Rattle.rule.specs.Calls.{authorizations, judge}
 use Rattle.relevant.proofs.ByPlace.{authorization-by-place}
-use Rattle.verdict.specs.declared.NameVerdict.{NameVerdict}
-use Rattle.verdict.specs.declared.NameVerdict.the-variants.{Permitted as Passed, UnknownCritical as Critical, NotGranted as Ungranted}
-use Rattle.verdict.specs.Places.{verdictOf, nameVerdict}
+use Rattle.name_verdict.specs.declared.NameVerdict.{NameVerdict}
+use Rattle.name_verdict.specs.declared.NameVerdict.the-variants.{Permitted as Passed, UnknownCritical as Critical, NotGranted as Ungranted}
+use Rattle.name_verdict.specs.NameVerdicts.{verdictOf}
+use Rattle.verdict.specs.Places.{nameVerdict}
 
 -- the judgement after one name, where j is that of the names behind it
 abbrev onward : ℕ → Judgement → NameVerdict → Judgement

@@ -1,23 +1,15 @@
 -- The verdict on one requested name by place, made of the rule's definitions.
 use Prim.Native.Nat.{ℕ}
 use mathlib.Core.Path.{_≡_}
-use mathlib.Core.Bool.{Bool, false, cond}
+use mathlib.Core.Bool.{Bool, false}
 use mathlib.Core.List.{List}
 use Rattle.limits.specs.Limits.{maxRecords}
 use Rattle.octets.specs.Lists.{any}
 use Rattle.rule.specs.RelevantSet.{caaRecords}
-use Rattle.rule.specs.Authorizations.{Authorization, isUnknownCritical, unrestricted, forbidden, granted, decided, permits}
-use Rattle.relevant.specs.Walks.{readable, relevantAt}
-use Rattle.verdict.specs.declared.NameVerdict.{NameVerdict}
-use Rattle.verdict.specs.declared.NameVerdict.the-variants.{Permitted, UnknownCritical, NotGranted}
-
-abbrev pub withheld : Authorization → NameVerdict
-withheld unrestricted = Permitted
-withheld (forbidden r) = UnknownCritical (record { 0 = r })
-withheld (granted r ns) = NotGranted (record { 0 = r })
-
-abbrev pub verdictOf : List ℕ → Authorization → NameVerdict
-verdictOf issuer a = cond (permits issuer a) Permitted (withheld a)
+use Rattle.rule.specs.Authorizations.{isUnknownCritical, decided}
+use Rattle.relevant.specs.Places.{readable, relevantAt}
+use Rattle.name_verdict.specs.declared.NameVerdict.{NameVerdict}
+use Rattle.name_verdict.specs.NameVerdicts.{verdictOf}
 
 -- of the name X in wire form, or of *.X
 unfoldable pub nameVerdict : List ℕ → List ℕ → Bool → List ℕ → NameVerdict

@@ -1,7 +1,7 @@
 // May this issuer sign? The call that judges.
+use name_verdict::NameVerdict;
 use refusal::Check;
 use refusal::NameNo;
-use refusal::RecordNo;
 use refusal::Refusal;
 use relevant::Found;
 use relevant::Near;
@@ -10,30 +10,10 @@ use rule::Denial;
 use rule::Judgement;
 ghost use mathlib.Core.Path.{_≡_};
 ghost use Rattle.octets.specs.Lists.{select};
-ghost use Rattle.rule.specs.Authorizations.{isUnknownCritical, isIssue, governedBy};
+ghost use Rattle.rule.specs.Authorizations.{isUnknownCritical};
 ghost use Rattle.rule.specs.Calls.{judge};
-ghost use Rattle.relevant.specs.Walks.{setOf, firstNumber};
-ghost use Rattle.verdict.specs.Places.{verdictOf, nameVerdict, CriticalKnown};
-
-// What is said of one requested name.
-pub enum NameVerdict {
-    Permitted,
-    UnknownCritical(RecordNo),
-    NotGranted(RecordNo),
-}
-
-// What the issue records of an owner say, where they govern.
-fn by_issue(book: &[u8], owner: &[u8], issuer: &[u8]) -> NameVerdict
-    ensures { λ r. ⌜ r ≡ verdictOf (now (issuer .entry)) (governedBy (select isIssue (setOf (now (book .entry)) (now (owner .entry))))) ⌝ }
-{
-    if relevant::any_grants(book, owner, false, issuer) {
-        return NameVerdict::Permitted;
-    }
-    let Found::At(r) = relevant::first_with_tag(book, owner, false) else {
-        return NameVerdict::Permitted;
-    };
-    NameVerdict::NotGranted(r)
-}
+ghost use Rattle.relevant.specs.Places.{setOf, firstNumber};
+ghost use Rattle.verdict.specs.Places.{nameVerdict, CriticalKnown};
 
 // The first unknown critical record of an owner; no search where the book has none.
 fn first_critical(book: &[u8], critical: bool, owner: &[u8]) -> Found
@@ -43,17 +23,10 @@ fn first_critical(book: &[u8], critical: bool, owner: &[u8]) -> Found
     if !critical {
         return Found::Nothing;
     }
-    relevant::first_unknown_critical(book, owner)
+    critical_records::first_unknown_critical(book, owner)
 }
 
-// Judges one name X, in wire form, or *.X: for callers that have no whole request.
-pub fn judge_name(book: &[u8], name: &[u8], wildcard: bool, issuer: &[u8]) -> NameVerdict
-    ensures { λ r. ⌜ r ≡ nameVerdict (now (book .entry)) (now (name .entry)) wildcard (now (issuer .entry)) ⌝ }
-{
-    judge_within(book, true, name, wildcard, issuer)
-}
-
-// The same, where `critical` is told of the book once for all names.
+// Judges one name X, in wire form, or *.X, where `critical` is told of the book once for all names.
 fn judge_within(
     book: &[u8],
     critical: bool,
@@ -64,23 +37,14 @@ fn judge_within(
     requires { ⌜ CriticalKnown critical (now book) ⌝ }
     ensures { λ r. ⌜ r ≡ nameVerdict (now (book .entry)) (now (name .entry)) wildcard (now (issuer .entry)) ⌝ }
 {
-    let Near::At(at) = relevant::nearest(book, name) else {
+    let Near::At(at) = nearest_owner::nearest(book, name) else {
         return NameVerdict::Permitted;
     };
     let owner = &name[at..];
     if let Found::At(r) = first_critical(book, critical, owner) {
         return NameVerdict::UnknownCritical(r);
     }
-    if !wildcard {
-        return by_issue(book, owner, issuer);
-    }
-    let Found::At(first) = relevant::first_with_tag(book, owner, true) else {
-        return by_issue(book, owner, issuer);
-    };
-    if relevant::any_grants(book, owner, true, issuer) {
-        return NameVerdict::Permitted;
-    }
-    NameVerdict::NotGranted(first)
+    name_verdict::by_governing(book, owner, wildcard, issuer)
 }
 
 pub fn judge(request: &[u8], issuer: &[u8], book: &[u8]) -> Judgement
@@ -95,7 +59,7 @@ pub fn judge(request: &[u8], issuer: &[u8], book: &[u8]) -> Judgement
     if let Check::Refused(r) = record_reader::check_book(book) {
         return Judgement::Refused(r);
     }
-    let critical = relevant::any_unknown_critical(book);
+    let critical = critical_records::any_unknown_critical(book);
     let mut at: usize = 0;
     let mut k: usize = 0;
     while at < request.len() {

@@ -1,7 +1,7 @@
 -- `put_desk_line` meets its contract.
 use borrow.Author.Needs.{needs}
 use borrow.Author.Tests.{not-true, not-false}
-use Rattle.desk_line.proofs.Answers.{bookless-put, judged-put}
+use Rattle.desk_line.proofs.DeskLines.{bookless-put, judged-put}
 use Rattle.desk_line.proofs.put_desk_line.Statement.{statement}
 use Rattle.desk_line.proofs.put_desk_line.Tie as tie
 

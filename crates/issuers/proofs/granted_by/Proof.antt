@@ -1,8 +1,8 @@
 -- `granted_by` meets its contract. The loop's invariant: the names so far, joined by those that the records left grant, are those granted.
 use lib.ListN.{length}
 use borrow.Author.Needs.{needs}
-use Rattle.relevant.proofs.WalkSteps.{remaining}
-use Rattle.relevant.proofs.WalkLaws.{seen-order, seen-inside, fewer-left}
+use Rattle.record_walk.proofs.WalkSteps.{remaining}
+use Rattle.record_walk.proofs.WalkLaws.{seen-order, seen-inside, fewer-left}
 use Rattle.issuers.proofs.GrantedWalk.{Collected, none-collected, all-collected, new, known, nobody, untagged}
 use Rattle.issuers.proofs.granted_by.Statement.{statement}
 use Rattle.issuers.proofs.granted_by.Tie as tie

@@ -1,6 +1,6 @@
 -- `grantee` meets its contract.
 use borrow.Author.Needs.{needs}
-use Rattle.value.proofs.ValuePlaces.{name-from, name-to}
+use Rattle.value_reader.proofs.ValuePlaces.{name-from, name-to}
 use Rattle.issuers.proofs.GranteeWays.{no-grantee, no-name, value-fits, name-from-fits, name-to-fits, name-no-issuer, name-granted}
 use Rattle.issuers.proofs.grantee.Statement.{statement}
 use Rattle.issuers.proofs.grantee.Tie as tie

@@ -1,11 +1,10 @@
 -- `write_line` meets its contract: a law of writeLine for each way out.
 use borrow.Author.Needs.{needs}
 use borrow.Author.Tests.{not-true, not-false}
-use Rattle.refusal.specs.declared.Refusal.the-variants.{NoRoom, LineTooLong, BadData}
-use Rattle.presentation.specs.declared.Made.the-variants.{Length}
+use Rattle.refusal.specs.declared.Refusal.the-variants.{LineTooLong, BadData}
 use Rattle.presentation.specs.Calls.{refused, writeLine}
 use Rattle.presentation.proofs.Placed.{told}
-use Rattle.line_writer.proofs.WriteWays.{data-too-long, tag-short, value-short, no-data, not-plain, no-room, line-stands}
+use Rattle.line_writer.proofs.WriteWays.{data-too-long, no-data, not-plain, passed-answer, passed-octets}
 use Rattle.line_writer.proofs.write_line.Statement.{statement}
 use Rattle.line_writer.proofs.write_line.Tie as tie
 
@@ -36,20 +35,14 @@ returns-3 c = told writeLine _ _ (refused BadData _) (search (needs, not-plain, 
 value-part-requires : tie.Need-value-part-requires
 value-part-requires c κs = search needs
 
-line-length-requires : tie.Need-line-length-requires
-line-length-requires c κs = search (needs, tag-short, value-short)
-
-returns-4 : tie.Need-returns-4
-returns-4 c = told writeLine _ _ (refused (NoRoom _) _) (search (needs, no-room, not-false))
-
-put-line-requires : tie.Need-put-line-requires
-put-line-requires c κs = search needs
+write-property-requires : tie.Need-write-property-requires
+write-property-requires c κs = search needs
 
 same-length : tie.Need-same-length
 same-length c = search needs
 
-returns-5 : tie.Need-returns-5
-returns-5 c = told writeLine _ _ (record { answer = Length _; buffer = _ }) (search (needs, line-stands, not-false))
+returns-4 : tie.Need-returns-4
+returns-4 c = search (needs, passed-answer, passed-octets, not-false)
 
 pub write-line-spec : {M : Type 1} → statement M
 write-line-spec =
@@ -64,8 +57,6 @@ write-line-spec =
     is-letters-and-digits-requires
     returns-3
     value-part-requires
-    line-length-requires
-    returns-4
-    put-line-requires
+    write-property-requires
     same-length
-    returns-5)
+    returns-4)

@@ -1,0 +1,6 @@
+pub mod ValueOrder
+pub mod RefusalPlaces
+pub mod NumberBounds
+pub mod JudgementUnpacks
+pub mod ListUnpacks
+pub mod LineUnpacks

@@ -1,0 +1,2 @@
+pub mod FirstCritical
+pub mod CriticalWalk

@@ -1,0 +1,2 @@
+pub mod DecimalPieces
+pub mod DecimalWalk

@@ -1,0 +1,27 @@
+-- The desk's line, put: without a book, and with one.
+use Prim.Native.Nat.{ℕ}
+use native.Mathlib.Omega.{arith}
+use mathlib.Core.Path.{_≡_}
+use mathlib.Core.Bool.{Bool, true, false}
+use mathlib.Core.List.{List}
+use lib.ListN.{length}
+use Rattle.buffer.specs.Buffer.{Put, filled, filledLength}
+use Rattle.buffer.proofs.Filled.{put-room}
+use Rattle.octets.specs.Octets.{text}
+use Rattle.rule.specs.declared.Judgement.{Judgement}
+use Rattle.rule.specs.Calls.{judge}
+use Rattle.desk_text.specs.Lines.{line, deskLine}
+
+module _ (d x : List ℕ) (n : ℕ) where
+  module _ (size : length d ≡ 65) where
+    pub bookless-put :
+        (found : Bool) (request issuer book : List ℕ) → x ≡ filled (text "no book\n") d → n ≡ filledLength (text "no book\n") d → found ≡ false →
+        Put (deskLine found request issuer book) d x n
+    unfolding deskLine
+    bookless-put found request issuer book put count e = rw e (put-room (text "no book\n") d (omega arith) x n put count)
+
+  pub judged-put :
+      (found : Bool) (request issuer book : List ℕ) (j : Judgement) → Put (line j) d x n → j ≡ judge request issuer book → found ≡ true →
+      Put (deskLine found request issuer book) d x n
+  unfolding deskLine
+  judged-put found request issuer book j p is e = rw (e, ← is) p

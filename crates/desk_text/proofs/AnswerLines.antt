@@ -1,0 +1,15 @@
+-- What the definitions compute: the lines that the requirements print, and whose line it is where there is a book.
+use mathlib.Core.Path.{refl}
+use Rattle.limits.specs.Limits.{maxRecords}
+use Rattle.refusal.specs.Refusal.{number, place}
+use Rattle.octets.specs.WrittenDecimal.{decimal}
+use Rattle.desk_text.specs.Lines.{answerText, deskLine}
+use Rattle.desk_text.specs.Theorems.{Judged, Line-examples}
+
+pub line-examples : Line-examples
+unfolding answerText decimal number place deskLine maxRecords
+line-examples = (refl, refl, refl, refl, refl, refl, refl, λ request issuer book. refl)
+
+pub judged : Judged
+unfolding deskLine
+judged request issuer book = refl

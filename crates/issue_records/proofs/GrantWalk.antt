@@ -1,0 +1,56 @@
+-- The loop of any_grants: some record with the tag grants the issuer where one of those that are left does.
+use Prim.Native.Nat.{ℕ}
+use mathlib.Core.Path.{_≡_, refl, sym, _∙_}
+use mathlib.Core.Bool.{Bool, true, false, _||_}
+use mathlib.Core.List.{List}
+use mathlib.Core.Option.{Option, none, some}
+use Rattle.octets.specs.Lists.{any, select}
+use Rattle.octets.specs.Octets.{same, lowered}
+use Rattle.rule.specs.RelevantSet.{CaaRecord}
+use Rattle.rule.specs.Authorizations.{grantee, consSome, grantees}
+use Rattle.relevant.specs.Places.{setOf, hasTag}
+use Rattle.record_walk.specs.declared.Walk.{Walk}
+use Rattle.record_walk.specs.declared.Seen.{Seen as SeenAt}
+use Rattle.record_walk.specs.declared.Step.{Step}
+use Rattle.record_walk.specs.declared.Step.the-variants.{Seen, End}
+use Rattle.record_walk.specs.Walks.{nextOwned}
+use Rattle.record_walk.proofs.WalkSteps.{remaining}
+use Rattle.record_walk.proofs.WalkLaws.{dataOf}
+use Rattle.record_walk.proofs.SetWalk.{Left, set-over, Passed, set-passed, set-taken}
+use Rattle.property_tests.specs.DataTests.{tagOfData, isGrantee, grantsTo}
+use Rattle.property_tests.proofs.TestLaws.{tells-tag, tells-grant}
+
+abbrev pub grantsAny : List ℕ → List CaaRecord → Bool
+grantsAny issuer cs = any (same (lowered issuer)) (grantees cs)
+
+one-more :
+    (issuer : List ℕ) (o : Option (List ℕ)) (ns : List (List ℕ)) →
+    any (same (lowered issuer)) (consSome o ns) ≡ isGrantee issuer o || any (same (lowered issuer)) ns
+one-more issuer none ns = refl
+one-more issuer (some n) ns = refl
+
+module _ (issuer : List ℕ) (wild : Bool) where
+  abbrev pub GrantsLeft : List ℕ → List ℕ → Walk → Type 0
+  GrantsLeft = Left (grantsAny issuer) (hasTag wild)
+
+  pub no-grant :
+      (book x : List ℕ) (w : Walk) (o : Step) → GrantsLeft book x w → o ≡ nextOwned book x w → o ≡ End →
+      false ≡ grantsAny issuer (select (hasTag wild) (setOf book x))
+  no-grant = set-over (grantsAny issuer) (hasTag wild)
+
+  pub untagged-passed : Passed (grantsAny issuer) (hasTag wild) (tagOfData wild)
+  untagged-passed = set-passed (grantsAny issuer) (hasTag wild) (tagOfData wild) (tells-tag wild)
+
+  module _ (book x : List ℕ) (w : Walk) (left : GrantsLeft book x w) (o : Step) (f : o ≡ nextOwned book x w) (c : SeenAt) (g : o ≡ Seen c) where
+    module _ (t b : Bool) (test : t ≡ tagOfData wild (dataOf book c)) (e : t ≡ true) (h : b ≡ grantsTo (dataOf book c) issuer) where
+      tested : grantsAny issuer (select (hasTag wild) (setOf book x)) ≡ b || grantsAny issuer (select (hasTag wild) (remaining book x (c .walk)))
+      tested =
+          let (cr, s, first) = set-taken (grantsAny issuer) (hasTag wild) (tagOfData wild) (tells-tag wild) book x w left o f c g t test e in
+          let told : isGrantee issuer (grantee cr) ≡ b = sym (tells-grant issuer _ cr (s .holds)) ∙ sym h in
+          first ∙ one-more issuer (grantee cr) _ ∙ rw told
+
+      pub grant-found : b ≡ true → true ≡ grantsAny issuer (select (hasTag wild) (setOf book x))
+      grant-found k = sym (tested ∙ rw k)
+
+      pub grantless-passed : b ≡ false → GrantsLeft book x (c .walk)
+      grantless-passed k = tested ∙ rw k

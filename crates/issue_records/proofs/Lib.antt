@@ -1,0 +1,2 @@
+pub mod FirstTagged
+pub mod GrantWalk

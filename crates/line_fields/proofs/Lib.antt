@@ -1,0 +1,2 @@
+pub mod RunEnds
+pub mod FieldPlaces

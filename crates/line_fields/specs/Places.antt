@@ -1,0 +1,31 @@
+-- Definitions for code: a field of a line by its places.
+use Prim.Native.Nat.{ℕ, _+_}
+use mathlib.Core.Bool.{Bool, cond, not}
+use mathlib.Core.List.{List, [], _∷_}
+use mathlib.Core.Option.{Option, none, some}
+use lib.ListN.{length, drop}
+use Rattle.octets.specs.Octets.{isBlank}
+use Rattle.text.specs.Places.{placeOf}
+use Rattle.presentation.specs.Read.{field}
+use Rattle.line_fields.specs.declared.FieldRead.{FieldRead}
+use Rattle.line_fields.specs.declared.FieldRead.the-variants.{Good as GoodField, Fault as NoField}
+
+-- the octets of a class at the front
+abbrev pub run : (ℕ → Bool) → List ℕ → List ℕ
+run p [] = []
+run p (x ∷ s) = cond (p x) (x ∷ run p s) []
+
+abbrev pub isUnblank : ℕ → Bool
+isUnblank x = not (isBlank x)
+
+-- where those end that begin at a place
+unfoldable pub runEnd : (ℕ → Bool) → List ℕ → ℕ → ℕ
+runEnd p s at = at + length (run p (drop at s))
+
+-- a field by its places
+abbrev pub fieldPlaces : List ℕ → ℕ → Option (List ℕ × List ℕ) → FieldRead
+fieldPlaces s at none = NoField
+fieldPlaces s at (some r) = GoodField (record { end = at + length (r .0); next = placeOf s (r .1) })
+
+unfoldable pub fieldAt : List ℕ → ℕ → FieldRead
+fieldAt s at = fieldPlaces s at (field (drop at s))

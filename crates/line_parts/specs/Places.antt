@@ -1,0 +1,37 @@
+-- Definitions for code: the parts of a line by their places.
+use Prim.Native.Nat.{ℕ, suc, _+_}
+use mathlib.Core.Bool.{cond}
+use mathlib.Core.List.{List, [], _∷_}
+use mathlib.Core.Option.{Option, none, some}
+use lib.Dec.{eqb}
+use lib.ListN.{length}
+use Rattle.octets.specs.Lists.{ends}
+use Rattle.octets.specs.Decimal.{decimalOctet}
+use Rattle.text.specs.Places.{placeOf}
+use Rattle.presentation.specs.Written.{quote}
+use Rattle.presentation.specs.Read.{field, isLineTag}
+use Rattle.line_unit.specs.declared.Style.the-variants.{Quoted, Bare}
+use Rattle.line_parts.specs.declared.LineRead.{LineRead}
+use Rattle.line_parts.specs.declared.LineRead.the-variants.{Good as GoodLine, Fault as NoLine}
+use Rattle.line_parts.specs.declared.ValueRead.{ValueRead}
+use Rattle.line_parts.specs.declared.ValueRead.the-variants.{Good as GoodValue, Fault as NoValue}
+
+-- the fields of a line by their places
+abbrev pub linePlaces : List ℕ → Option ℕ → List ℕ → List ℕ → List ℕ → LineRead
+linePlaces s none s₁ t s₂ = NoLine
+linePlaces s (some f) s₁ t s₂ =
+    cond (isLineTag t) (GoodLine (record { flags = f; tag = placeOf s s₁; end = placeOf s s₁ + length t; value = placeOf s s₂ })) NoLine
+
+abbrev pub withField : Option (List ℕ × List ℕ) → (List ℕ → List ℕ → LineRead) → LineRead
+withField none k = NoLine
+withField (some r) k = k (r .0) (r .1)
+
+unfoldable pub lineAt : List ℕ → LineRead
+lineAt s = withField (field s) (λ f s₁. withField (field s₁) (λ t s₂. linePlaces s (decimalOctet f) s₁ t s₂))
+
+-- where the units of a value stand
+unfoldable pub valueAt : List ℕ → ValueRead
+valueAt [] = NoValue
+valueAt (x ∷ v) =
+    cond (eqb x quote) (cond (ends (eqb quote) v) (GoodValue (record { from = 1; end = length v; style = Quoted })) NoValue)
+    (GoodValue (record { from = 0; end = suc (length v); style = Bare }))

@@ -1,0 +1,102 @@
+// The parts of a line by their places: its flags and tag, and what stands for its value.
+use decimal_text::OctetRead;
+use limits::MAX_TAG_OCTETS;
+use line_fields::FieldRead;
+use line_unit::Style;
+ghost use mathlib.Core.Path.{_≡_};
+ghost use Rattle.presentation.specs.Read.{isLineTag};
+ghost use Rattle.line_parts.specs.Places.{lineAt, valueAt};
+
+// 1 to 255 letters and digits.
+fn is_line_tag(t: &[u8]) -> bool
+    ensures { λ r. ⌜ r ≡ isLineTag (now (t .entry)) ⌝ }
+{
+    if t.len() == 0 {
+        return false;
+    }
+    if MAX_TAG_OCTETS < t.len() {
+        return false;
+    }
+    line_fields::is_letters_and_digits(t)
+}
+
+// A line by its fields: its flags, where its tag begins and ends, and where its value begins.
+pub struct LineAt {
+    pub flags: u8,
+    pub tag: usize,
+    pub end: usize,
+    pub value: usize,
+}
+
+pub enum LineRead {
+    Good(LineAt),
+    Fault,
+}
+
+// The fields of a line, with flags and tag checked.
+pub fn read_fields(s: &[u8]) -> LineRead
+    ensures { λ r. ⌜ r ≡ lineAt (now (s .entry)) ⌝ }
+{
+    let FieldRead::Good(f) = line_fields::read_field(s, 0) else {
+        return LineRead::Fault;
+    };
+    let e = f.end;
+    let OctetRead::Good(flags) = decimal_text::decimal_octet(&s[..e]) else {
+        return LineRead::Fault;
+    };
+    let tag = f.next;
+    let FieldRead::Good(t) = line_fields::read_field(s, tag) else {
+        return LineRead::Fault;
+    };
+    let end = t.end;
+    if !is_line_tag(&s[tag..end]) {
+        return LineRead::Fault;
+    }
+    LineRead::Good(LineAt {
+        flags,
+        tag,
+        end,
+        value: t.next,
+    })
+}
+
+// The value of a line: where its units begin and end, and how they are written.
+pub struct ValueAt {
+    pub from: usize,
+    pub end: usize,
+    pub style: Style,
+}
+
+pub enum ValueRead {
+    Good(ValueAt),
+    Fault,
+}
+
+// Between two quotes, or bare and not empty.
+pub fn read_value(v: &[u8]) -> ValueRead
+    ensures { λ r. ⌜ r ≡ valueAt (now (v .entry)) ⌝ }
+{
+    let n = v.len();
+    if n == 0 {
+        return ValueRead::Fault;
+    }
+    if v[0] != b'"' {
+        return ValueRead::Good(ValueAt {
+            from: 0,
+            end: n,
+            style: Style::Bare,
+        });
+    }
+    if n == 1 {
+        return ValueRead::Fault;
+    }
+    let end: usize = n - 1;
+    if v[end] != b'"' {
+        return ValueRead::Fault;
+    }
+    ValueRead::Good(ValueAt {
+        from: 1,
+        end,
+        style: Style::Quoted,
+    })
+}

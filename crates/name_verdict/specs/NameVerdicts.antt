@@ -1,0 +1,15 @@
+-- The verdict for an issuer, from what CAA says of one requested name.
+use Prim.Native.Nat.{ℕ}
+use mathlib.Core.Bool.{cond}
+use mathlib.Core.List.{List}
+use Rattle.rule.specs.Authorizations.{Authorization, unrestricted, forbidden, granted, permits}
+use Rattle.name_verdict.specs.declared.NameVerdict.{NameVerdict}
+use Rattle.name_verdict.specs.declared.NameVerdict.the-variants.{Permitted, UnknownCritical, NotGranted}
+
+abbrev pub withheld : Authorization → NameVerdict
+withheld unrestricted = Permitted
+withheld (forbidden r) = UnknownCritical (record { 0 = r })
+withheld (granted r ns) = NotGranted (record { 0 = r })
+
+abbrev pub verdictOf : List ℕ → Authorization → NameVerdict
+verdictOf issuer a = cond (permits issuer a) Permitted (withheld a)

@@ -1,0 +1,2 @@
+pub mod EndWalk
+pub mod ClimbLaws

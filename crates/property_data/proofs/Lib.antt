@@ -1,0 +1,3 @@
+pub mod UnitLoops
+pub mod DataParts
+pub mod DataWays

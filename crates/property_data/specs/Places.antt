@@ -1,0 +1,52 @@
+-- Definitions for code: the octets that units stand for, and CAA data by its parts.
+use Prim.Native.Nat.{ℕ}
+use mathlib.Core.Bool.{Bool, true, false, cond}
+use mathlib.Core.List.{List, [], _∷_}
+use mathlib.Core.Option.{Option, none, some}
+use lib.Dec.{leb}
+use lib.ListN.{length}
+use Rattle.limits.specs.Limits.{maxTagOctets}
+use Rattle.record.specs.Property.{Property, wireProperty}
+use Rattle.presentation.specs.Read.{unescaped}
+use Rattle.presentation.specs.Calls.{Output, readOf}
+use Rattle.line_unit.specs.declared.Style.{Style}
+use Rattle.line_unit.specs.Places.{plainIn}
+use Rattle.property_data.specs.declared.UnitCount.{UnitCount}
+use Rattle.property_data.specs.declared.UnitCount.the-variants.{Octets, Fault as NoCount}
+
+-- the octets that units stand for: how many, whether all of s is units, and themselves
+abbrev pub countRead : Option (List ℕ) → UnitCount
+countRead none = NoCount
+countRead (some v) = Octets (length v)
+
+unfoldable pub unitCount : Style → List ℕ → UnitCount
+unitCount style s = countRead (unescaped (plainIn style) s)
+
+abbrev pub isSome : Option (List ℕ) → Bool
+isSome none = false
+isSome (some v) = true
+
+abbrev pub isUnits : Style → List ℕ → Bool
+isUnits style s = isSome (unescaped (plainIn style) s)
+
+abbrev pub octetsIn : Option (List ℕ) → List ℕ
+octetsIn none = []
+octetsIn (some v) = v
+
+abbrev pub unitOctets : Style → List ℕ → List ℕ
+unitOctets style s = octetsIn (unescaped (plainIn style) s)
+
+-- the data of a property, by its parts
+abbrev pub dataHead : ℕ → List ℕ → List ℕ
+dataHead f t = f ∷ length t ∷ t
+
+abbrev pub dataOf : ℕ → List ℕ → List ℕ → List ℕ
+dataOf f t v = wireProperty (record { flags = f; tag = t; value = v })
+
+-- the data placed; refusal 9 where the units stand for no value, or the tag is too long for its length octet
+abbrev pub taggedProperty : ℕ → List ℕ → Option (List ℕ) → Option Property
+taggedProperty f t none = none
+taggedProperty f t (some v) = cond (leb (length t) maxTagOctets) (some (record { flags = f; tag = t; value = v })) none
+
+unfoldable pub writeData : ℕ → List ℕ → Style → List ℕ → List ℕ → Output
+writeData f t style s buffer = readOf (taggedProperty f t (unescaped (plainIn style) s)) buffer

@@ -1,0 +1,4 @@
+pub mod ValueLoops
+pub mod LineParts
+pub mod Measures
+pub mod PropertyWays

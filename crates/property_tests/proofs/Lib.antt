@@ -1,0 +1,3 @@
+pub mod DataTests
+pub mod GrantTests
+pub mod TestLaws

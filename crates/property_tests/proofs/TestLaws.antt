@@ -1,0 +1,20 @@
+-- Each test of CAA data says what the rule's test says of a record that holds the data.
+use Prim.Native.Nat.{ℕ}
+use mathlib.Core.Bool.{Bool}
+use mathlib.Core.List.{List}
+use Rattle.rule.specs.Authorizations.{isUnknownCritical, grantee}
+use Rattle.relevant.specs.Places.{hasTag}
+use Rattle.relevant.proofs.Tells.{Tells}
+use Rattle.property_tests.specs.DataTests.{isCriticalData, tagOfData, isGrantee, grantsTo}
+
+pub tells-critical : Tells isCriticalData isUnknownCritical
+unfolding isCriticalData isUnknownCritical
+tells-critical d c e = rw e
+
+pub tells-tag : (wild : Bool) → Tells (tagOfData wild) (hasTag wild)
+unfolding tagOfData
+tells-tag wild d c e = rw e
+
+pub tells-grant : (issuer : List ℕ) → Tells (λ d. grantsTo d issuer) (λ c. isGrantee issuer (grantee c))
+unfolding grantsTo grantee
+tells-grant issuer d c e = rw e

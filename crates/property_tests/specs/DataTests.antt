@@ -1,0 +1,28 @@
+-- Tests of CAA data.
+use Prim.Native.Nat.{ℕ}
+use mathlib.Core.Bool.{Bool, false}
+use mathlib.Core.List.{List, []}
+use mathlib.Core.Option.{Option, none, some}
+use Rattle.octets.specs.Octets.{same, lowered}
+use Rattle.record.specs.Property.{Property, property}
+use Rattle.rule.specs.RelevantSet.{CaaRecord}
+use Rattle.rule.specs.Authorizations.{isUnknownCritical, grantee}
+use Rattle.relevant.specs.Places.{hasTag}
+
+-- tests of CAA data: those of a record that holds it, whatever its owner and number; false where it is laid out wrongly
+abbrev pub ofData : (CaaRecord → Bool) → Option Property → Bool
+ofData test none = false
+ofData test (some p) = test (record { number = 0; owner = []; property = p })
+
+unfoldable pub isCriticalData : List ℕ → Bool
+isCriticalData d = ofData isUnknownCritical (property d)
+
+unfoldable pub tagOfData : Bool → List ℕ → Bool
+tagOfData wild d = ofData (hasTag wild) (property d)
+
+abbrev pub isGrantee : List ℕ → Option (List ℕ) → Bool
+isGrantee issuer none = false
+isGrantee issuer (some n) = same (lowered issuer) n
+
+unfoldable pub grantsTo : List ℕ → List ℕ → Bool
+grantsTo d issuer = ofData (λ c. isGrantee issuer (grantee c)) (property d)

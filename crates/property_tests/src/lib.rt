@@ -1,0 +1,54 @@
+// Tests of CAA data: whether it is critical and unknown, which tag it has, and whom it grants.
+use property_reader::PropertyRead;
+use record::PropertyTag;
+use value_reader::ValueRead;
+ghost use mathlib.Core.Path.{_≡_};
+ghost use Rattle.property_tests.specs.DataTests.{isCriticalData, tagOfData, grantsTo};
+
+// Whether CAA data has an unknown tag and is critical.
+pub fn is_unknown_critical(d: &[u8]) -> bool
+    ensures { λ r. ⌜ r ≡ isCriticalData (now (d .entry)) ⌝ }
+{
+    let PropertyRead::Good(p) = property_reader::read_property(d) else {
+        return false;
+    };
+    if p.flags < 128 {
+        return false;
+    }
+    let PropertyTag::Unknown = property_reader::tag_of(property_reader::tag_part(d)) else {
+        return false;
+    };
+    true
+}
+
+// Whether CAA data has the tag issuewild, or, otherwise asked, the tag issue.
+pub fn has_tag(d: &[u8], wild: bool) -> bool
+    ensures { λ r. ⌜ r ≡ tagOfData wild (now (d .entry)) ⌝ }
+{
+    let PropertyRead::Good(_) = property_reader::read_property(d) else {
+        return false;
+    };
+    match property_reader::tag_of(property_reader::tag_part(d)) {
+        PropertyTag::Issue => !wild,
+        PropertyTag::IssueWild => wild,
+        PropertyTag::Iodef => false,
+        PropertyTag::Unknown => false,
+    }
+}
+
+// Whether CAA data grants this issuer.
+pub fn grants(d: &[u8], issuer: &[u8]) -> bool
+    ensures { λ r. ⌜ r ≡ grantsTo (now (d .entry)) (now (issuer .entry)) ⌝ }
+{
+    let v = property_reader::value_part(d);
+    let ValueRead::Named(n) = value_reader::read_value(v) else {
+        return false;
+    };
+    let from = n.from;
+    let to = n.to;
+    let name = &v[from..to];
+    if !issuer_reader::is_issuer(name) {
+        return false;
+    }
+    text::same_ignoring_case(name, issuer)
+}

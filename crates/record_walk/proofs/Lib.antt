@@ -1,0 +1,5 @@
+pub mod RecordBounds
+pub mod WalkSteps
+pub mod WalkLaws
+pub mod SetWalk
+pub mod NextWays

@@ -1,0 +1,2 @@
+pub mod FirstPiece
+mod ParameterTests

@@ -1,0 +1,44 @@
+// Parameters of issue and issuewild properties (RFC 8659 section 4.2).
+use value_text::Class;
+ghost use mathlib.Core.Path.{_≡_};
+ghost use Rattle.value.specs.IssueValues.{isParameter};
+ghost use Rattle.value_parameters.specs.Parameters.{areParametersIn};
+
+// A parameter, with blanks around it.
+fn is_parameter(s: &[u8]) -> bool
+    ensures { λ r. ⌜ r ≡ isParameter (now (s .entry)) ⌝ }
+{
+    let p = value_text::trim_start(value_text::trim_end(s));
+    let e = text::piece_end(p, 0, b'=');
+    if p.len() <= e {
+        return false;
+    }
+    let tag = value_text::trim_end(&p[..e]);
+    if tag.len() == 0 {
+        return false;
+    }
+    if !value_text::all_of(tag, Class::LetterOrDigit) {
+        return false;
+    }
+    value_text::all_of(value_text::trim_start(&p[e + 1..]), Class::ParameterOctet)
+}
+
+// What stands behind the first semicolon: nothing but blanks, or parameters.
+pub fn are_parameters(s: &[u8]) -> bool
+    ensures { λ r. ⌜ r ≡ areParametersIn (now (s .entry)) ⌝ }
+{
+    if value_text::all_of(s, Class::Blank) {
+        return true;
+    }
+    let mut at: usize = 0;
+    loop {
+        let e = text::piece_end(s, at, b';');
+        if !is_parameter(&s[at..e]) {
+            return false; // a closing semicolon leaves an empty parameter here
+        }
+        if s.len() <= e {
+            return true;
+        }
+        at = e + 1;
+    }
+}

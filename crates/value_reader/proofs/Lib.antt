@@ -1,0 +1,3 @@
+mod NamePlaces
+mod ValueTests
+pub mod ValuePlaces

@@ -1,0 +1,79 @@
+// Texts within values of issue and issuewild properties: octets of a class, and blanks taken off either end.
+ghost use mathlib.Core.Path.{_≡_};
+ghost use Rattle.octets.specs.Lists.{all};
+ghost use Rattle.value.specs.IssueValues.{trimStart, trimEnd, isParameterOctet};
+ghost use Rattle.value_text.specs.Classes.{inClass};
+
+// Classes of octets that a part of a value may be made of.
+pub enum Class {
+    Blank,
+    LetterOrDigit,
+    ParameterOctet,
+}
+
+// Octets 33 to 126 except the semicolon.
+fn is_parameter_octet(b: u8) -> bool
+    ensures { λ r. ⌜ r ≡ isParameterOctet b ⌝ }
+{
+    if b < 33 {
+        return false;
+    }
+    if 126 < b {
+        return false;
+    }
+    b != b';'
+}
+
+// Whether an octet is of a class.
+fn is_in(b: u8, class: Class) -> bool
+    ensures { λ r. ⌜ r ≡ inClass class b ⌝ }
+{
+    match class {
+        Class::Blank => ascii::is_blank(b),
+        Class::LetterOrDigit => ascii::is_letter_or_digit(b),
+        Class::ParameterOctet => is_parameter_octet(b),
+    }
+}
+
+// Whether every octet is of a class.
+pub fn all_of(s: &[u8], class: Class) -> bool
+    ensures { λ r. ⌜ r ≡ all (inClass class) (now (s .entry)) ⌝ }
+{
+    let mut i: usize = 0;
+    while i < s.len() {
+        if !is_in(s[i], class) {
+            return false;
+        }
+        i += 1;
+    }
+    true
+}
+
+// Without the blanks at the front.
+pub fn trim_start(s: &[u8]) -> &[u8]
+    ensures { λ r. ⌜ now r ≡ trimStart (now (s .entry)) ⌝ }
+{
+    let mut t = s;
+    while 0 < t.len() {
+        if !ascii::is_blank(t[0]) {
+            return t;
+        }
+        t = &t[1..];
+    }
+    t
+}
+
+// Without the blanks at the end.
+pub fn trim_end(s: &[u8]) -> &[u8]
+    ensures { λ r. ⌜ now r ≡ trimEnd (now (s .entry)) ⌝ }
+{
+    let mut t = s;
+    while 0 < t.len() {
+        let last = t.len() - 1;
+        if !ascii::is_blank(t[last]) {
+            return t;
+        }
+        t = &t[..last];
+    }
+    t
+}
