@@ -1,13 +1,2 @@
-pub mod Narrowing
-pub mod KeptNames
-pub mod NestedParts
-pub mod GranteeWays
-pub mod WalkNumbers
-pub mod NameLoops
-pub mod GrantedWalk
-pub mod RestrictionWays
-pub mod NarrowWays
-pub mod EntryLoops
-pub mod IssuersWalk
 pub mod CallWays
 pub mod Exactly

@@ -1,3 +1,1 @@
-pub mod Narrowing
-pub mod Places
 pub mod Theorems

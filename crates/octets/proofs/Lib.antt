@@ -14,6 +14,7 @@ pub mod Verdicts
 pub mod SelectLaws
 pub mod SmallLetters
 pub mod SelectedLists
+pub mod SelectTests
 pub mod Tests
 pub mod Walks
 pub mod Decimals

@@ -3,3 +3,4 @@ pub mod WalkSteps
 pub mod WalkLaws
 pub mod SetWalk
 pub mod NextWays
+pub mod WalkNumbers

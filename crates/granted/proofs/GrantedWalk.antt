@@ -1,0 +1,113 @@
+-- The loop of granted_by: the names so far, joined by those that the records left grant.
+use Prim.Native.Nat.{ℕ, _≤_, _<_}
+use native.Mathlib.Omega.{arith}
+use mathlib.Core.Path.{_≡_, sym, _∙_}
+use mathlib.Core.Bool.{Bool, true, false, not}
+use mathlib.Core.List.{List, [], _∷_, _++_}
+use mathlib.Core.Option.{some}
+use lib.ListN.{length}
+use borrow.Author.Tests.{not-true, not-false}
+use Rattle.limits.specs.Limits.{maxRecords}
+use Rattle.octets.specs.Lists.{any, select}
+use Rattle.octets.specs.Octets.{same, lowered}
+use Rattle.record.specs.Property.{property}
+use Rattle.rule.specs.RelevantSet.{CaaRecord}
+use Rattle.rule.specs.Authorizations.{grantee, consSome, grantees}
+use Rattle.granted.specs.Joined.{joined}
+use Rattle.granted.proofs.Joining.{joined-distinct}
+use Rattle.record_walk.specs.declared.Walk.{Walk}
+use Rattle.record_walk.specs.declared.Seen.{Seen as SeenAt}
+use Rattle.record_walk.specs.declared.Step.{Step}
+use Rattle.record_walk.specs.declared.Step.the-variants.{Seen, End}
+use Rattle.relevant.specs.Places.{setOf, hasTag}
+use Rattle.record_walk.specs.Walks.{nextOwned}
+use Rattle.property_tests.specs.DataTests.{tagOfData}
+use Rattle.record_walk.proofs.WalkSteps.{remaining, whole-set}
+use Rattle.record_walk.proofs.WalkLaws.{walk-ends, seen-there, dataOf}
+use Rattle.property_tests.proofs.TestLaws.{tells-tag}
+use Rattle.name_list.specs.declared.Span.{Span}
+use Rattle.name_list.specs.declared.Names.{Names}
+use Rattle.granted.specs.declared.GranteeRead.{GranteeRead}
+use Rattle.granted.specs.declared.GranteeRead.the-variants.{At, Nobody}
+use Rattle.name_list.specs.Places.{part, namesIn, pushed}
+use Rattle.granted.specs.Places.{granteeAt, granteeOfData, grantedBy}
+use Rattle.name_list.proofs.KeptNames.{part-here, names-none, pushed-full, pushed-count, pushed-names}
+use Rattle.record_walk.proofs.WalkNumbers.{number-grows, number-small}
+
+-- data grants as the record that holds it does
+tells-grantee : (d : List ℕ) (c : CaaRecord) → property d ≡ some (c .property) → granteeOfData d ≡ grantee c
+unfolding granteeOfData grantee
+tells-grantee d c e = rw e
+
+module _ (ms : List (List ℕ)) (n : List ℕ) (ns : List (List ℕ)) where
+  join-known : any (same n) ms ≡ true → joined ms (n ∷ ns) ≡ joined ms ns
+  join-known e = rw e
+
+  join-new : any (same n) ms ≡ false → joined ms (n ∷ ns) ≡ joined (ms ++ (n ∷ [])) ns
+  join-new e = rw e
+
+module _ (book x : List ℕ) (wild : Bool) where
+  -- those that the records left grant
+  abbrev pub toJoin : Walk → List (List ℕ)
+  toJoin w = grantees (select (hasTag wild) (remaining book x w))
+
+  -- at most one name for each record that the walk has passed
+  pub record Collected (names : Names) (w : Walk) : Type 0 where
+    pub joins : grantedBy book x wild ≡ joined (namesIn book names) (toJoin w)
+    pub few : names .count ≤ w .number
+    pub full : length (names .spans) ≡ maxRecords
+
+  pub none-collected : (spans : List Span) → length spans ≡ maxRecords → Collected (record { count = 0; spans = spans }) (record { at = 0; number = 0 })
+  unfolding grantedBy
+  none-collected spans h = record {
+    joins = rw (names-none book spans, ← whole-set book x) (sym (joined-distinct (grantees (select (hasTag wild) (setOf book x)))));
+    few = omega arith;
+    full = h;
+  }
+
+  module _ (names : Names) (w : Walk) (so-far : Collected names w) (o : Step) (f : o ≡ nextOwned book x w) where
+    pub all-collected : o ≡ End → namesIn book names ≡ grantedBy book x wild
+    all-collected g = sym (so-far .joins ∙ rw (walk-ends book x w o f g))
+
+    module _ (c : SeenAt) (g : o ≡ Seen c) where
+      passed : grantedBy book x wild ≡ joined (namesIn book names) (toJoin (c .walk)) → Collected names (c .walk)
+      passed e = record { joins = e; few = omega (arith, so-far .few, number-grows book x w o f c g); full = so-far .full }
+
+      room : names .count < maxRecords
+      room = omega (arith, so-far .few, number-grows book x w o f c g, number-small book x w o f c g)
+
+      module _ (t : Bool) (test : t ≡ tagOfData wild (dataOf book c)) where
+        pub untagged : t ≡ false → Collected names (c .walk)
+        untagged e =
+            let (cr, s) = seen-there book x w o f c g in
+            let fails : hasTag wild cr ≡ false = sym (tells-tag wild _ cr (s .holds)) ∙ sym test ∙ e in
+            passed (so-far .joins ∙ rw (s .left, fails))
+
+        -- r is the answer of grantee about its data
+        module _
+            (e : t ≡ true) (r : GranteeRead)
+            (read : granteeAt book r ≡ granteeOfData (part book (record { from = c .rdata; to = c .walk .at }))) where
+          granted : grantedBy book x wild ≡ joined (namesIn book names) (consSome (granteeAt book r) (toJoin (c .walk)))
+          granted =
+              let (cr, s) = seen-there book x w o f c g in
+              let passes : hasTag wild cr ≡ true = sym (tells-tag wild _ cr (s .holds)) ∙ sym test ∙ e in
+              let there = part-here book (record { from = c .rdata; to = c .walk .at }) (s .inside) in
+              so-far .joins ∙ rw (s .left, passes, read, ← there, tells-grantee _ cr (s .holds))
+
+          pub nobody : r ≡ Nobody → Collected names (c .walk)
+          nobody k = passed (granted ∙ rw k)
+
+          module _
+              (at : Span) (k : r ≡ At at) (n : List ℕ) (name : n ≡ part book at) (b : Bool)
+              (held : b ≡ any (same (lowered n)) (namesIn book names)) where
+            pub known : not b ≡ false → Collected names (c .walk)
+            known h = passed (granted ∙ rw (k, ← name) (join-known (namesIn book names) (lowered n) (toJoin (c .walk)) (sym held ∙ not-false b h)))
+
+            pub new : (ms : Names) → ms ≡ pushed names at → not b ≡ true → Collected ms (c .walk)
+            new ms p h = rw p (record {
+              joins =
+                  rw (pushed-names names at (so-far .full) book room)
+                  (granted ∙ rw (k, ← name) (join-new (namesIn book names) (lowered n) (toJoin (c .walk)) (sym held ∙ not-true b h)));
+              few = omega (arith, so-far .few, number-grows book x w o f c g, pushed-count names at (so-far .full));
+              full = pushed-full names at (so-far .full);
+            })

@@ -1,0 +1,115 @@
+-- `granted_by` meets its contract. The loop's invariant: the names so far, joined by those that the records left grant, are those granted.
+use lib.ListN.{length}
+use borrow.Author.Needs.{needs}
+use Rattle.limits.specs.Limits.{maxRecords}
+use Rattle.record_walk.proofs.WalkSteps.{remaining}
+use Rattle.record_walk.proofs.WalkLaws.{seen-order, seen-inside, fewer-left}
+use Rattle.granted.proofs.GrantedWalk.{Collected, none-collected, all-collected, new, known, nobody, untagged}
+use Rattle.granted.proofs.granted_by.Statement.{statement}
+use Rattle.granted.proofs.granted_by.Tie as tie
+
+abbrev Inv-loop : tie.InvT-loop
+Inv-loop book owner wild names₀ w₀ names w = Collected book owner wild names w
+
+abbrev μ-loop : tie.MeasureT-loop
+μ-loop book owner wild names₀ w₀ names w = length (remaining book owner w)
+
+loop-holds : tie.Need-loop-holds Inv-loop μ-loop
+unfolding maxRecords
+loop-holds c = search (needs, none-collected)
+
+next-requires : tie.Need-next-requires Inv-loop μ-loop
+next-requires c κs = search needs
+
+enum-known-c : tie.Need-enum-known-c Inv-loop μ-loop
+enum-known-c c = search needs
+
+enum-told : tie.Need-enum-told Inv-loop μ-loop
+enum-told c = search needs
+
+returns : tie.Need-returns Inv-loop μ-loop
+returns c = search (needs, all-collected)
+
+sub-has-tag : tie.Need-sub-has-tag Inv-loop μ-loop
+sub-has-tag c = search (needs, seen-order)
+
+part-has-tag-start : tie.Need-part-has-tag-start Inv-loop μ-loop
+part-has-tag-start c = search (needs, seen-order)
+
+part-has-tag-end : tie.Need-part-has-tag-end Inv-loop μ-loop
+part-has-tag-end c = search (needs, seen-inside)
+
+has-tag-requires : tie.Need-has-tag-requires Inv-loop μ-loop
+has-tag-requires c κs = search needs
+
+grantee-requires : tie.Need-grantee-requires Inv-loop μ-loop
+grantee-requires c κs = search needs
+
+enum-known-at : tie.Need-enum-known-at Inv-loop μ-loop
+enum-known-at c = search needs
+
+part-requires : tie.Need-part-requires Inv-loop μ-loop
+part-requires c κs = search needs
+
+holds-requires : tie.Need-holds-requires Inv-loop μ-loop
+holds-requires c κs = search needs
+
+push-requires : tie.Need-push-requires Inv-loop μ-loop
+push-requires c κs = search needs
+
+enum-told-2 : tie.Need-enum-told-2 Inv-loop μ-loop
+enum-told-2 c = search needs
+
+loop-less : tie.Need-loop-less Inv-loop μ-loop
+loop-less c = search (needs, fewer-left)
+
+loop-again : tie.Need-loop-again Inv-loop μ-loop
+loop-again c = search (needs, new)
+
+loop-less-2 : tie.Need-loop-less-2 Inv-loop μ-loop
+loop-less-2 c = search (needs, fewer-left)
+
+loop-again-2 : tie.Need-loop-again-2 Inv-loop μ-loop
+loop-again-2 c = search (needs, known)
+
+loop-less-3 : tie.Need-loop-less-3 Inv-loop μ-loop
+loop-less-3 c = search (needs, fewer-left)
+
+loop-again-3 : tie.Need-loop-again-3 Inv-loop μ-loop
+loop-again-3 c = search (needs, nobody)
+
+loop-less-4 : tie.Need-loop-less-4 Inv-loop μ-loop
+loop-less-4 c = search (needs, fewer-left)
+
+loop-again-4 : tie.Need-loop-again-4 Inv-loop μ-loop
+loop-again-4 c = search (needs, untagged)
+
+pub granted-by-spec : {M : Type 1} → statement M
+granted-by-spec =
+    tie.close
+    (tie.spec
+    Inv-loop
+    μ-loop
+    loop-holds
+    next-requires
+    enum-known-c
+    enum-told
+    returns
+    sub-has-tag
+    part-has-tag-start
+    part-has-tag-end
+    has-tag-requires
+    grantee-requires
+    enum-known-at
+    part-requires
+    holds-requires
+    push-requires
+    enum-told-2
+    loop-less
+    loop-again
+    loop-less-2
+    loop-again-2
+    loop-less-3
+    loop-again-3
+    loop-less-4
+    loop-again-4)

@@ -1,0 +1,3 @@
+pub mod KeptNames
+pub mod NestedParts
+pub mod NameLoops

@@ -1,0 +1,48 @@
+// The issuers that may sign for the names so far, narrowed by one more name.
+use name_list::Names;
+use name_list::Span;
+use restriction::Governing;
+ghost use Rattle.narrowing.specs.Places.{NarrowedBy};
+
+// The issuers that may sign for the names so far: anyone, or, once a name was restricted, those that all restricted names
+// grant. With the records that governed the last of these.
+pub struct SoFar {
+    pub restricted: bool,
+    pub names: Names,
+    pub owner: Span,
+    pub wild: bool,
+}
+
+// Narrowed by one more name. Names that follow each other are often governed by the same records.
+pub fn narrow(request: &[u8], book: &[u8], before: SoFar, by: Governing) -> SoFar
+    ensures { λ r. ⌜ NarrowedBy (now (request .entry)) (now (book .entry)) before by r ⌝ }
+{
+    let owner = by.owner;
+    let wild = by.wild;
+    if !before.restricted {
+        return SoFar {
+            restricted: true,
+            names: granted::granted_by(book, name_list::part(request, owner), wild),
+            owner,
+            wild,
+        };
+    }
+    if before.wild == wild {
+        if text::same_ignoring_case(
+            name_list::part(request, before.owner),
+            name_list::part(request, owner),
+        ) {
+            return before;
+        }
+    }
+    SoFar {
+        restricted: true,
+        names: name_list::common(
+            book,
+            before.names,
+            granted::granted_by(book, name_list::part(request, owner), wild),
+        ),
+        owner,
+        wild,
+    }
+}

@@ -1,0 +1,4 @@
+pub mod Narrowing
+pub mod LastGoverning
+pub mod FoundLaws
+pub mod IssuersWalk

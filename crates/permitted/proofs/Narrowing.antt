@@ -1,0 +1,67 @@
+-- Issuers found name by name are those of all names together.
+use Prim.Native.Nat.{ℕ}
+use mathlib.Core.Path.{_≡_, refl, sym, ap, _∙_, fun-ext}
+use mathlib.Core.Logic.{inl, inr}
+use mathlib.Core.Bool.{Bool, true, false, _&&_}
+use mathlib.Core.List.{List, [], _∷_}
+use Rattle.octets.specs.Lists.{all, any, select, All, all-nil, all-cons}
+use Rattle.octets.specs.Octets.{same, lowered}
+use Rattle.octets.proofs.ListLaws.{or-true, All-imp}
+use Rattle.octets.proofs.Texts.{same-equal}
+use Rattle.octets.proofs.SelectTests.{select-passed, select-every, select-nothing, select-twice}
+use Rattle.rule.specs.Authorizations.{Authorization, unrestricted, forbidden, granted, permits}
+use Rattle.rule.specs.IssuerLists.{Issuers, anyone, listed, distinct, issuers}
+use Rattle.rule.proofs.DistinctLaws.{any-distinct}
+use Rattle.restriction.proofs.OneName.{issuers-granted}
+use Rattle.narrowing.specs.Narrowing.{narrowed}
+use Rattle.permitted.specs.Narrowing.{narrowedBy}
+
+-- a test is as good as twice
+and-same : (t : Bool) → t && t ≡ t
+and-same true = refl
+and-same false = refl
+
+pub narrowed-end : (i : Issuers) → narrowedBy i [] ≡ i
+narrowed-end anyone = refl
+narrowed-end (listed ms) = ap listed (select-every ms)
+
+-- a list of nobody stays one
+pub narrowed-nobody : (says : List Authorization) → narrowedBy (listed []) says ≡ listed []
+narrowed-nobody says = refl
+
+-- one more name that grants to these
+pub narrowed-granted :
+    (i : Issuers) (r : ℕ) (ns : List (List ℕ)) (says : List Authorization) →
+    narrowedBy i (granted r ns ∷ says) ≡ narrowedBy (narrowed i (listed (distinct ns))) says
+narrowed-granted anyone r ns says = refl
+narrowed-granted (listed ms) r ns says =
+    ap listed
+    (ap (λ p. select p ms) (fun-ext (λ m. ap (λ t. t && all (permits m) says) (sym (any-distinct (same (lowered m)) ns))))
+    ∙ sym (select-twice (λ m. any (same (lowered m)) (distinct ns)) (λ m. all (permits m) says) ms))
+
+-- one more name: the issuers so far are narrowed by its own
+pub narrowed-more :
+    (i : Issuers) (a : Authorization) (says : List Authorization) → narrowedBy i (a ∷ says) ≡ narrowedBy (narrowed i (issuers (a ∷ []))) says
+narrowed-more anyone unrestricted says = refl
+narrowed-more (listed ms) unrestricted says = refl
+narrowed-more anyone (forbidden r) says = refl
+narrowed-more (listed ms) (forbidden r) says =
+    ap listed (select-nothing ms ∙ sym (ap (select (λ m. all (permits m) says)) (select-nothing ms)))
+narrowed-more i (granted r ns) says = rw (issuers-granted r ns) (narrowed-granted i r ns says)
+
+-- those in small letters are among themselves
+all-among : (ns : List (List ℕ)) → All (λ n. lowered n ≡ n) ns → All (λ m. any (same (lowered m)) ns ≡ true) ns
+all-among [] all-nil = all-nil
+all-among (n ∷ ns) (all-cons e h) = all-cons
+    (or-true (same (lowered n) n) (any (same (lowered n)) ns) .1 (inl (same-equal (lowered n) n .1 e)))
+    (All-imp (λ m k. or-true (same (lowered m) n) (any (same (lowered m)) ns) .1 (inr k)) (all-among ns h))
+
+-- narrowing again by the same changes nothing
+pub narrowed-again :
+    (i : Issuers) (ns : List (List ℕ)) → All (λ n. lowered n ≡ n) ns → narrowed (narrowed i (listed ns)) (listed ns) ≡ narrowed i (listed ns)
+narrowed-again anyone ns h = ap listed (select-passed (λ m. any (same (lowered m)) ns) (all-among ns h))
+narrowed-again (listed ms) ns h =
+    ap listed (select-twice among among ms ∙ ap (λ p. select p ms) (fun-ext (λ m. and-same (among m))))
+  where
+    among : List ℕ → Bool
+    among m = any (same (lowered m)) ns

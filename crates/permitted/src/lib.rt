@@ -1,0 +1,95 @@
+// The issuers that may sign for all names of a request.
+use limits::MAX_RECORDS;
+use name_list::Names;
+use name_list::Span;
+use narrowing::SoFar;
+use refusal::Check;
+use refusal::Refusal;
+use request_reader::RequestedRead;
+use restriction::Restriction;
+ghost use mathlib.Core.Path.{_≡_};
+ghost use Rattle.permitted.specs.Found.{foundIn, findIssuers};
+
+// Who may sign: the names beside it where they are listed.
+pub enum Answer {
+    Refused(Refusal),
+    Anyone,
+    Listed,
+}
+
+pub struct Permitted {
+    pub answer: Answer,
+    pub names: Names,
+}
+
+// The request is checked, then the book; then the issuers are narrowed name by name.
+pub fn issuers_of(request: &[u8], book: &[u8]) -> Permitted
+    ensures { λ r. ⌜ foundIn (now (book .entry)) r ≡ findIssuers (now (request .entry)) (now (book .entry)) ⌝ }
+{
+    let empty = Names {
+        count: 0,
+        spans: [Span { from: 0, to: 0 }; MAX_RECORDS],
+    };
+    if let Check::Refused(r) = request_reader::check_request(request) {
+        return Permitted {
+            answer: Answer::Refused(r),
+            names: empty,
+        };
+    }
+    if let Check::Refused(r) = record_reader::check_book(book) {
+        return Permitted {
+            answer: Answer::Refused(r),
+            names: empty,
+        };
+    }
+    let mut so_far = SoFar {
+        restricted: false,
+        names: empty,
+        owner: Span { from: 0, to: 0 },
+        wild: false,
+    };
+    let mut at: usize = 0;
+    while at < request.len() {
+        // An accepted request has no bad name; one would be granted to nobody.
+        let RequestedRead::Good(n) = request_reader::requested_name(request, at) else {
+            return Permitted {
+                answer: Answer::Listed,
+                names: empty,
+            };
+        };
+        let base = n.base;
+        let next = n.next;
+        match restriction::restriction_of(
+            request,
+            book,
+            Span {
+                from: base,
+                to: next,
+            },
+            n.wildcard,
+        ) {
+            Restriction::Open => {}
+            Restriction::Forbidden => {
+                return Permitted {
+                    answer: Answer::Listed,
+                    names: empty,
+                };
+            }
+            Restriction::Governed(g) => {
+                so_far = narrowing::narrow(request, book, so_far, g);
+            }
+        }
+        at = next;
+    }
+    let names = so_far.names;
+    if !so_far.restricted {
+        return Permitted {
+            answer: Answer::Anyone,
+            names,
+        };
+    }
+    Permitted {
+        answer: Answer::Listed,
+        names,
+    }
+}

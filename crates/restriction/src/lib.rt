@@ -1,0 +1,58 @@
+// What CAA says of one requested name: the records that govern it, if any.
+use name_list::Span;
+use relevant::Found;
+use relevant::Near;
+ghost use mathlib.Core.Path.{_≡_};
+ghost use mathlib.Core.List.{[], _∷_};
+ghost use Rattle.rule.specs.Authorizations.{decided};
+ghost use Rattle.rule.specs.IssuerLists.{issuers};
+ghost use Rattle.relevant.specs.Places.{relevantAt};
+ghost use Rattle.name_list.specs.Places.{part};
+ghost use Rattle.restriction.specs.Places.{restrictedTo};
+
+// The records that govern a name: their owner, a text in the request, and whether they are its issuewild records.
+pub struct Governing {
+    pub owner: Span,
+    pub wild: bool,
+}
+
+// What CAA says of one requested name.
+pub enum Restriction {
+    Open,
+    // By an unknown critical property.
+    Forbidden,
+    Governed(Governing),
+}
+
+// Of the name X, a text in the request, or of *.X.
+pub fn restriction_of(request: &[u8], book: &[u8], name: Span, wildcard: bool) -> Restriction
+    ensures { λ r. ⌜ restrictedTo (now (request .entry)) (now (book .entry)) r ≡ issuers (decided wildcard (relevantAt (now (book .entry)) (part (now (request .entry)) name)) ∷ []) ⌝ }
+{
+    let x = name_list::part(request, name);
+    let Near::At(at) = nearest_owner::nearest(book, x) else {
+        return Restriction::Open;
+    };
+    let owner = &x[at..];
+    if let Found::At(_) = critical_records::first_unknown_critical(book, owner) {
+        return Restriction::Forbidden;
+    }
+    let place = Span {
+        from: name.from + at,
+        to: name.to,
+    };
+    if wildcard {
+        if let Found::At(_) = issue_records::first_with_tag(book, owner, true) {
+            return Restriction::Governed(Governing {
+                owner: place,
+                wild: true,
+            });
+        }
+    }
+    let Found::At(_) = issue_records::first_with_tag(book, owner, false) else {
+        return Restriction::Open;
+    };
+    Restriction::Governed(Governing {
+        owner: place,
+        wild: false,
+    })
+}
