@@ -4,6 +4,8 @@ use native.Mathlib.Omega.{arith}
 use mathlib.Core.Path.{_≡_, refl}
 use mathlib.Core.List.{List, [], _∷_}
 use mathlib.Core.Option.{Option, none, some}
+use Rattle.octets.specs.Lists.{All}
+use Rattle.octets.proofs.ListLaws.{All-head, All-tail}
 use Rattle.refusal.specs.declared.Refusal.{Refusal}
 use Rattle.refusal.specs.declared.Check.{Check}
 use Rattle.refusal.specs.declared.Check.the-variants.{Accepted, Refused as CheckRefused}
@@ -13,6 +15,7 @@ use Rattle.request.specs.Request.{requestRefusal}
 use Rattle.record.specs.Records.{bookRefusal}
 use Rattle.rule.specs.IssuerLists.{Issuers, anyone, listed, issuers}
 use Rattle.rule.specs.Calls.{authorizations, firstRefusal}
+use Rattle.input_checks.proofs.CheckLaws.{none-refuses}
 use Rattle.name_list.specs.Places.{namesIn}
 use Rattle.permitted.specs.declared.Answer.the-variants.{Refused, Anyone, Listed}
 use Rattle.permitted.specs.declared.Permitted.{Permitted}
@@ -25,15 +28,22 @@ module _ (request book : List ℕ) where
   unfolding findIssuers
   both-accepted r b e = rw (r, b, e)
 
-  module _ (c : Check) (f : c ≡ checked (requestRefusal request)) where
-    pub request-refused : (r : Refusal) → c ≡ CheckRefused r → refused r ≡ findIssuers request book
+  module _ (c : Check) (f : c ≡ checked (firstRefusal (requestRefusal request ∷ bookRefusal book ∷ []))) where
+    pub input-refused : (r : Refusal) → c ≡ CheckRefused r → refused r ≡ findIssuers request book
     unfolding findIssuers
-    request-refused r g = rw (checks.refused (requestRefusal request) f r g)
+    input-refused r g = rw (checks.refused (firstRefusal (requestRefusal request ∷ bookRefusal book ∷ [])) f r g)
 
-    pub book-refused :
-        c ≡ Accepted → (d : Check) → d ≡ checked (bookRefusal book) → (r : Refusal) → d ≡ CheckRefused r → refused r ≡ findIssuers request book
-    unfolding findIssuers
-    book-refused g d h r i = rw (checks.accepted (requestRefusal request) f g, checks.refused (bookRefusal book) h r i)
+    module _ (g : c ≡ Accepted) where
+      none-refused : All (λ o. o ≡ none) (requestRefusal request ∷ bookRefusal book ∷ [])
+      none-refused =
+          none-refuses (requestRefusal request ∷ bookRefusal book ∷ [])
+          (checks.accepted (firstRefusal (requestRefusal request ∷ bookRefusal book ∷ [])) f g)
+
+      pub request-accepted : requestRefusal request ≡ none
+      request-accepted = All-head none-refused
+
+      pub book-accepted : bookRefusal book ≡ none
+      book-accepted = All-head (All-tail none-refused)
 
 -- both are accepted, and these may sign
 pub record Permits (request book : List ℕ) (i : Issuers) : Type 0 where

@@ -22,7 +22,7 @@ pub struct Permitted {
     pub names: Names,
 }
 
-// The request is checked, then the book; then the issuers are narrowed name by name.
+// Request and book are checked; then the issuers are narrowed name by name.
 pub fn issuers_of(request: &[u8], book: &[u8]) -> Permitted
     ensures { λ r. ⌜ foundIn (now (book .entry)) r ≡ findIssuers (now (request .entry)) (now (book .entry)) ⌝ }
 {
@@ -30,13 +30,7 @@ pub fn issuers_of(request: &[u8], book: &[u8]) -> Permitted
         count: 0,
         spans: [Span { from: 0, to: 0 }; MAX_RECORDS],
     };
-    if let Check::Refused(r) = request_reader::check_request(request) {
-        return Permitted {
-            answer: Answer::Refused(r),
-            names: empty,
-        };
-    }
-    if let Check::Refused(r) = record_reader::check_book(book) {
+    if let Check::Refused(r) = input_checks::check_request_and_book(request, book) {
         return Permitted {
             answer: Answer::Refused(r),
             names: empty,

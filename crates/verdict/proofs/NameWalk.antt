@@ -10,6 +10,7 @@ use lib.ListN.{length, take, drop}
 use Rattle.limits.specs.Limits.{maxNames}
 use Rattle.octets.specs.Lists.{any}
 use Rattle.octets.specs.Octets.{same, lowered}
+use Rattle.octets.proofs.ListLaws.{All-head, All-tail}
 use Rattle.refusal.specs.Checks.{checked}
 use Rattle.refusal.proofs.Checked.{refused, accepted}
 use Rattle.refusal.specs.declared.RecordNo.{RecordNo}
@@ -22,18 +23,18 @@ use Rattle.name.specs.Theorems.{GoodName}
 use Rattle.request_reader.specs.declared.Requested.{Requested}
 use Rattle.request_reader.specs.declared.RequestedRead.{RequestedRead}
 use Rattle.request_reader.specs.declared.RequestedRead.the-variants.{Good, Fault}
-use Rattle.request.specs.Request.{isWildcard, base, requestedNames, requestRefusal}
+use Rattle.request.specs.Request.{isWildcard, base, requestedNames}
 use Rattle.request_reader.specs.Places.{requestedAt}
 use Rattle.request_reader.proofs.RequestPlaces.{requested-there}
 use Rattle.request_reader.proofs.AcceptedNames.{NamesLeft, NextName, all-names, names-end, names-few, names-good, next-name}
-use Rattle.issuer.specs.Issuer.{issuerRefusal}
 use Rattle.record.specs.Records.{records, bookRefusal}
 use Rattle.rule.specs.declared.Judgement.{Judgement}
 use Rattle.rule.specs.declared.Judgement.the-variants.{Permitted, UnknownCritical, NotGranted, Refused}
 use Rattle.rule.specs.RelevantSet.{caaRecords}
 use Rattle.rule.specs.Authorizations.{Authorization, unrestricted, forbidden, granted, authorization, permits}
 use Rattle.rule.specs.Verdicts.{denied, verdictFrom, verdict}
-use Rattle.rule.specs.Calls.{authorizations, judge}
+use Rattle.rule.specs.Calls.{authorizations, firstRefusal, judgeChecks, judge}
+use Rattle.input_checks.proofs.CheckLaws.{none-refuses}
 use Rattle.relevant.proofs.ByPlace.{authorization-by-place}
 use Rattle.name_verdict.specs.declared.NameVerdict.{NameVerdict}
 use Rattle.name_verdict.specs.declared.NameVerdict.the-variants.{Permitted as Passed, UnknownCritical as Critical, NotGranted as Ungranted}
@@ -73,29 +74,23 @@ module _ (request issuer book : List ℕ) where
     pub good-book : bookRefusal book ≡ none
 
   -- the checks that come before
-  module _ (c : Check) (f : c ≡ checked (requestRefusal request)) where
-    pub request-refused : (r : Refusal) → c ≡ CheckRefused r → Refused r ≡ judge request issuer book
+  module _ (c : Check) (f : c ≡ checked (firstRefusal (judgeChecks request issuer book))) where
+    pub input-refused : (r : Refusal) → c ≡ CheckRefused r → Refused r ≡ judge request issuer book
     unfolding judge
-    request-refused r g = rw (refused (requestRefusal request) f r g)
+    input-refused r g = rw (refused (firstRefusal (judgeChecks request issuer book)) f r g)
 
-    module _ (g : c ≡ Accepted) (d : Check) (h : d ≡ checked (issuerRefusal issuer)) where
-      pub issuer-refused : (r : Refusal) → d ≡ CheckRefused r → Refused r ≡ judge request issuer book
-      unfolding judge
-      issuer-refused r i = rw (accepted (requestRefusal request) f g, refused (issuerRefusal issuer) h r i)
+    module _ (g : c ≡ Accepted) where
+      none-refused : firstRefusal (judgeChecks request issuer book) ≡ none
+      none-refused = accepted (firstRefusal (judgeChecks request issuer book)) f g
 
-      module _ (i : d ≡ Accepted) (e : Check) (j : e ≡ checked (bookRefusal book)) where
-        pub book-refused : (r : Refusal) → e ≡ CheckRefused r → Refused r ≡ judge request issuer book
-        unfolding judge
-        book-refused r l = rw (accepted (requestRefusal request) f g, accepted (issuerRefusal issuer) h i, refused (bookRefusal book) j r l)
-
-        pub names-start : e ≡ Accepted → (at k : ℕ) → at ≡ 0 → k ≡ 0 → Judged at k
-        unfolding judge authorizations verdict
-        names-start l at k a b = rw (a, b) (record {
-          names = requestedNames request;
-          left = all-names request (accepted (requestRefusal request) f g);
-          answer = rw (accepted (requestRefusal request) f g, accepted (issuerRefusal issuer) h i, accepted (bookRefusal book) j l);
-          good-book = accepted (bookRefusal book) j l;
-        })
+      pub names-start : (at k : ℕ) → at ≡ 0 → k ≡ 0 → Judged at k
+      unfolding judge authorizations verdict
+      names-start at k a b = rw (a, b) (record {
+        names = requestedNames request;
+        left = all-names request (All-head (none-refuses (judgeChecks request issuer book) none-refused));
+        answer = rw none-refused;
+        good-book = All-head (All-tail (All-tail (none-refuses (judgeChecks request issuer book) none-refused)));
+      })
 
   module _ (at k : ℕ) (w : Judged at k) where
     pub all-passed : length request ≤ at → Permitted ≡ judge request issuer book

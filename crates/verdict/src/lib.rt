@@ -50,13 +50,7 @@ fn judge_within(
 pub fn judge(request: &[u8], issuer: &[u8], book: &[u8]) -> Judgement
     ensures { λ r. ⌜ r ≡ judge (now (request .entry)) (now (issuer .entry)) (now (book .entry)) ⌝ }
 {
-    if let Check::Refused(r) = request_reader::check_request(request) {
-        return Judgement::Refused(r);
-    }
-    if let Check::Refused(r) = issuer_reader::check_issuer(issuer) {
-        return Judgement::Refused(r);
-    }
-    if let Check::Refused(r) = record_reader::check_book(book) {
+    if let Check::Refused(r) = input_checks::check_inputs(request, issuer, book) {
         return Judgement::Refused(r);
     }
     let critical = critical_records::any_unknown_critical(book);

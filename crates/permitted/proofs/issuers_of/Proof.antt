@@ -2,9 +2,8 @@
 use Prim.Native.Nat.{_-_}
 use lib.ListN.{length}
 use borrow.Author.Needs.{needs}
-use Rattle.refusal.proofs.Checked.{accepted}
 use Rattle.request_reader.proofs.RequestPlaces.{left-less}
-use Rattle.permitted.proofs.FoundLaws.{request-refused, book-refused}
+use Rattle.permitted.proofs.FoundLaws.{input-refused, request-accepted, book-accepted}
 use Rattle.permitted.proofs.IssuersWalk.{Narrowing, names-start, no-bad-name, name-forbidden, name-open, name-narrowed, anyone-may, listed-may}
 use Rattle.permitted.proofs.issuers_of.Statement.{statement}
 use Rattle.permitted.proofs.issuers_of.Tie as tie
@@ -15,32 +14,20 @@ Inv-loop request book empty so-far₀ at₀ so-far at = Narrowing request book s
 abbrev μ-loop : tie.MeasureT-loop
 μ-loop request book empty so-far₀ at₀ so-far at = length request - at
 
-check-request-requires : tie.Need-check-request-requires Inv-loop μ-loop
-check-request-requires c κs = search needs
+check-request-and-book-requires : tie.Need-check-request-and-book-requires Inv-loop μ-loop
+check-request-and-book-requires c κs = search needs
 
 enum-known-r : tie.Need-enum-known-r Inv-loop μ-loop
 enum-known-r c = search needs
 
 returns : tie.Need-returns Inv-loop μ-loop
-returns c = search (needs, request-refused)
+returns c = search (needs, input-refused)
 
 enum-told : tie.Need-enum-told Inv-loop μ-loop
 enum-told c = search needs
 
-check-book-requires : tie.Need-check-book-requires Inv-loop μ-loop
-check-book-requires c κs = search needs
-
-enum-known-r-2 : tie.Need-enum-known-r-2 Inv-loop μ-loop
-enum-known-r-2 c = search needs
-
-returns-2 : tie.Need-returns-2 Inv-loop μ-loop
-returns-2 c = search (needs, book-refused)
-
-enum-told-2 : tie.Need-enum-told-2 Inv-loop μ-loop
-enum-told-2 c = search needs
-
 loop-holds : tie.Need-loop-holds Inv-loop μ-loop
-loop-holds c = search (needs, names-start, accepted)
+loop-holds c = search (needs, names-start, request-accepted, book-accepted)
 
 requested-name-requires : tie.Need-requested-name-requires Inv-loop μ-loop
 requested-name-requires c κs = search needs
@@ -48,23 +35,23 @@ requested-name-requires c κs = search needs
 enum-known-n : tie.Need-enum-known-n Inv-loop μ-loop
 enum-known-n c = search needs
 
-enum-told-3 : tie.Need-enum-told-3 Inv-loop μ-loop
-enum-told-3 c = search needs
+enum-told-2 : tie.Need-enum-told-2 Inv-loop μ-loop
+enum-told-2 c = search needs
 
-returns-3 : tie.Need-returns-3 Inv-loop μ-loop
-returns-3 c = search (needs, no-bad-name)
+returns-2 : tie.Need-returns-2 Inv-loop μ-loop
+returns-2 c = search (needs, no-bad-name)
 
 restriction-of-requires : tie.Need-restriction-of-requires Inv-loop μ-loop
 restriction-of-requires c κs = search needs
 
+enum-told-3 : tie.Need-enum-told-3 Inv-loop μ-loop
+enum-told-3 c = search needs
+
 enum-told-4 : tie.Need-enum-told-4 Inv-loop μ-loop
 enum-told-4 c = search needs
 
-enum-told-5 : tie.Need-enum-told-5 Inv-loop μ-loop
-enum-told-5 c = search needs
-
-returns-4 : tie.Need-returns-4 Inv-loop μ-loop
-returns-4 c = search (needs, name-forbidden)
+returns-3 : tie.Need-returns-3 Inv-loop μ-loop
+returns-3 c = search (needs, name-forbidden)
 
 enum-known-g : tie.Need-enum-known-g Inv-loop μ-loop
 enum-known-g c = search needs
@@ -84,11 +71,11 @@ loop-less-2 c = search (needs, left-less)
 loop-again-2 : tie.Need-loop-again-2 Inv-loop μ-loop
 loop-again-2 c = search (needs, name-narrowed)
 
-returns-5 : tie.Need-returns-5 Inv-loop μ-loop
-returns-5 c = search (needs, anyone-may)
+returns-4 : tie.Need-returns-4 Inv-loop μ-loop
+returns-4 c = search (needs, anyone-may)
 
-returns-6 : tie.Need-returns-6 Inv-loop μ-loop
-returns-6 c = search (needs, listed-may)
+returns-5 : tie.Need-returns-5 Inv-loop μ-loop
+returns-5 c = search (needs, listed-may)
 
 pub issuers-of-spec : {M : Type 1} → statement M
 issuers-of-spec =
@@ -96,28 +83,24 @@ issuers-of-spec =
     (tie.spec
     Inv-loop
     μ-loop
-    check-request-requires
+    check-request-and-book-requires
     enum-known-r
     returns
     enum-told
-    check-book-requires
-    enum-known-r-2
-    returns-2
-    enum-told-2
     loop-holds
     requested-name-requires
     enum-known-n
-    enum-told-3
-    returns-3
+    enum-told-2
+    returns-2
     restriction-of-requires
+    enum-told-3
     enum-told-4
-    enum-told-5
-    returns-4
+    returns-3
     enum-known-g
     narrow-requires
     loop-less
     loop-again
     loop-less-2
     loop-again-2
-    returns-5
-    returns-6)
+    returns-4
+    returns-5)

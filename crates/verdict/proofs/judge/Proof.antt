@@ -5,7 +5,7 @@ use borrow.Author.Needs.{needs}
 use Rattle.limits.specs.Limits.{maxNames}
 use Rattle.request_reader.proofs.RequestPlaces.{next-inside, left-less}
 use Rattle.verdict.proofs.NameWays.{critical-known}
-use Rattle.verdict.proofs.NameWalk.{Judged, request-refused, issuer-refused, book-refused, names-start, no-bad-name, base-first, name-critical, name-ungranted, few, name-passed, all-passed}
+use Rattle.verdict.proofs.NameWalk.{Judged, input-refused, names-start, no-bad-name, base-first, name-critical, name-ungranted, few, name-passed, all-passed}
 use Rattle.verdict.proofs.judge.Statement.{statement}
 use Rattle.verdict.proofs.judge.Tie as tie
 
@@ -15,41 +15,17 @@ Inv-loop request issuer book critical at₀ k₀ at k = Judged request issuer bo
 abbrev μ-loop : tie.MeasureT-loop
 μ-loop request issuer book critical at₀ k₀ at k = length request - at
 
-check-request-requires : tie.Need-check-request-requires Inv-loop μ-loop
-check-request-requires c κs = search needs
+check-inputs-requires : tie.Need-check-inputs-requires Inv-loop μ-loop
+check-inputs-requires c κs = search needs
 
 enum-known-r : tie.Need-enum-known-r Inv-loop μ-loop
 enum-known-r c = search needs
 
 returns : tie.Need-returns Inv-loop μ-loop
-returns c = search (needs, request-refused)
+returns c = search (needs, input-refused)
 
 enum-told : tie.Need-enum-told Inv-loop μ-loop
 enum-told c = search needs
-
-check-issuer-requires : tie.Need-check-issuer-requires Inv-loop μ-loop
-check-issuer-requires c κs = search needs
-
-enum-known-r-2 : tie.Need-enum-known-r-2 Inv-loop μ-loop
-enum-known-r-2 c = search needs
-
-returns-2 : tie.Need-returns-2 Inv-loop μ-loop
-returns-2 c = search (needs, issuer-refused)
-
-enum-told-2 : tie.Need-enum-told-2 Inv-loop μ-loop
-enum-told-2 c = search needs
-
-check-book-requires : tie.Need-check-book-requires Inv-loop μ-loop
-check-book-requires c κs = search needs
-
-enum-known-r-3 : tie.Need-enum-known-r-3 Inv-loop μ-loop
-enum-known-r-3 c = search needs
-
-returns-3 : tie.Need-returns-3 Inv-loop μ-loop
-returns-3 c = search (needs, book-refused)
-
-enum-told-3 : tie.Need-enum-told-3 Inv-loop μ-loop
-enum-told-3 c = search needs
 
 any-unknown-critical-requires : tie.Need-any-unknown-critical-requires Inv-loop μ-loop
 any-unknown-critical-requires c κs = search needs
@@ -63,11 +39,11 @@ requested-name-requires c κs = search needs
 enum-known-n : tie.Need-enum-known-n Inv-loop μ-loop
 enum-known-n c = search needs
 
-enum-told-4 : tie.Need-enum-told-4 Inv-loop μ-loop
-enum-told-4 c = search needs
+enum-told-2 : tie.Need-enum-told-2 Inv-loop μ-loop
+enum-told-2 c = search needs
 
-returns-4 : tie.Need-returns-4 Inv-loop μ-loop
-returns-4 c = search (needs, no-bad-name)
+returns-2 : tie.Need-returns-2 Inv-loop μ-loop
+returns-2 c = search (needs, no-bad-name)
 
 sub-judge-within : tie.Need-sub-judge-within Inv-loop μ-loop
 sub-judge-within c = search (needs, base-first)
@@ -81,20 +57,20 @@ part-judge-within-end c = search (needs, next-inside)
 judge-within-requires : tie.Need-judge-within-requires Inv-loop μ-loop
 judge-within-requires c κs = search (needs, critical-known)
 
-enum-told-5 : tie.Need-enum-told-5 Inv-loop μ-loop
-enum-told-5 c = search needs
+enum-told-3 : tie.Need-enum-told-3 Inv-loop μ-loop
+enum-told-3 c = search needs
 
 enum-known-rr : tie.Need-enum-known-rr Inv-loop μ-loop
 enum-known-rr c = search needs
 
-returns-5 : tie.Need-returns-5 Inv-loop μ-loop
-returns-5 c = search (needs, name-critical)
+returns-3 : tie.Need-returns-3 Inv-loop μ-loop
+returns-3 c = search (needs, name-critical)
 
 enum-known-rr-2 : tie.Need-enum-known-rr-2 Inv-loop μ-loop
 enum-known-rr-2 c = search needs
 
-returns-6 : tie.Need-returns-6 Inv-loop μ-loop
-returns-6 c = search (needs, name-ungranted)
+returns-4 : tie.Need-returns-4 Inv-loop μ-loop
+returns-4 c = search (needs, name-ungranted)
 
 add-k : tie.Need-add-k Inv-loop μ-loop
 unfolding maxNames
@@ -106,8 +82,8 @@ loop-less c = search (needs, left-less)
 loop-again : tie.Need-loop-again Inv-loop μ-loop
 loop-again c = search (needs, name-passed)
 
-returns-7 : tie.Need-returns-7 Inv-loop μ-loop
-returns-7 c = search (needs, all-passed)
+returns-5 : tie.Need-returns-5 Inv-loop μ-loop
+returns-5 c = search (needs, all-passed)
 
 pub judge-spec : {M : Type 1} → statement M
 judge-spec =
@@ -115,34 +91,26 @@ judge-spec =
     (tie.spec
     Inv-loop
     μ-loop
-    check-request-requires
+    check-inputs-requires
     enum-known-r
     returns
     enum-told
-    check-issuer-requires
-    enum-known-r-2
-    returns-2
-    enum-told-2
-    check-book-requires
-    enum-known-r-3
-    returns-3
-    enum-told-3
     any-unknown-critical-requires
     loop-holds
     requested-name-requires
     enum-known-n
-    enum-told-4
-    returns-4
+    enum-told-2
+    returns-2
     sub-judge-within
     part-judge-within-start
     part-judge-within-end
     judge-within-requires
-    enum-told-5
+    enum-told-3
     enum-known-rr
-    returns-5
+    returns-3
     enum-known-rr-2
-    returns-6
+    returns-4
     add-k
     loop-less
     loop-again
-    returns-7)
+    returns-5)
