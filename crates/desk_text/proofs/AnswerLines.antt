@@ -1,10 +1,15 @@
 -- What the definitions compute: the lines that the requirements print, and whose line it is where there is a book.
 use mathlib.Core.Path.{refl}
+use mathlib.Core.List.{append-assoc}
 use Rattle.limits.specs.Limits.{maxRecords}
 use Rattle.refusal.specs.Refusal.{number, place}
 use Rattle.octets.specs.WrittenDecimal.{decimal}
 use Rattle.desk_text.specs.Lines.{answerText, deskLine}
-use Rattle.desk_text.specs.Theorems.{Judged, Line-examples}
+use Rattle.desk_text.specs.Theorems.{Judged, Line-words, Line-examples}
+
+pub line-words : Line-words
+unfolding answerText
+line-words = (λ k r. simp append-assoc, λ k r. simp append-assoc, λ r. simp append-assoc)
 
 pub line-examples : Line-examples
 unfolding answerText decimal number place deskLine maxRecords

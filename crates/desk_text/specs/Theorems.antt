@@ -4,11 +4,14 @@ use Prim.Native.Char.{code}
 use mathlib.Core.Path.{_≡_}
 use mathlib.Core.Logic.{_↔_}
 use mathlib.Core.Bool.{Bool, true, false}
-use mathlib.Core.List.{List, _∷_, map}
+use mathlib.Core.List.{List, _∷_, _++_, map}
 use Rattle.octets.specs.Lists.{select, begins}
 use Rattle.octets.specs.Octets.{text, isDigit}
 use Rattle.octets.specs.Decimal.{decimalFrom}
 use Rattle.octets.specs.Pieces.{split}
+use Rattle.octets.specs.WrittenDecimal.{decimal}
+use Rattle.refusal.specs.Refusal.{number, place}
+use Rattle.refusal.specs.declared.Refusal.{Refusal}
 use Rattle.refusal.specs.declared.Refusal.the-variants.{BadIssuer, BadRecord, TooManyRecords}
 use Rattle.rule.specs.declared.Judgement.{Judgement}
 use Rattle.rule.specs.declared.Judgement.the-variants.{Permitted, UnknownCritical, NotGranted, Refused}
@@ -35,6 +38,13 @@ No-book = (found : Bool) (request issuer book : List ℕ) → (deskLine found re
 -- with a book the line is the judgement's
 abbrev pub Judged : Type 0
 Judged = (request issuer book : List ℕ) → deskLine true request issuer book ≡ line (judge request issuer book)
+
+-- the words around the numbers, for every number
+abbrev pub Line-words : Type 0
+Line-words =
+    ((k r : ℕ) → line (UnknownCritical (denial k r)) ≡ text "verdict 20 name " ++ decimal k ++ text " record " ++ decimal r ++ text "\n")
+    × ((k r : ℕ) → line (NotGranted (denial k r)) ≡ text "verdict 21 name " ++ decimal k ++ text " record " ++ decimal r ++ text "\n")
+    × ((r : Refusal) → line (Refused r) ≡ text "refused " ++ decimal (number r) ++ text " at " ++ decimal (place r) ++ text "\n")
 
 -- the lines that the requirements print, and some more
 abbrev pub Line-examples : Type 0

@@ -14,7 +14,10 @@ use Rattle.octets.specs.Lists.{All, all-nil, all-cons}
 use Rattle.octets.specs.Reader.{Reader, pure, fault, _>>=_, octets}
 use Rattle.octets.proofs.ReaderLaws.{pure-some, bind-some, given-some, octets-some}
 use Rattle.name.specs.Names.{Label, Name, wire, labels, name}
-use Rattle.name.specs.Theorems.{GoodName, Name-is-its-labels, Wire-example}
+use Rattle.name.specs.Theorems.{GoodName, Name-is-its-labels, Wire-form, Wire-example}
+
+pub wire-form : Wire-form
+wire-form = (refl, λ l ls. refl)
 
 -- what GoodName asks of each label
 abbrev pub GoodLabel : Label → Type 0

@@ -9,11 +9,15 @@ use lib.ListN.{length, drop, getD}
 use Rattle.limits.specs.Limits.{maxLabelOctets, maxNameOctets}
 use Rattle.octets.specs.Lists.{All}
 use Rattle.octets.specs.Octets.{text, lowered, equalIgnoringCase}
-use Rattle.name.specs.Names.{Name, wire, name, sameName, ancestors}
+use Rattle.name.specs.Names.{Label, Name, wire, name, sameName, ancestors}
 
 -- labels of 1 to 63 octets, 255 octets in all with the closing zero (RFC 1035 section 2.3.4)
 abbrev pub GoodName : Name → Type 0
 GoodName n = All (λ l. (1 ≤ length l) × (length l ≤ maxLabelOctets)) n × (length (wire n) ≤ maxNameOctets)
+
+-- each label has its own length before it, and a zero closes the name
+abbrev pub Wire-form : Type 0
+Wire-form = (wire [] ≡ 0 ∷ []) × ((l : Label) (ls : Name) → wire (l ∷ ls) ≡ length l ∷ (l ++ wire ls))
 
 -- RFC 1035 section 4.1.4's example, octet for octet
 abbrev pub Wire-example : Type 0

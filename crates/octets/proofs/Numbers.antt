@@ -7,11 +7,12 @@ use mathlib.Core.List.{List, [], _∷_, _++_}
 use mathlib.Core.Option.{some}
 use lib.ListN.{length, take, getD, length-append}
 use lib.Seq.{take-all, take-suc, length-take-le}
+use Rattle.octets.specs.Lists.{all-nil, all-cons}
 use Rattle.octets.specs.Octets.{Octets}
 use Rattle.octets.specs.Reader.{Reader, octets, pure, valueFrom, number, inOctets}
-use Rattle.octets.specs.Theorems.{Numbers-high-octet-first}
+use Rattle.octets.specs.Theorems.{Numbers-high-octet-first, Numbers-written}
 use Rattle.octets.proofs.ReaderLaws.{bind-some, octets-some, pure-some}
-use Rattle.octets.proofs.ListLaws.{All-head, All-front, All-rest}
+use Rattle.octets.proofs.ListLaws.{All-head, All-front, All-rest, All-join}
 
 -- the last octet is the low one
 pub value-snoc : (n : ℕ) (a : List ℕ) (x : ℕ) → valueFrom n (a ++ (x ∷ [])) ≡ valueFrom n a * 256 + x
@@ -28,6 +29,13 @@ value-in-octets zero n h = omega arith
 value-in-octets (suc k) n h =
     let small = rw pow-suc at h in
     rw (value-snoc, value-in-octets k (n / 256) (omega arith)) (omega arith)
+
+octets-in-octets : (k n : ℕ) → Octets (inOctets k n)
+octets-in-octets zero n = all-nil
+octets-in-octets (suc k) n = All-join (octets-in-octets k (n / 256)) (all-cons (omega arith) all-nil)
+
+pub numbers-written : Numbers-written
+numbers-written k n h = (length-in-octets k n, octets-in-octets k n, value-in-octets k n h)
 
 -- a is its value written
 abbrev Written : ℕ → List ℕ → Type 0

@@ -8,7 +8,11 @@ use mathlib.Core.List.{List, [], _∷_}
 use lib.Dec.{leb}
 use borrow.Author.Tests.{leb-true, le-leb, lt-leb}
 use Rattle.octets.specs.Octets.{isUpper, isLower, isLetterOrDigit, lower, lowered}
+use Rattle.octets.specs.Theorems.{Small-letters}
 use Rattle.octets.proofs.Classes.{letter-case}
+
+pub small-letters : Small-letters
+small-letters s = refl
 
 -- an octet stays as it is, or is a capital letter and becomes a small one
 abbrev pub Lowers : ℕ → Type 0

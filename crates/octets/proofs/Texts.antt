@@ -7,8 +7,11 @@ use mathlib.Core.List.{List, [], _∷_, nil≢cons, cons≢nil}
 use lib.Dec.{eqb}
 use borrow.Author.Tests.{eqb-true, eq-eqb}
 use Rattle.octets.specs.Octets.{same, lower, lowered, equalIgnoringCase}
-use Rattle.octets.specs.Theorems.{Whole-texts}
+use Rattle.octets.specs.Theorems.{Text-octets, Whole-texts}
 use Rattle.octets.proofs.WholeLists.{not-a-tail, not-a-front}
+
+pub text-octets : Text-octets
+text-octets = (refl, refl, refl, refl)
 
 pub same-equal : (a b : List ℕ) → (same a b ≡ true) ↔ (a ≡ b)
 same-equal [] [] = (λ e. refl, λ e. refl)

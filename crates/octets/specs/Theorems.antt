@@ -23,9 +23,19 @@ use Rattle.octets.specs.Grammar.{label}
 abbrev pub Octets-below-256 : Type 0
 Octets-below-256 = (s : List ℕ) → Octets s ↔ All (λ x. x < 256) s
 
+-- the texts that the rules name, in numbers
+abbrev pub Text-octets : Type 0
+Text-octets =
+    (text "*" ≡ 42 ∷ []) × (text "issue" ≡ 105 ∷ 115 ∷ 115 ∷ 117 ∷ 101 ∷ [])
+    × (text "issuewild" ≡ 105 ∷ 115 ∷ 115 ∷ 117 ∷ 101 ∷ 119 ∷ 105 ∷ 108 ∷ 100 ∷ []) × (text "iodef" ≡ 105 ∷ 111 ∷ 100 ∷ 101 ∷ 102 ∷ [])
+
 -- only the 26 capital letters fold, each to its small letter
 abbrev pub Letter-case : Type 0
 Letter-case = (x : ℕ) → ((65 ≤ x) × (x ≤ 90) → lower x ≡ x + 32) × ((x < 65) ⊎ (90 < x) → lower x ≡ x)
+
+-- a text in small letters is that text octet for octet, however long
+abbrev pub Small-letters : Type 0
+Small-letters = (s : List ℕ) → lowered s ≡ map lower s
 
 -- the classes, spelled out
 abbrev pub Octet-classes : Type 0
@@ -87,6 +97,11 @@ abbrev pub Numbers-high-octet-first : Type 0
 Numbers-high-octet-first =
     (k : ℕ) (s : List ℕ) → Octets s → (n : ℕ) (rest : List ℕ) →
     (number k s ≡ some (n, rest)) ↔ ((s ≡ inOctets k n ++ rest) × (n < 256 ^ k))
+
+-- a number is written in as many octets as are asked for, and these have its value
+abbrev pub Numbers-written : Type 0
+Numbers-written =
+    (k n : ℕ) → n < 256 ^ k → (length (inOctets k n) ≡ k) × Octets (inOctets k n) × (valueFrom 0 (inOctets k n) ≡ n)
 
 -- what an octet or a digit behind a number makes of it
 abbrev pub Last-place : Type 0

@@ -6,7 +6,7 @@ use Rattle.refusal.specs.declared.Refusal.{Refusal}
 use Rattle.refusal.specs.declared.Refusal.the-variants.{RequestTooLong, BadName, TooManyNames, BadIssuer, BookTooLong, BadRecord, TooManyRecords, NoRoom, BadLine, LineTooLong, BadData}
 use Rattle.refusal.specs.Refusal.{number, place}
 use Rattle.packed.specs.Packed.{packed, packedRefusal, packedCheck}
-use Rattle.packed.specs.Theorems.{Unpacks, Fields-apart, Refusal-unpacks, Packed-example}
+use Rattle.packed.specs.Theorems.{Unpacks, Fields-apart, Refusal-unpacks, Packed-bits, Packed-example}
 
 pub unpacks : Unpacks
 unfolding packed
@@ -36,6 +36,10 @@ refusal-unpacks = (
   refl,
   λ r. (refl, λ h. let u = unpacks (number r) (place r) 0 0 (number-small r) h (omega arith) (omega arith) in (u .0, u .1, u .2, u .3)),
 )
+
+pub packed-bits : Packed-bits
+unfolding packed
+packed-bits n a b c hn ha hb hc = omega arith
 
 pub packed-example : Packed-example
 unfolding packed

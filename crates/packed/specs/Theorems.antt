@@ -1,5 +1,5 @@
 -- What the definitions of this crate mean. Each statement is proved under its name in proofs/.
-use Prim.Native.Nat.{ℕ, _<_, _%_, _^_}
+use Prim.Native.Nat.{ℕ, _<_, _+_, _*_, _%_, _^_}
 use mathlib.Core.Path.{_≡_}
 use Rattle.refusal.specs.declared.Refusal.{Refusal}
 use Rattle.refusal.specs.declared.Check.the-variants.{Accepted, Refused}
@@ -27,6 +27,12 @@ Refusal-unpacks =
     × ((r : Refusal) → (packedCheck (Refused r) ≡ packedRefusal r)
     × (place r < 2 ^ 24 → (numberIn (packedRefusal r) ≡ number r) × (fieldA (packedRefusal r) ≡ place r)
     × (fieldB (packedRefusal r) ≡ 0) × (fieldC (packedRefusal r) ≡ 0)))
+
+-- what fits its field is added to the answer at the field's own bits, whatever the answer's number
+abbrev pub Packed-bits : Type 0
+Packed-bits =
+    (n a b c : ℕ) → n < 2 ^ 8 → a < 2 ^ 24 → b < 2 ^ 16 → c < 2 ^ 16 →
+    packed n a b c ≡ n + a * 256 + b * 4294967296 + c * 281474976710656
 
 -- the bits of an answer, in one number: 21, name 1, record 3, and 5 in the field that no answer uses yet
 abbrev pub Packed-example : Type 0

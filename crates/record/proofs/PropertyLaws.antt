@@ -17,12 +17,15 @@ use Rattle.octets.proofs.Texts.{whole-texts}
 use Rattle.record.specs.declared.PropertyTag.{PropertyTag}
 use Rattle.record.specs.declared.PropertyTag.the-variants.{Issue, IssueWild, Iodef, Unknown}
 use Rattle.record.specs.Property.{Property, wireProperty, readProperty, found, property, isCritical, tagOf}
-use Rattle.record.specs.Theorems.{Property-is-its-parts, Critical-bit, Known-tags, Unknown-tags}
+use Rattle.record.specs.Theorems.{Property-form, Property-is-its-parts, Critical-bit, Known-tags, Unknown-tags}
 
 -- what is left of the data after its property is empty, and `found` leaves it out
 found-some : (o : Option (Property × List ℕ)) (p : Property) → found o ≡ some p → (rest : List ℕ) × (o ≡ some (p, rest))
 found-some none p h = absurd (Option·none-ne-some _ h)
 found-some (some r) p h = (r .1, pure-some (r .0) p (r .1) (r .1) .1 (Option·some-injective _ _ h, refl))
+
+pub property-form : Property-form
+property-form p = refl
 
 pub property-is-its-parts : Property-is-its-parts
 unfolding property readProperty

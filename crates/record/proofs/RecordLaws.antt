@@ -17,7 +17,7 @@ use Rattle.name.specs.Names.{wire}
 use Rattle.name.proofs.NameField.{name-field}
 use Rattle.record.specs.Property.{Property, wireProperty, property}
 use Rattle.record.specs.Records.{Record, wireRecord, isCaa, isSome, isLaidOut, resourceRecord}
-use Rattle.record.specs.Theorems.{GoodRecord, Record-is-its-fields, Record-example}
+use Rattle.record.specs.Theorems.{GoodRecord, Record-is-its-fields, Record-form, Record-example}
 use Rattle.record.proofs.PropertyLaws.{property-is-its-parts}
 
 is-some : (o : Option Property) → isSome o ≡ true → (p : Property) × (o ≡ some p)
@@ -53,6 +53,9 @@ fields r rest =
 
 wire-fields : (r : Record) (rest : List ℕ) → wireRecord r ++ rest ≡ fields r rest
 wire-fields r rest = simp append-assoc
+
+pub record-form : Record-form
+record-form r = refl
 
 pub record-example : Record-example
 record-example = refl

@@ -14,11 +14,17 @@ use Rattle.octets.specs.Lists.{All, flatten}
 use Rattle.octets.specs.Octets.{Octets, text, lowered}
 use Rattle.octets.specs.Items.{BrokenAt, Beyond}
 use Rattle.octets.specs.Theorems.{Reads}
+use Rattle.octets.specs.Reader.{inOctets}
+use Rattle.name.specs.Names.{wire}
 use Rattle.name.specs.Theorems.{GoodName}
 use Rattle.record.specs.declared.PropertyTag.{PropertyTag}
 use Rattle.record.specs.declared.PropertyTag.the-variants.{Issue, IssueWild, Iodef, Unknown}
 use Rattle.record.specs.Property.{Property, wireProperty, property, isCritical, tagOf}
 use Rattle.record.specs.Records.{Record, wireRecord, resourceRecord, records, bookRefusal}
+
+-- flags, the length of the tag, tag and value
+abbrev pub Property-form : Type 0
+Property-form = (p : Property) → wireProperty p ≡ p .flags ∷ length (p .tag) ∷ (p .tag ++ p .value)
 
 -- data holds a property exactly when it is written so with a tag of one octet or more
 abbrev pub Property-is-its-parts : Type 0
@@ -45,6 +51,13 @@ abbrev pub GoodRecord : Record → Type 0
 GoodRecord r =
     GoodName (r .owner) × (r .type < 2 ^ 16) × (r .class < 2 ^ 16) × (r .ttl < 2 ^ 32) × (length (r .rdata) < 2 ^ 16)
     × (r .type ≡ 257 → r .class ≡ 1 → (p : Property) × (r .rdata ≡ wireProperty p) × (1 ≤ length (p .tag)))
+
+-- the owner, then type and class in two octets each, the time to live in four, the length of the data in two, and the data
+abbrev pub Record-form : Type 0
+Record-form =
+    (r : Record) →
+    wireRecord r
+    ≡ wire (r .owner) ++ inOctets 2 (r .type) ++ inOctets 2 (r .class) ++ inOctets 4 (r .ttl) ++ inOctets 2 (length (r .rdata)) ++ r .rdata
 
 -- a record octet for octet: the owner; type 257, class 1, time to live 3600, data length 22; flags 128, a tag of 5 octets, tag and value
 abbrev pub Record-example : Type 0

@@ -13,7 +13,10 @@ use Rattle.octets.proofs.ListLaws.{decided}
 use Rattle.octets.proofs.ReaderLaws.{octets-some}
 use Rattle.rule.specs.IssuerLists.{listed, entries, readEntry}
 use Rattle.rule.specs.Calls.{roomRefusal, listIssuers}
-use Rattle.rule.specs.Theorems.{total, List-in-the-buffer, Entries-read-back}
+use Rattle.rule.specs.Theorems.{total, List-in-the-buffer, Entries-laid-out, Entries-read-back}
+
+pub entries-laid-out : Entries-laid-out
+entries-laid-out = (refl, λ n ns. refl)
 
 pub entries-read-back : Entries-read-back
 unfolding readEntry

@@ -153,6 +153,10 @@ Room-of-the-book =
     (request book : List ℕ) → Octets book → bookRefusal book ≡ none → (ns : List (List ℕ)) →
     issuers (authorizations request book) ≡ listed ns → total ns ≤ length book
 
+-- each entry has its own length before it
+abbrev pub Entries-laid-out : Type 0
+Entries-laid-out = (entries [] ≡ []) × ((n : List ℕ) (ns : List (List ℕ)) → entries (n ∷ ns) ≡ length n ∷ (n ++ entries ns))
+
 -- the names of a list are read back from its octets
 abbrev pub Entries-read-back : Type 0
 Entries-read-back = (ns : List (List ℕ)) → items readEntry (length ns) (entries ns) ≡ whole ns
