@@ -110,9 +110,8 @@ fn print_answer(packed: u64) {
     io::print_decimal(STDOUT_FILENO, packed / 4294967296);
 }
 
-// Runs a case and writes its line.
-fn run(title: &[u8], call: usize, request: &[u8], issuer: &[u8], book: &[u8], buffer: &mut [u8]) {
-    io::write_all(STDOUT_FILENO, title);
+// Runs a case and writes the rest of its line.
+fn run(call: usize, request: &[u8], issuer: &[u8], book: &[u8], buffer: &mut [u8]) {
     print_answer(numbered_call::answer(call, request, issuer, book, buffer));
     if call != 1 {
         print_buffer(buffer);
@@ -120,53 +119,64 @@ fn run(title: &[u8], call: usize, request: &[u8], issuer: &[u8], book: &[u8], bu
     io::write_all(STDOUT_FILENO, b"\n");
 }
 
-// Reads a case and, where it is whole, runs it; whether it is.
-fn run_next(fd: i32) -> bool {
-    let mut title = [0u8; TITLE_ROOM];
-    let mut request = [0u8; ROOM];
-    let mut issuer = [0u8; ISSUER_ROOM];
-    let mut book = [0u8; ROOM];
-    let mut buffer = [b'_'; ROOM];
-    let titled = read_part(fd, &mut title);
-    let call = read_number(fd);
-    let requested = read_part(fd, &mut request);
-    let named = read_part(fd, &mut issuer);
-    let booked = read_part(fd, &mut book);
+// A case is read part by part, each function one part more, so that each stays small; whether it is whole.
+fn run_with_room(fd: i32, call: usize, request: &[u8], issuer: &[u8], book: &[u8]) -> bool {
     let room = read_number(fd);
-    if !titled.whole {
+    if ROOM < room {
         return false;
     }
+    let mut buffer = [b'_'; ROOM];
+    run(call, request, issuer, book, &mut buffer[..room]);
+    true
+}
+
+fn run_with_book(fd: i32, call: usize, request: &[u8], issuer: &[u8]) -> bool {
+    let mut book = [0u8; ROOM];
+    let read = read_part(fd, &mut book);
+    if !read.whole {
+        return false;
+    }
+    let n = read.length;
+    run_with_room(fd, call, request, issuer, &book[..n])
+}
+
+fn run_with_issuer(fd: i32, call: usize, request: &[u8]) -> bool {
+    let mut issuer = [0u8; ISSUER_ROOM];
+    let read = read_part(fd, &mut issuer);
+    if !read.whole {
+        return false;
+    }
+    let n = read.length;
+    run_with_book(fd, call, request, &issuer[..n])
+}
+
+fn run_call(fd: i32) -> bool {
+    let call = read_number(fd);
     if call == 0 {
         return false;
     }
     if 4 < call {
         return false;
     }
-    if !requested.whole {
+    let mut request = [0u8; ROOM];
+    let read = read_part(fd, &mut request);
+    if !read.whole {
         return false;
     }
-    if !named.whole {
+    let n = read.length;
+    run_with_issuer(fd, call, &request[..n])
+}
+
+// Reads the next case and runs it; its line begins with its title.
+fn run_next(fd: i32) -> bool {
+    let mut title = [0u8; TITLE_ROOM];
+    let read = read_part(fd, &mut title);
+    if !read.whole {
         return false;
     }
-    if !booked.whole {
-        return false;
-    }
-    if ROOM < room {
-        return false;
-    }
-    let t = titled.length;
-    let q = requested.length;
-    let i = named.length;
-    let b = booked.length;
-    run(
-        &title[..t],
-        call,
-        &request[..q],
-        &issuer[..i],
-        &book[..b],
-        &mut buffer[..room],
-    );
-    true
+    let n = read.length;
+    io::write_all(STDOUT_FILENO, &title[..n]);
+    run_call(fd)
 }
 
 fn main() {
