@@ -3,10 +3,12 @@
 // cases.bin is numbers of three octets, high octet first, and parts, each a number and that many octets: first the number of cases, then
 // for each its title, its call, request (or data, or line), issuer domain name, book, and the room of the lent buffer.
 //
-// Proved: it is safe and ends, and `numbered_call::answer` is the call that its number names, on the parts in their order.
+// Proved: it is safe and ends, and `answer` is the call that its number names, on the parts in their order.
 use libc::STDOUT_FILENO;
 ghost use Prim.Native.Nat.{_<_};
+ghost use mathlib.Core.Path.{_≡_};
 ghost use Rattle.io.specs.Counts.{Counts};
+ghost use Rattle.runs.specs.Answers.{answerOf, bufferAfter};
 
 const TITLE_ROOM: usize = 60;
 
@@ -110,9 +112,26 @@ fn print_answer(packed: u64) {
     io::print_decimal(STDOUT_FILENO, packed / 4294967296);
 }
 
+// The packed answer of the call that a number names: 1 judges, 2 lists, 3 writes a line, 4 reads one.
+fn answer(call: usize, request: &[u8], issuer: &[u8], book: &[u8], buffer: &mut [u8]) -> u64
+    ensures packed { λ r. ⌜ r ≡ answerOf call (now (request .entry)) (now (issuer .entry)) (now (book .entry)) (now (buffer .entry)) ⌝ }
+    ensures octets { λ r. ⌜ now (buffer .exit) ≡ bufferAfter call (now (request .entry)) (now (book .entry)) (now (buffer .entry)) ⌝ }
+{
+    if call == 1 {
+        return splinepearl::caa_judge(request, issuer, book);
+    }
+    if call == 2 {
+        return splinepearl::caa_permitted_issuers(request, book, buffer);
+    }
+    if call == 3 {
+        return splinepearl::caa_write_line(request, buffer);
+    }
+    splinepearl::caa_read_line(request, buffer)
+}
+
 // Runs a case and writes the rest of its line.
 fn run(call: usize, request: &[u8], issuer: &[u8], book: &[u8], buffer: &mut [u8]) {
-    print_answer(numbered_call::answer(call, request, issuer, book, buffer));
+    print_answer(answer(call, request, issuer, book, buffer));
     if call != 1 {
         print_buffer(buffer);
     }

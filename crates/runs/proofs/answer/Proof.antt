@@ -1,9 +1,9 @@
 -- By the tests of the call's number.
-use Rattle.numbered_call.specs.Answers.{answerOf, bufferAfter}
+use Rattle.runs.specs.Answers.{answerOf, bufferAfter}
 use Rattle.octets.proofs.Tests.{tests}
 use borrow.Author.Needs.{needs}
-use Rattle.numbered_call.proofs.answer.Statement.{statement}
-use Rattle.numbered_call.proofs.answer.Tie as tie
+use Rattle.runs.proofs.answer.Statement.{statement}
+use Rattle.runs.proofs.answer.Tie as tie
 
 caa-judge-requires : tie.Need-caa-judge-requires
 caa-judge-requires c κs = search needs
