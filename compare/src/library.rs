@@ -23,16 +23,14 @@ pub const LINKED: Other = Other {
 #[allow(dead_code)] // What no feature links is never called.
 extern "C" {
     // libreaders.a
-    fn readers_check_request(octets: *const u8, length: usize) -> u64;
-    fn readers_check_issuer(octets: *const u8, length: usize) -> u64;
-    fn readers_check_book(octets: *const u8, length: usize) -> u64;
-    fn readers_same(one: *const u8, length: usize, other: *const u8, other_length: usize) -> u64;
-    fn readers_name_end(octets: *const u8, length: usize, at: usize) -> u64;
-    fn readers_requested_name(octets: *const u8, length: usize, at: usize) -> u64;
-    fn readers_property(octets: *const u8, length: usize) -> u64;
-    fn readers_tag(octets: *const u8, length: usize) -> u64;
-    fn readers_record(octets: *const u8, length: usize, at: usize) -> u64;
-    fn readers_value(octets: *const u8, length: usize) -> u64;
+    fn readers_answer(
+        number: usize,
+        octets: *const u8,
+        length: usize,
+        other: *const u8,
+        other_length: usize,
+        at: usize,
+    ) -> u64;
 
     // libsplinepearl.a
     fn caa_judge(
@@ -67,21 +65,24 @@ extern "C" {
 
 #[cfg(feature = "readers")]
 const READERS: Option<Readers> = Some(Readers {
-    check_request: |s| Word::unpacked(unsafe { readers_check_request(s.as_ptr(), s.len()) }),
-    check_issuer: |s| Word::unpacked(unsafe { readers_check_issuer(s.as_ptr(), s.len()) }),
-    check_book: |s| Word::unpacked(unsafe { readers_check_book(s.as_ptr(), s.len()) }),
-    same: |s, t| Word::unpacked(unsafe { readers_same(s.as_ptr(), s.len(), t.as_ptr(), t.len()) }),
-    name_end: |s, at| Word::unpacked(unsafe { readers_name_end(s.as_ptr(), s.len(), at) }),
-    requested_name: |s, at| {
-        Word::unpacked(unsafe { readers_requested_name(s.as_ptr(), s.len(), at) })
-    },
-    property: |s| Word::unpacked(unsafe { readers_property(s.as_ptr(), s.len()) }),
-    tag: |s| Word::unpacked(unsafe { readers_tag(s.as_ptr(), s.len()) }),
-    record: |s, at| Word::unpacked(unsafe { readers_record(s.as_ptr(), s.len(), at) }),
-    value: |s| Word::unpacked(unsafe { readers_value(s.as_ptr(), s.len()) }),
+    same: |s, t| reader(1, s, t, 0),
+    name_end: |s, at| reader(2, s, b"", at),
+    requested_name: |s, at| reader(3, s, b"", at),
+    property: |s| reader(4, s, b"", 0),
+    tag: |s| reader(5, s, b"", 0),
+    record: |s, at| reader(6, s, b"", at),
+    value: |s| reader(7, s, b"", 0),
 });
 #[cfg(not(feature = "readers"))]
 const READERS: Option<Readers> = None;
+
+/// What the reader of a number answers.
+#[cfg(feature = "readers")]
+fn reader(number: usize, octets: &[u8], other: &[u8], at: usize) -> Word {
+    let (octets, length) = (octets.as_ptr(), octets.len());
+    let (other, other_length) = (other.as_ptr(), other.len());
+    Word::unpacked(unsafe { readers_answer(number, octets, length, other, other_length, at) })
+}
 
 #[cfg(feature = "judge")]
 const JUDGE: Option<Judge> = Some(|request, issuer, book| {

@@ -1,11 +1,9 @@
 //! The readers under the two calls, each answering in one word, so that those of another
 //! implementation can be tried by themselves. A place counts octets from 0 over the octets given.
 
-use crate::answer::Refusal;
-use crate::book::{read_book, read_property, read_raw_record};
-use crate::issuer::read_issuer;
+use crate::book::{read_property, read_raw_record};
 use crate::name::read_name;
-use crate::request::{read_request, read_requested_name};
+use crate::request::read_requested_name;
 use crate::rule::KNOWN_TAGS;
 use crate::value::{leading_blanks, read_value, IssueValue};
 use crate::word::Word;
@@ -19,10 +17,6 @@ pub type AtPlace = fn(&[u8], usize) -> Word;
 
 #[derive(Clone, Copy)]
 pub struct Readers {
-    /// A request: 0, or a refusal's number with `a` its place. The next two likewise.
-    pub check_request: OfOctets,
-    pub check_issuer: OfOctets,
-    pub check_book: OfOctets,
     /// 1 where both texts are the same, `A` to `Z` counting as `a` to `z`, else 0.
     pub same: OfTwo,
     /// The name that begins at the place, under the rule of owners: 1 with `a` where it ends.
@@ -42,9 +36,6 @@ pub struct Readers {
 impl Readers {
     /// This package's own.
     pub const OWN: Readers = Readers {
-        check_request: |octets| checked(read_request(octets).err()),
-        check_issuer: |octets| checked(read_issuer(octets).err()),
-        check_book: |octets| checked(read_book(octets).err()),
         same: |one, other| Word::number(one.eq_ignore_ascii_case(other).into()),
         name_end: |octets, at| name_end(octets, at).unwrap_or(Word::FAULT),
         requested_name: |octets, at| requested_name(octets, at).unwrap_or(Word::FAULT),
@@ -59,13 +50,6 @@ impl Readers {
         record: |octets, at| record_with_caa_data(octets, at).unwrap_or(Word::FAULT),
         ..Readers::OWN
     };
-}
-
-fn checked(refusal: Option<Refusal>) -> Word {
-    match refusal {
-        None => Word::number(0),
-        Some(refusal) => Word::with(refusal.number(), [refusal.place(), 0, 0]),
-    }
 }
 
 fn name_end(octets: &[u8], at: usize) -> Option<Word> {
@@ -178,16 +162,5 @@ mod tests {
         }
         assert_eq!((OWN.same)(b"aZ", b"Az"), Word::number(1));
         assert_eq!((OWN.same)(b"[", b"{"), Word::number(0));
-    }
-
-    #[test]
-    fn refusals_come_with_their_place() {
-        assert_eq!((OWN.check_request)(b"\x01a\x00"), Word::number(0));
-        assert_eq!(
-            (OWN.check_request)(b"\x01a\x00\x00"),
-            Word::with(2, [1, 0, 0])
-        );
-        assert_eq!((OWN.check_issuer)(b"a."), Word::number(4));
-        assert_eq!((OWN.check_book)(b"\x00"), Word::with(6, [0, 0, 0]));
     }
 }

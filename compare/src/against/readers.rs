@@ -10,29 +10,7 @@ use crate::word::Word;
 const FAULT_OR_GOOD: &[(u8, &str)] = &[(0, "fault"), (1, "good")];
 
 /// In the order of [`of_octets`].
-static OF_OCTETS: [Call; 6] = [
-    Call {
-        name: "check_request",
-        kinds: &[
-            (0, "accepted"),
-            (1, "refused 1"),
-            (2, "refused 2"),
-            (3, "refused 3"),
-        ],
-    },
-    Call {
-        name: "check_issuer",
-        kinds: &[(0, "accepted"), (4, "refused 4")],
-    },
-    Call {
-        name: "check_book",
-        kinds: &[
-            (0, "accepted"),
-            (5, "refused 5"),
-            (6, "refused 6"),
-            (7, "refused 7"),
-        ],
-    },
+static OF_OCTETS: [Call; 3] = [
     Call {
         name: "property",
         kinds: FAULT_OR_GOOD,
@@ -84,7 +62,7 @@ pub struct ReadersComparison {
     ours: Readers,
     caa_data_is_read: bool,
     generator: Generator,
-    of_octets: [Tally; 6],
+    of_octets: [Tally; 3],
     at_place: [Tally; 3],
     same: Tally,
 }
@@ -261,15 +239,8 @@ impl Part for ReadersComparison {
     }
 }
 
-fn of_octets(readers: &Readers) -> [OfOctets; 6] {
-    [
-        readers.check_request,
-        readers.check_issuer,
-        readers.check_book,
-        readers.property,
-        readers.tag,
-        readers.value,
-    ]
+fn of_octets(readers: &Readers) -> [OfOctets; 3] {
+    [readers.property, readers.tag, readers.value]
 }
 
 fn at_place(readers: &Readers) -> [AtPlace; 3] {

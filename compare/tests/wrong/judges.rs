@@ -8,7 +8,7 @@ use super::found_at_random;
 
 #[test]
 fn wrong_judges_are_found_out() {
-    let wrong_ones: [Judge; 5] = [
+    let wrong_ones: [Judge; 9] = [
         |_, _, _| Ok(Answer::Permitted),
         |_, _, _| Err(Word::number(99)),
         |request, issuer, book| match judge(request, issuer, book) {
@@ -27,6 +27,21 @@ fn wrong_judges_are_found_out() {
             Answer::Refused(Refusal::TooManyRecords { .. }) => Ok(Answer::Permitted),
             other => Ok(other),
         },
+        |request, issuer, book| match judge(request, issuer, book) {
+            Answer::Refused(Refusal::TooManyNames { .. }) => Ok(Answer::Permitted),
+            other => Ok(other),
+        },
+        // Refuses only what is an octet longer.
+        |request, issuer, book| match request.len() {
+            8_193 => Ok(Answer::Permitted),
+            _ => Ok(judge(request, issuer, book)),
+        },
+        |request, issuer, book| match book.len() {
+            32_769 => Ok(Answer::Permitted),
+            _ => Ok(judge(request, issuer, book)),
+        },
+        // Looks at no more of the issuer name than may be there.
+        |request, issuer, book| Ok(judge(request, &issuer[..issuer.len().min(253)], book)),
     ];
     for (number, judge) in wrong_ones.into_iter().enumerate() {
         let other = Other {

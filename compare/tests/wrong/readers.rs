@@ -11,38 +11,6 @@ const OWN: Readers = Readers::OWN;
 #[test]
 fn wrong_readers_are_found_out() {
     let wrong_ones = [
-        Readers {
-            check_request: |octets| match (OWN.check_request)(octets) {
-                Word { number: 3, .. } => Word::number(0),
-                word => word,
-            },
-            ..OWN
-        },
-        Readers {
-            check_request: |octets| match octets.len() {
-                8_193 => Word::number(0),
-                _ => (OWN.check_request)(octets),
-            },
-            ..OWN
-        },
-        Readers {
-            check_issuer: |octets| (OWN.check_issuer)(&octets[..octets.len().min(253)]),
-            ..OWN
-        },
-        Readers {
-            check_book: |octets| match (OWN.check_book)(octets) {
-                Word { number: 7, .. } => Word::number(0),
-                word => word,
-            },
-            ..OWN
-        },
-        Readers {
-            check_book: |octets| match octets.len() {
-                32_769 => Word::number(0),
-                _ => (OWN.check_book)(octets),
-            },
-            ..OWN
-        },
         // Folds more than letters.
         Readers {
             same: |one, other| {

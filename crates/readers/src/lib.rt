@@ -1,5 +1,5 @@
-// The readers, exported so that a program in another language can hold its own against them. Places are told modulo the width of
-// their field: 2^24 in a, 2^16 in b and c.
+// The readers, exported as one call so that a program in another language can hold its own against them. Places are told modulo
+// the width of their field: 2^24 in a, 2^16 in b and c.
 use name_reader::NameEnd;
 use property_reader::PropertyRead;
 use record::PropertyTag;
@@ -7,55 +7,28 @@ use record_reader::RecordRead;
 use request_reader::RequestedRead;
 use value_reader::ValueRead;
 ghost use mathlib.Core.Path.{_≡_};
-ghost use Rattle.refusal.specs.Checks.{checked};
-ghost use Rattle.packed.specs.Packed.{packedCheck};
 ghost use Rattle.octets.specs.Octets.{equalIgnoringCase};
 ghost use Rattle.name_reader.specs.Places.{nameEnd};
-ghost use Rattle.request.specs.Request.{requestRefusal};
 ghost use Rattle.request_reader.specs.Places.{requestedAt};
-ghost use Rattle.issuer.specs.Issuer.{issuerRefusal};
 ghost use Rattle.record.specs.Property.{tagOf};
-ghost use Rattle.record.specs.Records.{bookRefusal};
 ghost use Rattle.property_reader.specs.Places.{propertyAt};
 ghost use Rattle.record_reader.specs.Places.{recordAt};
 ghost use Rattle.value_reader.specs.Places.{valueAt};
 ghost use Rattle.readers.specs.Packs.{packedBool, packedEnd, packedRequested, packedProperty, packedTag, packedRecord, packedValue};
-
-#[no_mangle]
-pub extern "C" fn readers_check_request(s: &[u8]) -> u64
-    ensures { λ r. ⌜ r ≡ packedCheck (checked (requestRefusal (now (s .entry)))) ⌝ }
-{
-    packed::pack_check(request_reader::check_request(s))
-}
-
-#[no_mangle]
-pub extern "C" fn readers_check_issuer(d: &[u8]) -> u64
-    ensures { λ r. ⌜ r ≡ packedCheck (checked (issuerRefusal (now (d .entry)))) ⌝ }
-{
-    packed::pack_check(issuer_reader::check_issuer(d))
-}
-
-#[no_mangle]
-pub extern "C" fn readers_check_book(b: &[u8]) -> u64
-    ensures { λ r. ⌜ r ≡ packedCheck (checked (bookRefusal (now (b .entry)))) ⌝ }
-{
-    packed::pack_check(record_reader::check_book(b))
-}
+ghost use Rattle.readers.specs.Answers.{readerAnswer};
 
 // 1 where the two are the same.
-#[no_mangle]
-pub extern "C" fn readers_same(a: &[u8], b: &[u8]) -> u64
-    ensures { λ r. ⌜ r ≡ packedBool (equalIgnoringCase (now (a .entry)) (now (b .entry))) ⌝ }
+fn same(s: &[u8], t: &[u8]) -> u64
+    ensures { λ r. ⌜ r ≡ packedBool (equalIgnoringCase (now (s .entry)) (now (t .entry))) ⌝ }
 {
-    if text::same_ignoring_case(a, b) {
+    if text::same_ignoring_case(s, t) {
         return 1;
     }
     0
 }
 
 // 0 for a fault; else 1, and in a where the name ends.
-#[no_mangle]
-pub extern "C" fn readers_name_end(s: &[u8], at: usize) -> u64
+fn name_end(s: &[u8], at: usize) -> u64
     ensures { λ r. ⌜ r ≡ packedEnd (nameEnd (now (s .entry)) at) ⌝ }
 {
     let NameEnd::At(e) = name_reader::name_end(s, at) else {
@@ -65,8 +38,7 @@ pub extern "C" fn readers_name_end(s: &[u8], at: usize) -> u64
 }
 
 // 0 for a fault; else 1, or 2 for a wildcard, in a where the name ends, in b where its X begins.
-#[no_mangle]
-pub extern "C" fn readers_requested_name(s: &[u8], at: usize) -> u64
+fn requested_name(s: &[u8], at: usize) -> u64
     ensures { λ r. ⌜ r ≡ packedRequested (requestedAt (now (s .entry)) at) ⌝ }
 {
     let RequestedRead::Good(n) = request_reader::requested_name(s, at) else {
@@ -79,8 +51,7 @@ pub extern "C" fn readers_requested_name(s: &[u8], at: usize) -> u64
 }
 
 // 0 for a fault; else 1, in a where the value begins, in b the flags.
-#[no_mangle]
-pub extern "C" fn readers_property(d: &[u8]) -> u64
+fn property(d: &[u8]) -> u64
     ensures { λ r. ⌜ r ≡ packedProperty (propertyAt (now (d .entry))) ⌝ }
 {
     let PropertyRead::Good(p) = property_reader::read_property(d) else {
@@ -90,8 +61,7 @@ pub extern "C" fn readers_property(d: &[u8]) -> u64
 }
 
 // 0 unknown, 1 issue, 2 issuewild, 3 iodef.
-#[no_mangle]
-pub extern "C" fn readers_tag(t: &[u8]) -> u64
+fn tag(t: &[u8]) -> u64
     ensures { λ r. ⌜ r ≡ packedTag (tagOf (now (t .entry))) ⌝ }
 {
     match property_reader::tag_of(t) {
@@ -103,8 +73,7 @@ pub extern "C" fn readers_tag(t: &[u8]) -> u64
 }
 
 // 0 for a fault; else 1, in a where the record ends, in b where its owner ends, in c where its data begins.
-#[no_mangle]
-pub extern "C" fn readers_record(s: &[u8], at: usize) -> u64
+fn record(s: &[u8], at: usize) -> u64
     ensures { λ r. ⌜ r ≡ packedRecord (recordAt (now (s .entry)) at) ⌝ }
 {
     let RecordRead::Good(r) = record_reader::read_record(s, at) else {
@@ -114,13 +83,28 @@ pub extern "C" fn readers_record(s: &[u8], at: usize) -> u64
 }
 
 // 0 malformed; 1 with no name; 2 with a name, in a where it ends, in b where it begins.
-#[no_mangle]
-pub extern "C" fn readers_value(v: &[u8]) -> u64
+fn value(v: &[u8]) -> u64
     ensures { λ r. ⌜ r ≡ packedValue (valueAt (now (v .entry))) ⌝ }
 {
     match value_reader::read_value(v) {
         ValueRead::Malformed => 0,
         ValueRead::Nameless => 1,
         ValueRead::Named(n) => packed::pack(2, n.to as u64, n.from as u64, 0),
+    }
+}
+
+// What the reader of a number answers: `same` of s and t; those of a place read s at it, the others all of s.
+#[no_mangle]
+pub extern "C" fn readers_answer(number: usize, s: &[u8], t: &[u8], at: usize) -> u64
+    ensures { λ r. ⌜ r ≡ readerAnswer number (now (s .entry)) (now (t .entry)) at ⌝ }
+{
+    match number {
+        1 => same(s, t),
+        2 => name_end(s, at),
+        3 => requested_name(s, at),
+        4 => property(s),
+        5 => tag(s),
+        6 => record(s, at),
+        _ => value(s),
     }
 }

@@ -1,9 +1,9 @@
--- `readers_same` meets its contract, by cases of the answer.
+-- `same` meets its contract, by cases of the answer.
 use borrow.Author.Needs.{needs}
 use Rattle.readers.specs.Packs.{packedBool}
 use Rattle.readers.proofs.Told.{told}
-use Rattle.readers.proofs.readers_same.Statement.{statement}
-use Rattle.readers.proofs.readers_same.Tie as tie
+use Rattle.readers.proofs.same.Statement.{statement}
+use Rattle.readers.proofs.same.Tie as tie
 
 same-ignoring-case-requires : tie.Need-same-ignoring-case-requires
 same-ignoring-case-requires c κs = search needs
@@ -14,5 +14,5 @@ returns c = search (needs, told packedBool)
 returns-2 : tie.Need-returns-2
 returns-2 c = search (needs, told packedBool)
 
-pub readers-same-spec : {M : Type 1} → statement M
-readers-same-spec = tie.close (tie.spec same-ignoring-case-requires returns returns-2)
+pub same-spec : {M : Type 1} → statement M
+same-spec = tie.close (tie.spec same-ignoring-case-requires returns returns-2)

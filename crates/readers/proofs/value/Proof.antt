@@ -1,9 +1,9 @@
--- `readers_value` meets its contract, by cases of what was read.
+-- `value` meets its contract, by cases of what was read.
 use borrow.Author.Needs.{needs}
 use Rattle.readers.specs.Packs.{packedValue}
 use Rattle.readers.proofs.Told.{told}
-use Rattle.readers.proofs.readers_value.Statement.{statement}
-use Rattle.readers.proofs.readers_value.Tie as tie
+use Rattle.readers.proofs.value.Statement.{statement}
+use Rattle.readers.proofs.value.Tie as tie
 
 read-value-requires : tie.Need-read-value-requires
 read-value-requires c κs = search needs
@@ -29,8 +29,8 @@ returns-2 c = search (needs, told packedValue)
 returns-3 : tie.Need-returns-3
 returns-3 c = search (needs, told packedValue)
 
-pub readers-value-spec : {M : Type 1} → statement M
-readers-value-spec =
+pub value-spec : {M : Type 1} → statement M
+value-spec =
     tie.close
     (tie.spec
     read-value-requires

@@ -1,9 +1,9 @@
--- `readers_record` meets its contract, by cases of what was read.
+-- `record` meets its contract, by cases of what was read.
 use borrow.Author.Needs.{needs}
 use Rattle.readers.specs.Packs.{packedRecord}
 use Rattle.readers.proofs.Told.{told}
-use Rattle.readers.proofs.readers_record.Statement.{statement}
-use Rattle.readers.proofs.readers_record.Tie as tie
+use Rattle.readers.proofs.record.Statement.{statement}
+use Rattle.readers.proofs.record.Tie as tie
 
 read-record-requires : tie.Need-read-record-requires
 read-record-requires c κs = search needs
@@ -23,7 +23,7 @@ pack-requires c κs = search needs
 returns-2 : tie.Need-returns-2
 returns-2 c = search (needs, told packedRecord)
 
-pub readers-record-spec : {M : Type 1} → statement M
-readers-record-spec =
+pub record-spec : {M : Type 1} → statement M
+record-spec =
     tie.close
     (tie.spec read-record-requires enum-known-r enum-told returns pack-requires returns-2)

@@ -1,9 +1,9 @@
--- `readers_property` meets its contract, by cases of what was read.
+-- `property` meets its contract, by cases of what was read.
 use borrow.Author.Needs.{needs}
 use Rattle.readers.specs.Packs.{packedProperty}
 use Rattle.readers.proofs.Told.{told}
-use Rattle.readers.proofs.readers_property.Statement.{statement}
-use Rattle.readers.proofs.readers_property.Tie as tie
+use Rattle.readers.proofs.property.Statement.{statement}
+use Rattle.readers.proofs.property.Tie as tie
 
 read-property-requires : tie.Need-read-property-requires
 read-property-requires c κs = search needs
@@ -26,8 +26,8 @@ pack-requires c κs = search needs
 returns-2 : tie.Need-returns-2
 returns-2 c = search (needs, told packedProperty)
 
-pub readers-property-spec : {M : Type 1} → statement M
-readers-property-spec =
+pub property-spec : {M : Type 1} → statement M
+property-spec =
     tie.close
     (tie.spec
     read-property-requires

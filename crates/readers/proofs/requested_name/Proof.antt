@@ -1,9 +1,9 @@
--- `readers_requested_name` meets its contract, by cases of what was read, a wildcard and any other name apart.
+-- `requested_name` meets its contract, by cases of what was read, a wildcard and any other name apart.
 use borrow.Author.Needs.{needs}
 use Rattle.readers.specs.Packs.{packedRequested}
 use Rattle.readers.proofs.Told.{told, told-requested}
-use Rattle.readers.proofs.readers_requested_name.Statement.{statement}
-use Rattle.readers.proofs.readers_requested_name.Tie as tie
+use Rattle.readers.proofs.requested_name.Statement.{statement}
+use Rattle.readers.proofs.requested_name.Tie as tie
 
 requested-name-requires : tie.Need-requested-name-requires
 requested-name-requires c κs = search needs
@@ -29,8 +29,8 @@ pack-requires-2 c κs = search needs
 returns-3 : tie.Need-returns-3
 returns-3 c = search (needs, told-requested)
 
-pub readers-requested-name-spec : {M : Type 1} → statement M
-readers-requested-name-spec =
+pub requested-name-spec : {M : Type 1} → statement M
+requested-name-spec =
     tie.close
     (tie.spec
     requested-name-requires

@@ -1,9 +1,9 @@
--- `readers_tag` meets its contract, by cases of the tag.
+-- `tag` meets its contract, by cases of the tag.
 use borrow.Author.Needs.{needs}
 use Rattle.readers.specs.Packs.{packedTag}
 use Rattle.readers.proofs.Told.{told}
-use Rattle.readers.proofs.readers_tag.Statement.{statement}
-use Rattle.readers.proofs.readers_tag.Tie as tie
+use Rattle.readers.proofs.tag.Statement.{statement}
+use Rattle.readers.proofs.tag.Tie as tie
 
 tag-of-requires : tie.Need-tag-of-requires
 tag-of-requires c κs = search needs
@@ -32,8 +32,8 @@ returns-3 c = search (needs, told packedTag)
 returns-4 : tie.Need-returns-4
 returns-4 c = search (needs, told packedTag)
 
-pub readers-tag-spec : {M : Type 1} → statement M
-readers-tag-spec =
+pub tag-spec : {M : Type 1} → statement M
+tag-spec =
     tie.close
     (tie.spec
     tag-of-requires

@@ -1,9 +1,9 @@
--- `readers_name_end` meets its contract, by cases of what was read.
+-- `name_end` meets its contract, by cases of what was read.
 use borrow.Author.Needs.{needs}
 use Rattle.readers.specs.Packs.{packedEnd}
 use Rattle.readers.proofs.Told.{told}
-use Rattle.readers.proofs.readers_name_end.Statement.{statement}
-use Rattle.readers.proofs.readers_name_end.Tie as tie
+use Rattle.readers.proofs.name_end.Statement.{statement}
+use Rattle.readers.proofs.name_end.Tie as tie
 
 name-end-requires : tie.Need-name-end-requires
 name-end-requires c κs = search needs
@@ -23,6 +23,6 @@ pack-requires c κs = search needs
 returns-2 : tie.Need-returns-2
 returns-2 c = search (needs, told packedEnd)
 
-pub readers-name-end-spec : {M : Type 1} → statement M
-readers-name-end-spec =
+pub name-end-spec : {M : Type 1} → statement M
+name-end-spec =
     tie.close (tie.spec name-end-requires enum-known-e enum-told returns pack-requires returns-2)
