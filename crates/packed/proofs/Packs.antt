@@ -1,16 +1,10 @@
--- A refusal is packed with its number and place; a check with its refusal.
+-- A refusal is packed with its number and place.
 use Prim.Native.Nat.{ℕ}
 use mathlib.Core.Path.{_≡_}
 use Rattle.refusal.specs.declared.Refusal.{Refusal}
-use Rattle.refusal.specs.declared.Check.{Check}
-use Rattle.refusal.specs.declared.Check.the-variants.{Refused}
 use Rattle.refusal.specs.Refusal.{number, place}
-use Rattle.packed.specs.Packed.{packed, packedRefusal, packedCheck}
+use Rattle.packed.specs.Packed.{packed, packedRefusal}
 
 pub refusal-packed : (r n p : ℕ) (q : Refusal) → r ≡ packed n p 0 0 → n ≡ number q → p ≡ place q → r ≡ packedRefusal q
 unfolding packedRefusal
 refusal-packed r n p q e f g = cc
-
-pub check-packed : (r : ℕ) (q : Refusal) (c : Check) → r ≡ packedRefusal q → c ≡ Refused q → r ≡ packedCheck c
-unfolding packedCheck
-check-packed r q c e f = rw f e

@@ -5,7 +5,7 @@ use mathlib.Core.Path.{refl}
 use Rattle.refusal.specs.declared.Refusal.{Refusal}
 use Rattle.refusal.specs.declared.Refusal.the-variants.{RequestTooLong, BadName, TooManyNames, BadIssuer, BookTooLong, BadRecord, TooManyRecords, NoRoom, BadLine, LineTooLong, BadData}
 use Rattle.refusal.specs.Refusal.{number, place}
-use Rattle.packed.specs.Packed.{packed, packedRefusal, packedCheck}
+use Rattle.packed.specs.Packed.{packed, packedRefusal}
 use Rattle.packed.specs.Theorems.{Unpacks, Fields-apart, Refusal-unpacks, Packed-bits, Packed-example}
 
 pub unpacks : Unpacks
@@ -31,11 +31,9 @@ number-small LineTooLong = omega arith
 number-small BadData = omega arith
 
 pub refusal-unpacks : Refusal-unpacks
-unfolding packedRefusal packedCheck
-refusal-unpacks = (
-  refl,
-  λ r. (refl, λ h. let u = unpacks (number r) (place r) 0 0 (number-small r) h (omega arith) (omega arith) in (u .0, u .1, u .2, u .3)),
-)
+unfolding packedRefusal
+refusal-unpacks r h =
+    let u = unpacks (number r) (place r) 0 0 (number-small r) h (omega arith) (omega arith) in (u .0, u .1, u .2, u .3)
 
 pub packed-bits : Packed-bits
 unfolding packed

@@ -1,8 +1,6 @@
 -- An answer as one number of 64 bits: its number in bits 0 to 7, and fields in bits 8 to 31, 32 to 47 and 48 to 63.
 use Prim.Native.Nat.{ℕ, _+_, _*_, _/_, _%_, _^_}
 use Rattle.refusal.specs.declared.Refusal.{Refusal}
-use Rattle.refusal.specs.declared.Check.{Check}
-use Rattle.refusal.specs.declared.Check.the-variants.{Accepted, Refused}
 use Rattle.refusal.specs.Refusal.{number, place}
 
 unfoldable pub packed : ℕ → ℕ → ℕ → ℕ → ℕ
@@ -10,10 +8,6 @@ packed n a b c = n % 2 ^ 8 + a % 2 ^ 24 * 2 ^ 8 + b % 2 ^ 16 * 2 ^ 32 + c % 2 ^ 
 
 unfoldable pub packedRefusal : Refusal → ℕ
 packedRefusal r = packed (number r) (place r) 0 0
-
-unfoldable pub packedCheck : Check → ℕ
-packedCheck Accepted = 0
-packedCheck (Refused r) = packedRefusal r
 
 -- the number and the fields of a packed answer
 abbrev pub numberIn : ℕ → ℕ

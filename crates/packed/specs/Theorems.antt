@@ -2,9 +2,8 @@
 use Prim.Native.Nat.{ℕ, _<_, _+_, _*_, _%_, _^_}
 use mathlib.Core.Path.{_≡_}
 use Rattle.refusal.specs.declared.Refusal.{Refusal}
-use Rattle.refusal.specs.declared.Check.the-variants.{Accepted, Refused}
 use Rattle.refusal.specs.Refusal.{number, place}
-use Rattle.packed.specs.Packed.{packed, packedRefusal, packedCheck, numberIn, fieldA, fieldB, fieldC}
+use Rattle.packed.specs.Packed.{packed, packedRefusal, numberIn, fieldA, fieldB, fieldC}
 
 -- what is packed is found again, and the whole fits 64 bits
 abbrev pub Unpacks : Type 0
@@ -20,13 +19,12 @@ Fields-apart =
     (numberIn (packed n a b c) ≡ n % 2 ^ 8) × (fieldA (packed n a b c) ≡ a % 2 ^ 24) × (fieldB (packed n a b c) ≡ b % 2 ^ 16)
     × (fieldC (packed n a b c) ≡ c % 2 ^ 16) × (packed n a b c < 2 ^ 64)
 
--- of a refusal its number and its place in a; of a check the same, or 0
+-- of a refusal its number, and its place in a
 abbrev pub Refusal-unpacks : Type 0
 Refusal-unpacks =
-    (packedCheck Accepted ≡ 0)
-    × ((r : Refusal) → (packedCheck (Refused r) ≡ packedRefusal r)
-    × (place r < 2 ^ 24 → (numberIn (packedRefusal r) ≡ number r) × (fieldA (packedRefusal r) ≡ place r)
-    × (fieldB (packedRefusal r) ≡ 0) × (fieldC (packedRefusal r) ≡ 0)))
+    (r : Refusal) → place r < 2 ^ 24 →
+    (numberIn (packedRefusal r) ≡ number r) × (fieldA (packedRefusal r) ≡ place r) × (fieldB (packedRefusal r) ≡ 0)
+    × (fieldC (packedRefusal r) ≡ 0)
 
 -- what fits its field is added to the answer at the field's own bits, whatever the answer's number
 abbrev pub Packed-bits : Type 0

@@ -1,8 +1,7 @@
 // An answer packed into one number, so that a call needs no lent place for it.
-use refusal::Check;
 use refusal::Refusal;
 ghost use mathlib.Core.Path.{_≡_};
-ghost use Rattle.packed.specs.Packed.{packed, packedRefusal, packedCheck};
+ghost use Rattle.packed.specs.Packed.{packed, packedRefusal};
 
 // The number in bits 0 to 7, and three fields: a in bits 8 to 31, b in 32 to 47, c in 48 to 63.
 pub fn pack(number: u64, a: u64, b: u64, c: u64) -> u64
@@ -16,14 +15,4 @@ pub fn pack_refusal(r: Refusal) -> u64
     ensures { λ n. ⌜ n ≡ packedRefusal r ⌝ }
 {
     pack(refusal::number_of(r), refusal::place_of(r) as u64, 0, 0)
-}
-
-// 0 where the input is accepted.
-pub fn pack_check(c: Check) -> u64
-    ensures { λ n. ⌜ n ≡ packedCheck c ⌝ }
-{
-    match c {
-        Check::Accepted => 0,
-        Check::Refused(r) => pack_refusal(r),
-    }
 }
