@@ -1,6 +1,6 @@
 // The desk program: reads request.bin, issuer.txt and book.bin in the current folder, and writes the desk's line.
 //
-// Proved: from the octets that were read, the line is that of desk_line's definition. Assumed, since no contract can speak of the outside:
+// Proved: from the octets that were read, the line is that of desk_text's definition. Assumed, since no contract can speak of the outside:
 // open and read hand over what stands in the files, and write puts the line out.
 use desk_text::LINE_OCTETS;
 use libc::STDOUT_FILENO;

@@ -10,7 +10,7 @@ pub mod ReaderLaws
 pub mod Numbers
 pub mod ItemLaws
 pub mod Fields
-pub mod Verdicts
+pub mod ItemRefusals
 pub mod SelectLaws
 pub mod SmallLetters
 pub mod SelectedLists

@@ -10,7 +10,7 @@ use lib.Dec.{leb}
 use lib.ListN.{length, take, drop, length-append, take-append-drop}
 use lib.Seq.{length-take-le, take-at, drop-at}
 use borrow.Author.Tests.{leb-true, le-leb}
-use Rattle.octets.specs.Reader.{Reader, pure, given, andThen, _>>=_, octet, octets, remainder}
+use Rattle.octets.specs.Reader.{Reader, pure, given, andThen, _>>=_, octet, octets}
 
 module _ {A : Type 0} where
   -- what can't have found anything has found nothing
@@ -44,9 +44,6 @@ module _ {A B : Type 0} where
 pub octet-some : (s : List ℕ) (x : ℕ) (rest : List ℕ) → (octet s ≡ some (x, rest)) ↔ (s ≡ x ∷ rest)
 octet-some [] x rest = (λ h. absurd (Option·none-ne-some _ h), λ h. let z : _≡_ {A = ℕ} 0 1 = cc in absurd (omega arith))
 octet-some (y ∷ s) x rest = (λ h. let (p, q) = pure-some y x s rest .0 h in cc, λ h. cc)
-
-pub remainder-some : (s a rest : List ℕ) → (remainder s ≡ some (a, rest)) ↔ ((s ≡ a) × ([] ≡ rest))
-remainder-some s a rest = pure-some s a [] rest
 
 pub octets-some : (n : ℕ) (s a rest : List ℕ) → (octets n s ≡ some (a, rest)) ↔ ((s ≡ a ++ rest) × (length a ≡ n))
 octets-some n s a rest = (λ h. found (leb n (length s)) refl h, λ h. stands h.0 h.1)

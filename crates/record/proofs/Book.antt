@@ -8,7 +8,7 @@ use Rattle.refusal.specs.declared.Refusal.the-variants.{BookTooLong, BadRecord,
 use Rattle.octets.specs.Items.{wholeItems}
 use Rattle.octets.specs.Theorems.{Items-are-read}
 use Rattle.octets.proofs.ItemLaws.{items-end-to-end}
-use Rattle.octets.proofs.Verdicts.{Rows, acceptance, refusals}
+use Rattle.octets.proofs.ItemRefusals.{Rows, acceptance, refusals}
 use Rattle.name.proofs.NameField.{wire-full}
 use Rattle.record.specs.Records.{Record, wireRecord, resourceRecord, recordItems, recordRefusal, records, bookRefusal}
 use Rattle.record.specs.Theorems.{GoodRecord, Book-is-its-records, Book-refusals}

@@ -14,7 +14,7 @@ use Rattle.octets.specs.Octets.{Octets}
 use Rattle.octets.specs.Items.{Items, whole, broken, over, wholeItems}
 use Rattle.octets.specs.Theorems.{Items-are-read}
 use Rattle.octets.proofs.ItemLaws.{items-end-to-end}
-use Rattle.octets.proofs.Verdicts.{Rows, verdict, acceptance, refusals}
+use Rattle.octets.proofs.ItemRefusals.{Rows, refusalOf, acceptance, refusals}
 use Rattle.name.specs.Names.{Name, wire}
 use Rattle.name.proofs.NameField.{wire-full}
 use Rattle.request.specs.Request.{requestedName, nameItems, requestedNames, nameRefusal, requestRefusal}
@@ -33,7 +33,7 @@ abbrev asked : List ℕ → Items Name
 asked [] = broken 0
 asked (x ∷ s) = nameItems (x ∷ s)
 
-asked-refusal : (s : List ℕ) → requestRefusal s ≡ verdict rows maxRequestOctets s (asked s)
+asked-refusal : (s : List ℕ) → requestRefusal s ≡ refusalOf rows maxRequestOctets s (asked s)
 unfolding requestRefusal
 asked-refusal [] = refl
 asked-refusal (x ∷ s) = refl
@@ -91,7 +91,7 @@ request-is-its-names s o ns = rw (asked-refusal s, asked-names s) (
   λ h. law .1 ((h .0, h .1, h .2, h .3), h .4),
 )
   where
-    law : ((verdict rows maxRequestOctets s (asked s) ≡ none) × (wholeItems (asked s) ≡ ns)) ↔ (Names s ns × (length s ≤ maxRequestOctets))
+    law : ((refusalOf rows maxRequestOctets s (asked s) ≡ none) × (wholeItems (asked s) ≡ ns)) ↔ (Names s ns × (length s ≤ maxRequestOctets))
     law = acceptance rows maxRequestOctets s (asked s) wholeItems (λ ns. refl) (asked-whole s o) ns
 
 pub request-refusals : Request-refusals

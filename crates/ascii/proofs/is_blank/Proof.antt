@@ -1,4 +1,4 @@
--- `octets::is_blank` meets its contract.
+-- `is_blank` meets its contract.
 use borrow.Author.Needs.{needs}
 use Rattle.octets.specs.Octets.{isBlank}
 use Rattle.octets.proofs.Tests.{tests}

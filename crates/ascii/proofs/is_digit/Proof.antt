@@ -1,4 +1,4 @@
--- `octets::is_digit` meets its contract.
+-- `is_digit` meets its contract.
 use borrow.Author.Needs.{needs}
 use Rattle.octets.specs.Octets.{isDigit}
 use Rattle.octets.proofs.Tests.{tests}

@@ -1,4 +1,4 @@
--- `octets::is_letter_digit_hyphen` meets its contract.
+-- `is_letter_digit_hyphen` meets its contract.
 use borrow.Author.Needs.{needs}
 use Rattle.octets.specs.Label.{isLetterDigitHyphen}
 use Rattle.octets.proofs.Tests.{tests}

@@ -1,4 +1,4 @@
--- `octets::is_letter_or_digit` meets its contract.
+-- `is_letter_or_digit` meets its contract.
 use borrow.Author.Needs.{needs}
 use Rattle.octets.specs.Octets.{isLetterOrDigit, isUpper, isLower, isDigit}
 use Rattle.octets.proofs.Tests.{tests}

@@ -1,4 +1,4 @@
--- `octets::to_lower` meets its contract.
+-- `to_lower` meets its contract.
 use borrow.Author.Needs.{needs}
 use Rattle.octets.specs.Octets.{lower, isUpper}
 use Rattle.octets.proofs.Tests.{tests}

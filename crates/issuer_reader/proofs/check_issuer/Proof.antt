@@ -1,4 +1,4 @@
--- `issuer::check_issuer` meets its contract.
+-- `check_issuer` meets its contract.
 use borrow.Author.Needs.{needs}
 use Rattle.issuer_reader.proofs.IssuerTests.{issuer-accepted, issuer-refused}
 use Rattle.issuer_reader.proofs.check_issuer.Statement.{statement}

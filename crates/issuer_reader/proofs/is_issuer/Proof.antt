@@ -1,4 +1,4 @@
--- `issuer::is_issuer` meets its contract. The loop's invariant: the labels are good where those that are left are.
+-- `is_issuer` meets its contract. The loop's invariant: the labels are good where those that are left are.
 use Prim.Native.Nat.{_≤_, _-_}
 use Prim.Native.Char.{code}
 use mathlib.Core.Path.{_≡_}

@@ -1,4 +1,4 @@
--- `request::is_wildcard` meets its contract.
+-- `is_wildcard` meets its contract.
 use borrow.Author.Needs.{needs}
 use Rattle.request_reader.proofs.WildcardTests.{short-no-wildcard, length-no-wildcard, asterisk-tells}
 use Rattle.request_reader.proofs.is_wildcard.Statement.{statement}

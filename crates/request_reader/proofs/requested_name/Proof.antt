@@ -1,4 +1,4 @@
--- `request::requested_name` meets its contract. Where X begins depends on the way the code came.
+-- `requested_name` meets its contract. Where X begins depends on the way the code came.
 use native.Mathlib.Nat.{le-of-lt}
 use mathlib.Core.Path.{refl}
 use mathlib.Core.Logic.{⊎-elim}

@@ -1,4 +1,4 @@
--- `octets::is_host_label` meets its contract.
+-- `is_host_label` meets its contract.
 use borrow.Author.Needs.{needs}
 use Rattle.limits.specs.Limits.{maxLabelOctets}
 use Rattle.octets.specs.Label.{isHostLabel}

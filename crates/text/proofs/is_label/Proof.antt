@@ -1,4 +1,4 @@
--- `octets::is_label` meets its contract. The loop's invariant: the octets left are all letters, digits and hyphens where all are.
+-- `is_label` meets its contract. The loop's invariant: the octets left are all letters, digits and hyphens where all are.
 use Prim.Native.Nat.{_-_}
 use mathlib.Core.Path.{_≡_}
 use lib.ListN.{drop}

@@ -1,4 +1,4 @@
--- `octets::piece_end` meets its contract. The loop's invariant: the piece ends where what is left of it ends.
+-- `piece_end` meets its contract. The loop's invariant: the piece ends where what is left of it ends.
 use Prim.Native.Nat.{_-_}
 use mathlib.Core.Path.{_≡_}
 use lib.ListN.{length}

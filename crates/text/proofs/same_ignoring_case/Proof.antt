@@ -1,4 +1,4 @@
--- `octets::same_ignoring_case` meets its contract. The loop's invariant: what is left of the texts is the same where they are.
+-- `same_ignoring_case` meets its contract. The loop's invariant: what is left of the texts is the same where they are.
 use Prim.Native.Nat.{_-_}
 use mathlib.Core.Path.{_≡_}
 use lib.ListN.{length, drop}

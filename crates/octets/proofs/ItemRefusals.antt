@@ -46,10 +46,10 @@ module _
 
   -- the octets s, read as i, where more than `limit` octets are too many
   module _ (limit : ℕ) (s : List ℕ) (i : Items A) where
-    abbrev pub verdict : Option R
-    verdict = cond (ltb limit (length s)) (some long) (refusal i)
+    abbrev pub refusalOf : Option R
+    refusalOf = cond (ltb limit (length s)) (some long) (refusal i)
 
-    reason : (o : Option R) → verdict ≡ o → ((limit < length s) × (some long ≡ o)) ⊎ ((length s ≤ limit) × (refusal i ≡ o))
+    reason : (o : Option R) → refusalOf ≡ o → ((limit < length s) × (some long ≡ o)) ⊎ ((length s ≤ limit) × (refusal i ≡ o))
     reason o = go (ltb limit (length s)) refl
       where
         go :
@@ -58,24 +58,24 @@ module _
         go true t e = inl (ltb-true limit (length s) t, e)
         go false t e = inr (ltb-false limit (length s) t, e)
 
-    too-long : (verdict ≡ some long) ↔ (limit < length s)
+    too-long : (refusalOf ≡ some long) ↔ (limit < length s)
     too-long = (
       λ e. ⊎-elim (λ h. h .0) (λ h. absurd (omega (arith, later i long (h .1)))) (reason (some long) e),
       λ h. rw (lt-ltb limit (length s) h),
     )
 
-    within : (o : Option R) → o ≢ some long → (verdict ≡ o) ↔ ((length s ≤ limit) × (refusal i ≡ o))
+    within : (o : Option R) → o ≢ some long → (refusalOf ≡ o) ↔ ((length s ≤ limit) × (refusal i ≡ o))
     within o other = (
       λ e. ⊎-elim (λ h. absurd (other (sym (h .1)))) (λ h. h) (reason o e),
       λ h. rw (le-ltb limit (length s) (h .0)) (h .1),
     )
 
-    numbers : (r : R) → verdict ≡ some r → (n ≤ number r) × (number r ≤ n + 2)
+    numbers : (r : R) → refusalOf ≡ some r → (n ≤ number r) × (number r ≤ n + 2)
     numbers r e = ⊎-elim (λ h. let z : number r ≡ n = cc in omega arith) (λ h. omega (arith, later i r (h .1))) (reason (some r) e)
 
     pub acceptance :
         (list : Items A → List A) {W : List A → Type 0} → ((xs : List A) → list (whole xs) ≡ xs) →
-        ((xs : List A) → (i ≡ whole xs) ↔ W xs) → (xs : List A) → ((verdict ≡ none) × (list i ≡ xs)) ↔ (W xs × (length s ≤ limit))
+        ((xs : List A) → (i ≡ whole xs) ↔ W xs) → (xs : List A) → ((refusalOf ≡ none) × (list i ≡ xs)) ↔ (W xs × (length s ≤ limit))
     acceptance list listed law xs = (
       λ h. let (fits, e) = within none (Option·none-ne-some long) .0 (h .0) in
           let (ys, w) = is-whole i e in
@@ -86,16 +86,16 @@ module _
     -- a row below the first: it is answered where the octets are no more than `limit` and i is the j that it stands for
     row :
         (r : R) {j : Items A} {C : Type 0} → n < number r → (refusal i ≡ some r) ↔ (i ≡ j) → (i ≡ j) ↔ C →
-        (verdict ≡ some r) ↔ ((length s ≤ limit) × C)
+        (refusalOf ≡ some r) ↔ ((length s ≤ limit) × C)
     row r below is law =
         Iff·trans (within (some r) (λ e. let z : number r ≡ n = cc in omega arith)) (Iff·and Iff·rfl (Iff·trans is law))
 
     pub refusals :
         {B : ℕ → Type 0} {O : Type 0} → ((k : ℕ) → (i ≡ broken k) ↔ B k) → (i ≡ over) ↔ O →
-        ((verdict ≡ some long) ↔ (limit < length s))
-        × ((k : ℕ) → (verdict ≡ some (bad k)) ↔ ((length s ≤ limit) × B k))
-        × ((verdict ≡ some many) ↔ ((length s ≤ limit) × O))
-        × ((r : R) → verdict ≡ some r → (n ≤ number r) × (number r ≤ n + 2))
+        ((refusalOf ≡ some long) ↔ (limit < length s))
+        × ((k : ℕ) → (refusalOf ≡ some (bad k)) ↔ ((length s ≤ limit) × B k))
+        × ((refusalOf ≡ some many) ↔ ((length s ≤ limit) × O))
+        × ((r : R) → refusalOf ≡ some r → (n ≤ number r) × (number r ≤ n + 2))
     refusals breaks exceeds = (
       too-long,
       λ k. row (bad k) (omega (arith, rows .second k)) (is-broken i k, λ e. rw e (rows .breaks k)) (breaks k),
