@@ -33,7 +33,8 @@ use Rattle.restriction.specs.declared.Restriction.the-variants.{Open, Forbidden
 use Rattle.narrowing.specs.declared.SoFar.{SoFar}
 use Rattle.name_list.specs.declared.Names.{Names}
 use Rattle.name_list.specs.Places.{part, namesIn}
-use Rattle.restriction.specs.Places.{restrictedTo}
+use Rattle.restriction.specs.Places.{restrictionAt, restrictedTo}
+use Rattle.restriction.proofs.ByPlace.{restriction-by-place}
 use Rattle.narrowing.specs.Places.{issuersIn, NarrowedBy}
 use Rattle.permitted.specs.Found.{permitted, findIssuers}
 use Rattle.permitted.proofs.LastGoverning.{Sound, narrows}
@@ -104,16 +105,20 @@ module _ (request book : List ℕ) where
         this : NextName request (w .k) (w .names) r
         this = next-name request (w .left) h o f r g
 
-        module _ (v : Restriction)
-            (d : restrictedTo request book v ≡ issuers (decided (r .wildcard) (relevantAt book (part request (record { from = r .base; to = r .next }))) ∷ [])) where
+        module _ (v : Restriction) (d : v ≡ restrictionAt request book (record { from = r .base; to = r .next }) (r .wildcard)) where
           there : part request (record { from = r .base; to = r .next }) ≡ wire (base (this .first))
           there = sym (part-here request (record { from = r .base; to = r .next }) (next-inside request at o f r g)) ∙ this .octets
+
+          said-of-name : restrictedTo request book v ≡ issuers (said (this .first) ∷ [])
+          said-of-name =
+              rw d (restriction-by-place request book (record { from = r .base; to = r .next }) (r .wildcard))
+              ∙ ap (λ a. issuers (a ∷ [])) (by-place book (w .good-book) (this .first) (this .good) there (this .wild))
 
           by-name : issuers (authorizations request book) ≡ narrowedBy (narrowed (issuersIn book so-far) (restrictedTo request book v)) (map said (this .others))
           by-name =
               w .answer ∙ ap (λ ns. narrowedBy (issuersIn book so-far) (map said ns)) (this .split)
               ∙ narrowed-more (issuersIn book so-far) (said (this .first)) (map said (this .others))
-              ∙ ap (λ i. narrowedBy (narrowed (issuersIn book so-far) i) (map said (this .others))) (sym (d ∙ ap (λ a. issuers (a ∷ [])) (by-place book (w .good-book) (this .first) (this .good) there (this .wild))))
+              ∙ ap (λ i. narrowedBy (narrowed (issuersIn book so-far) i) (map said (this .others))) (sym said-of-name)
 
           onward : (after : SoFar) → issuersIn book after ≡ narrowed (issuersIn book so-far) (restrictedTo request book v) → Sound request book after → Narrowing after (r .next)
           onward after e s = record {

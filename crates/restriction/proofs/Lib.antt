@@ -1,2 +1,5 @@
+mod Passing
+mod OwnerPart
 pub mod OneName
-pub mod RestrictionWays
+pub mod ByPlace
+mod RestrictionWays

@@ -1,101 +1,83 @@
--- restriction_of: a law for each way out, from what the searches of the relevant set found.
-use Prim.Native.Nat.{ℕ, _+_, _-_}
+-- restriction_of: a law for each way out, from what the searches of the owner's records found.
+use Prim.Native.Nat.{ℕ, _+_}
 use native.Mathlib.Omega.{arith}
-use mathlib.Core.Path.{_≡_, sym, ap, _∙_}
-use mathlib.Core.Bool.{Bool, true, false}
+use mathlib.Core.Path.{_≡_, refl, sym, _∙_}
+use mathlib.Core.Bool.{Bool, true, false, not}
 use mathlib.Core.List.{List, [], _∷_}
-use lib.ListN.{length, take, drop, length-drop}
-use lib.Seq.{length-take-le}
-use mir.Syntax.{w64}
-use mir.Val.{Fits}
-use Rattle.octets.specs.Lists.{select}
+use Rattle.octets.specs.Lists.{any, select, isEmpty}
 use Rattle.refusal.specs.declared.RecordNo.{RecordNo}
 use Rattle.rule.specs.RelevantSet.{CaaRecord}
-use Rattle.rule.specs.Authorizations.{Authorization, isUnknownCritical, grantees, governedBy, decided}
-use Rattle.rule.specs.IssuerLists.{Issuers, anyone, listed, distinct, issuers}
-use Rattle.restriction.proofs.OneName.{issuers-granted}
+use Rattle.rule.specs.Authorizations.{isUnknownCritical}
 use Rattle.relevant.specs.declared.Found.{Found}
 use Rattle.relevant.specs.declared.Found.the-variants.{At, Nothing}
 use Rattle.relevant.specs.declared.Near.{Near}
 use Rattle.relevant.specs.declared.Near.the-variants.{At as NearAt, Nowhere}
-use Rattle.relevant.specs.Places.{firstNumber, hasTag, nearestPlace, relevantAt}
-use Rattle.relevant.proofs.DecidedLaws.{ungoverned, governed, near-label, setThere, decided-nowhere, decided-critical, decided-plain, decided-star, decided-issuewild}
+use Rattle.relevant.specs.Places.{firstNumber, hasTag, nearestPlace}
+use Rattle.relevant.proofs.DecidedLaws.{setThere}
 use Rattle.name_list.specs.declared.Span.{Span}
 use Rattle.name_list.specs.Places.{part}
-use Rattle.granted.specs.Places.{grantedBy}
-use Rattle.name_list.proofs.NestedParts.{part-there, part-inside, part-within}
+use Rattle.restriction.specs.declared.Restriction.{Restriction}
+use Rattle.restriction.specs.declared.Restriction.the-variants.{Open, Forbidden, Governed}
+use Rattle.restriction.specs.Places.{restrictionBy, restrictionAt}
+use Rattle.restriction.proofs.OwnerPart.{whole-owner}
+use Rattle.restriction.proofs.Passing.{any-selected}
 
--- who may sign where the records gs govern
-granted-to : (gs : List CaaRecord) (r : RecordNo) → firstNumber gs ≡ At r → issuers (governedBy gs ∷ []) ≡ listed (distinct (grantees gs))
-granted-to gs r e = rw (governed gs r e) (issuers-granted (r .0) (grantees gs))
+-- whether some record passes, by the first one found
+module _ (p : CaaRecord → Bool) (rs : List CaaRecord) {u : Found} (e : u ≡ firstNumber (select p rs)) where
+  some-pass : {r : RecordNo} → u ≡ At r → any p rs ≡ true
+  some-pass {r} h = any-selected p rs ∙ go (select p rs) (sym h ∙ e)
+    where
+      go : (cs : List CaaRecord) → At r ≡ firstNumber cs → not (isEmpty cs) ≡ true
+      go [] k = let z : _≡_ {A = ℕ} 0 1 = cc in absurd (omega arith)
+      go (c ∷ cs) k = refl
+
+  none-pass : u ≡ Nothing → any p rs ≡ false
+  none-pass h = any-selected p rs ∙ go (select p rs) (sym h ∙ e)
+    where
+      go : (cs : List CaaRecord) → Nothing ≡ firstNumber cs → not (isEmpty cs) ≡ false
+      go [] k = refl
+      go (c ∷ cs) k = let z : _≡_ {A = ℕ} 0 1 = cc in absurd (omega arith)
 
 module _ (request book x : List ℕ) (name : Span) (wildcard : Bool) (there : x ≡ part request name) (o : Near) (f : o ≡ nearestPlace book x) where
-  -- who may sign for the name
-  abbrev pub Restricts : Issuers → Type 0
-  Restricts i = i ≡ issuers (decided wildcard (relevantAt book (part request name)) ∷ [])
+  abbrev pub Answers : Restriction → Type 0
+  Answers r = r ≡ restrictionAt request book name wildcard
 
-  by : (a : Authorization) → decided wildcard (relevantAt book x) ≡ a → Restricts (issuers (a ∷ []))
-  by a e = rw (← there, e)
-
-  pub open-nowhere : o ≡ Nowhere → Restricts anyone
-  open-nowhere g = by _ (decided-nowhere book x o f wildcard g)
+  pub open-nowhere : o ≡ Nowhere → Answers Open
+  unfolding restrictionAt
+  open-nowhere g = rw (← there, ← f, g)
 
   module _ (at : ℕ) (g : o ≡ NearAt at) where
-    pub owner-fits : Fits w64 (length request) → Fits w64 (name .from + at)
-    owner-fits room =
-        let inside = near-label book x o f at g in
-        record { fits = omega (arith, inside, part-inside request x name there (omega (arith, inside))) }
-
     abbrev pub owner : Span
     owner = record { from = name .from + at; to = name .to }
 
-    same-owner : take (length x - at) (drop at x) ≡ part request owner
-    same-owner =
-        let inside = near-label book x o f at g in
-        let (fits, h) = part-there request x name there (omega (arith, inside)) in
-        let long = ap length h ∙ length-take-le (name .to - name .from) (drop (name .from) request) (omega (arith, length-drop (name .from) request)) in
-        let ends : name .to ≡ name .from + length x = omega (arith, long, inside) in
-        sym (rw ends (part-within request x name there (omega (arith, inside)) at (length x) (omega arith) (omega (arith, inside))))
+    abbrev pub set : List CaaRecord
+    set = setThere book x o f at g
 
-    -- its issuewild records, or its issue records
-    abbrev pub tagged : Bool → List CaaRecord
-    tagged wild = select (hasTag wild) (setThere book x o f at g)
+    by : {r : Restriction} → restrictionBy owner wildcard set ≡ r → Answers r
+    unfolding restrictionAt
+    by e = sym e ∙ rw (← there, ← f, g, whole-owner request book x name there o f at g)
 
-    module _ (u : Found) (e : u ≡ firstNumber (select isUnknownCritical (setThere book x o f at g))) where
-      pub forbidden-there : (r : RecordNo) → u ≡ At r → Restricts (listed [])
-      forbidden-there r h = by _ (decided-critical book x o f at g u e wildcard r h)
+    module _ (u : Found) (e : u ≡ firstNumber (select isUnknownCritical set)) where
+      pub forbidden-there : (r : RecordNo) → u ≡ At r → Answers Forbidden
+      forbidden-there r h = by (rw (some-pass isUnknownCritical set e h))
 
       module _ (none : u ≡ Nothing) where
-        governed-there :
-            (wild : Bool) → decided wildcard (relevantAt book x) ≡ governedBy (tagged wild) → (r : RecordNo) → firstNumber (tagged wild) ≡ At r →
-            Restricts (listed (grantedBy book (part request owner) wild))
-        unfolding grantedBy
-        governed-there wild d r h = rw (← same-owner) (sym (granted-to (tagged wild) r h) ∙ by _ d)
-
         pub by-issuewild :
-            wildcard ≡ true → (t : Found) → t ≡ firstNumber (tagged true) → (r : RecordNo) → t ≡ At r →
-            Restricts (listed (grantedBy book (part request owner) true))
-        by-issuewild w t d r h = governed-there true (decided-issuewild book x o f at g u e none w t d r h) r (sym d ∙ h)
+            wildcard ≡ true → (t : Found) → t ≡ firstNumber (select (hasTag true) set) → (r : RecordNo) → t ≡ At r →
+            Answers (Governed (record { owner = owner; wild = true }))
+        by-issuewild w t d r h = by (rw (none-pass isUnknownCritical set e none, w, some-pass (hasTag true) set d h))
 
-        module _ (v : Found) (q : v ≡ firstNumber (tagged false)) where
-          by-issue :
-              decided wildcard (relevantAt book x) ≡ governedBy (tagged false) → (r : RecordNo) → v ≡ At r →
-              Restricts (listed (grantedBy book (part request owner) false))
-          by-issue d r h = governed-there false d r (sym q ∙ h)
-
-          no-issue : decided wildcard (relevantAt book x) ≡ governedBy (tagged false) → v ≡ Nothing → Restricts anyone
-          no-issue d h = by _ (d ∙ ungoverned (tagged false) (sym q ∙ h))
-
+        module _ (v : Found) (q : v ≡ firstNumber (select (hasTag false) set)) where
           module _ (w : wildcard ≡ false) where
-            pub plain-by-issue : (r : RecordNo) → v ≡ At r → Restricts (listed (grantedBy book (part request owner) false))
-            plain-by-issue = by-issue (decided-plain book x o f at g u e none w)
+            pub plain-by-issue : (r : RecordNo) → v ≡ At r → Answers (Governed (record { owner = owner; wild = false }))
+            plain-by-issue r h = by (rw (none-pass isUnknownCritical set e none, w, some-pass (hasTag false) set q h))
 
-            pub plain-open : v ≡ Nothing → Restricts anyone
-            plain-open = no-issue (decided-plain book x o f at g u e none w)
+            pub plain-open : v ≡ Nothing → Answers Open
+            plain-open h = by (rw (none-pass isUnknownCritical set e none, w, none-pass (hasTag false) set q h))
 
-          module _ (w : wildcard ≡ true) (t : Found) (d : t ≡ firstNumber (tagged true)) (h : t ≡ Nothing) where
-            pub star-by-issue : (r : RecordNo) → v ≡ At r → Restricts (listed (grantedBy book (part request owner) false))
-            star-by-issue = by-issue (decided-star book x o f at g u e none w t d h)
+          module _ (w : wildcard ≡ true) (t : Found) (d : t ≡ firstNumber (select (hasTag true) set)) (h : t ≡ Nothing) where
+            pub star-by-issue : (r : RecordNo) → v ≡ At r → Answers (Governed (record { owner = owner; wild = false }))
+            star-by-issue r k = by (rw (none-pass isUnknownCritical set e none, w, none-pass (hasTag true) set d h, some-pass (hasTag false) set q k))
 
-            pub star-open : v ≡ Nothing → Restricts anyone
-            star-open = no-issue (decided-star book x o f at g u e none w t d h)
+            pub star-open : v ≡ Nothing → Answers Open
+            star-open k = by (rw (none-pass isUnknownCritical set e none, w, none-pass (hasTag true) set d h, none-pass (hasTag false) set q k))

@@ -3,12 +3,7 @@ use name_list::Span;
 use relevant::Found;
 use relevant::Near;
 ghost use mathlib.Core.Path.{_≡_};
-ghost use mathlib.Core.List.{[], _∷_};
-ghost use Rattle.rule.specs.Authorizations.{decided};
-ghost use Rattle.rule.specs.IssuerLists.{issuers};
-ghost use Rattle.relevant.specs.Places.{relevantAt};
-ghost use Rattle.name_list.specs.Places.{part};
-ghost use Rattle.restriction.specs.Places.{restrictedTo};
+ghost use Rattle.restriction.specs.Places.{restrictionAt};
 
 // The records that govern a name: their owner, a text in the request, and whether they are its issuewild records.
 pub struct Governing {
@@ -26,7 +21,7 @@ pub enum Restriction {
 
 // Of the name X, a text in the request, or of *.X.
 pub fn restriction_of(request: &[u8], book: &[u8], name: Span, wildcard: bool) -> Restriction
-    ensures { λ r. ⌜ restrictedTo (now (request .entry)) (now (book .entry)) r ≡ issuers (decided wildcard (relevantAt (now (book .entry)) (part (now (request .entry)) name)) ∷ []) ⌝ }
+    ensures { λ r. ⌜ r ≡ restrictionAt (now (request .entry)) (now (book .entry)) name wildcard ⌝ }
 {
     let x = name_list::part(request, name);
     let Near::At(at) = nearest_owner::nearest(book, x) else {

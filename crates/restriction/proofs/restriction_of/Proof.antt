@@ -2,7 +2,8 @@
 use mathlib.Core.Logic.{⊎-elim}
 use borrow.Author.Needs.{needs}
 use Rattle.relevant.proofs.DecidedLaws.{near-inside}
-use Rattle.restriction.proofs.RestrictionWays.{open-nowhere, owner-fits, forbidden-there, by-issuewild, plain-by-issue, plain-open, star-by-issue, star-open}
+use Rattle.restriction.proofs.OwnerPart.{owner-fits}
+use Rattle.restriction.proofs.RestrictionWays.{open-nowhere, forbidden-there, by-issuewild, plain-by-issue, plain-open, star-by-issue, star-open}
 use Rattle.restriction.proofs.restriction_of.Statement.{statement}
 use Rattle.restriction.proofs.restriction_of.Tie as tie
 

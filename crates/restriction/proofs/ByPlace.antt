@@ -1,0 +1,59 @@
+-- What is said of a name by place says who may sign for it by the rule.
+use Prim.Native.Nat.{ℕ, _+_}
+use mathlib.Core.Path.{_≡_, refl, sym, ap, _∙_}
+use mathlib.Core.Bool.{Bool, true, false, cond, not, _&&_}
+use mathlib.Core.List.{List, [], _∷_}
+use lib.ListN.{drop}
+use Rattle.octets.specs.Lists.{select, isEmpty}
+use Rattle.rule.specs.RelevantSet.{CaaRecord}
+use Rattle.rule.specs.Authorizations.{isUnknownCritical, isIssue, isIssueWild, orElse, governing, grantees, governedBy, unlessForbidden, decided}
+use Rattle.rule.specs.IssuerLists.{listed, distinct, issuers}
+use Rattle.relevant.specs.declared.Near.{Near}
+use Rattle.relevant.specs.declared.Near.the-variants.{At, Nowhere}
+use Rattle.relevant.specs.Places.{setOf, nearestPlace, foundAt, relevantAt}
+use Rattle.name_list.specs.declared.Span.{Span}
+use Rattle.name_list.specs.Places.{part}
+use Rattle.granted.specs.Places.{grantedBy}
+use Rattle.restriction.specs.declared.Restriction.the-variants.{Open, Forbidden, Governed}
+use Rattle.restriction.specs.Places.{restrictionBy, restrictionFrom, restrictionAt, restrictedTo}
+use Rattle.restriction.specs.Theorems.{Restriction-by-place}
+use Rattle.restriction.proofs.OneName.{issuers-granted}
+use Rattle.restriction.proofs.OwnerPart.{owner-part}
+use Rattle.restriction.proofs.Passing.{any-selected}
+
+module _ (request book : List ℕ) (owner : Span) (wildcard : Bool) (rs : List CaaRecord) (there : setOf book (part request owner) ≡ rs) where
+  by-set : restrictedTo request book (restrictionBy owner wildcard rs) ≡ issuers (unlessForbidden (select isUnknownCritical rs) (governedBy (governing wildcard rs)) ∷ [])
+  unfolding grantedBy governing
+  by-set =
+      rw (any-selected isUnknownCritical rs, any-selected isIssueWild rs, any-selected isIssue rs)
+      (go wildcard (select isUnknownCritical rs) (select isIssueWild rs) (select isIssue rs) (rw there) (rw there))
+    where
+      go :
+          (star : Bool) (us ws is : List CaaRecord) → grantedBy book (part request owner) true ≡ distinct (grantees ws) →
+          grantedBy book (part request owner) false ≡ distinct (grantees is) →
+          restrictedTo request book
+          (cond (not (isEmpty us)) Forbidden
+          (cond (star && not (isEmpty ws)) (Governed (record { owner = owner; wild = true }))
+          (cond (not (isEmpty is)) (Governed (record { owner = owner; wild = false })) Open)))
+          ≡ issuers (unlessForbidden us (governedBy (cond star (orElse ws is) is)) ∷ [])
+      go star (u ∷ us) ws is e f = refl
+      go true [] (w ∷ ws) is e f = ap listed e ∙ sym (issuers-granted (w .number) (grantees (w ∷ ws)))
+      go true [] [] [] e f = refl
+      go true [] [] (i ∷ is) e f = ap listed f ∙ sym (issuers-granted (i .number) (grantees (i ∷ is)))
+      go false [] ws [] e f = refl
+      go false [] ws (i ∷ is) e f = ap listed f ∙ sym (issuers-granted (i .number) (grantees (i ∷ is)))
+
+pub restriction-by-place : Restriction-by-place
+unfolding restrictionAt relevantAt
+restriction-by-place request book name wildcard = go (nearestPlace book x) refl
+  where
+    x : List ℕ
+    x = part request name
+
+    go :
+        (o : Near) → o ≡ nearestPlace book x →
+        restrictedTo request book (restrictionFrom book x name wildcard o) ≡ issuers (decided wildcard (foundAt book x o) ∷ [])
+    go Nowhere f = refl
+    go (At at) f =
+        by-set request book (record { from = name .from + at; to = name .to }) wildcard (setOf book (drop at x))
+        (ap (setOf book) (owner-part request book x name refl (At at) f at refl))

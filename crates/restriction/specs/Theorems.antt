@@ -1,0 +1,17 @@
+-- What the definitions of this crate mean. Each statement is proved under its name in proofs/.
+use Prim.Native.Nat.{ℕ}
+use mathlib.Core.Path.{_≡_}
+use mathlib.Core.Bool.{Bool}
+use mathlib.Core.List.{List, [], _∷_}
+use Rattle.rule.specs.Authorizations.{decided}
+use Rattle.rule.specs.IssuerLists.{issuers}
+use Rattle.relevant.specs.Places.{relevantAt}
+use Rattle.name_list.specs.declared.Span.{Span}
+use Rattle.name_list.specs.Places.{part}
+use Rattle.restriction.specs.Places.{restrictionAt, restrictedTo}
+
+-- those that may sign for one name are its issuers by the rule
+abbrev pub Restriction-by-place : Type 0
+Restriction-by-place =
+    (request book : List ℕ) (name : Span) (wildcard : Bool) →
+    restrictedTo request book (restrictionAt request book name wildcard) ≡ issuers (decided wildcard (relevantAt book (part request name)) ∷ [])
