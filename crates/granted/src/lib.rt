@@ -11,12 +11,12 @@ ghost use Rattle.name_list.specs.Places.{part, namesIn};
 ghost use Rattle.granted.specs.Places.{granteeAt, granteeOfData, grantedBy};
 
 // The issuer that CAA data grants.
-pub enum GranteeRead {
+enum GranteeRead {
     At(Span),
     Nobody,
 }
 
-pub fn grantee(book: &[u8], rdata: Span) -> GranteeRead
+fn grantee(book: &[u8], rdata: Span) -> GranteeRead
     ensures { λ r. ⌜ granteeAt (now (book .entry)) r ≡ granteeOfData (part (now (book .entry)) rdata) ⌝ }
 {
     let d = name_list::part(book, rdata);

@@ -25,7 +25,7 @@ pub fn is_caa(rtype: usize, class: usize) -> bool
 }
 
 // Whether data is laid out rightly, by type and class.
-pub fn is_laid_out(rtype: usize, class: usize, d: &[u8]) -> bool
+fn is_laid_out(rtype: usize, class: usize, d: &[u8]) -> bool
     ensures { λ r. ⌜ r ≡ isLaidOut rtype class (now (d .entry)) ⌝ }
 {
     if !is_caa(rtype, class) {
