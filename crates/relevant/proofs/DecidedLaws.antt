@@ -1,7 +1,7 @@
 -- What the searches of a name's relevant set found says of that name: the set, its unknown critical records, and those that govern.
 use Prim.Native.Nat.{ℕ, zero, suc, _≤_, _<_, _-_}
 use native.Mathlib.Omega.{arith}
-use mathlib.Core.Path.{_≡_, refl, sym, ap, _∙_}
+use mathlib.Core.Path.{_≡_, refl, sym, _∙_}
 use mathlib.Core.Bool.{Bool, true, false, cond}
 use mathlib.Core.List.{List, [], _∷_}
 use lib.Dec.{eqb}
@@ -98,13 +98,3 @@ module _ (book s : List ℕ) (o : Near) (f : o ≡ nearestPlace book s) where
       module _ (none : u ≡ Nothing) where
         pub by-governing : (wildcard : Bool) → decided wildcard (relevantAt book s) ≡ governedBy (governing wildcard setThere)
         by-governing wildcard = rw (found-there, none-first (select isUnknownCritical setThere) (sym e ∙ none))
-
-        pub decided-plain : {wildcard : Bool} → wildcard ≡ false → decided wildcard (relevantAt book s) ≡ governedBy (select isIssue setThere)
-        decided-plain w = by-governing _ ∙ ap governedBy (governing-plain setThere w)
-
-        module _ {wildcard : Bool} (w : wildcard ≡ true) (t : Found) (d : t ≡ firstNumber (select (hasTag true) setThere)) where
-          pub decided-star : t ≡ Nothing → decided wildcard (relevantAt book s) ≡ governedBy (select isIssue setThere)
-          decided-star h = by-governing _ ∙ ap governedBy (governing-star setThere w t d h)
-
-          pub decided-issuewild : (r : RecordNo) → t ≡ At r → decided wildcard (relevantAt book s) ≡ governedBy (select (hasTag true) setThere)
-          decided-issuewild r h = by-governing _ ∙ ap governedBy (governing-issuewild setThere w t d r h)
