@@ -20,8 +20,8 @@ use Rattle.rule.specs.RelevantSet.{CaaRecord, caaRecords}
 use Rattle.rule.specs.Authorizations.{isUnknownCritical}
 use Rattle.relevant.specs.Places.{readable, setOf}
 use Rattle.record_walk.proofs.WalkSteps.{allLeft, whole-book, laid-out, all-over, all-broken, all-step}
-use Rattle.property_tests.specs.DataTests.{isCriticalData}
-use Rattle.property_tests.proofs.TestLaws.{tells-critical}
+use Rattle.property_predicates.specs.DataTests.{dataIsUnknownCritical}
+use Rattle.property_predicates.proofs.TestLaws.{tells-critical}
 
 abbrev pub anyCritical : List ℕ → Bool
 anyCritical book = any isUnknownCritical (caaRecords (readable maxRecords book))
@@ -53,7 +53,7 @@ module _ (book : List ℕ) (at k : ℕ) (left : CriticalLeft book at k) where
                 let other : isCaa (r .type) (r .class) ≡ false = rw (← t .type, ← t .class) (sym caa ∙ e) in
                 left ∙ rw (all-step book at k h p r t, other, next, add-one)
 
-        module _ (m : Bool) (test : m ≡ isCriticalData (take (p .next - p .rdata) (drop (p .rdata) book))) (is : b ≡ true) where
+        module _ (m : Bool) (test : m ≡ dataIsUnknownCritical (take (p .next - p .rdata) (drop (p .rdata) book))) (is : b ≡ true) where
           tested : (j : ℕ) → j ≡ k + 1 → anyCritical book ≡ m || any isUnknownCritical (allLeft book (record { at = p .next; number = j }))
           tested j next = let (r, t) = record-there book at o f p g in go r t
             where

@@ -2,11 +2,11 @@
 use Rattle.rule.specs.Authorizations.{isUnknownCritical}
 use Rattle.relevant.specs.Places.{firstNumber}
 use Rattle.record_walk.proofs.SetWalk.{Passed, set-passed, First, set-first}
-use Rattle.property_tests.specs.DataTests.{isCriticalData}
-use Rattle.property_tests.proofs.TestLaws.{tells-critical}
+use Rattle.property_predicates.specs.DataTests.{dataIsUnknownCritical}
+use Rattle.property_predicates.proofs.TestLaws.{tells-critical}
 
-pub critical-passed : Passed firstNumber isUnknownCritical isCriticalData
-critical-passed = set-passed firstNumber isUnknownCritical isCriticalData tells-critical
+pub critical-passed : Passed firstNumber isUnknownCritical dataIsUnknownCritical
+critical-passed = set-passed firstNumber isUnknownCritical dataIsUnknownCritical tells-critical
 
-pub critical-first : First isUnknownCritical isCriticalData
-critical-first = set-first isUnknownCritical isCriticalData tells-critical
+pub critical-first : First isUnknownCritical dataIsUnknownCritical
+critical-first = set-first isUnknownCritical dataIsUnknownCritical tells-critical

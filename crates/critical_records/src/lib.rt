@@ -28,7 +28,7 @@ pub fn any_unknown_critical(book: &[u8]) -> bool
         if !record_reader::is_caa(r.rtype, r.class) {
             continue;
         }
-        if property_tests::is_unknown_critical(&book[rdata..at]) {
+        if property_predicates::is_unknown_critical(&book[rdata..at]) {
             return true;
         }
     }
@@ -47,7 +47,7 @@ pub fn first_unknown_critical(book: &[u8], owner: &[u8]) -> Found
         let from = c.rdata;
         let behind = c.walk;
         let to = behind.at;
-        if property_tests::is_unknown_critical(&book[from..to]) {
+        if property_predicates::is_unknown_critical(&book[from..to]) {
             let found = c.rr;
             break found;
         }

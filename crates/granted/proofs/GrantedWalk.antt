@@ -21,10 +21,10 @@ use Rattle.record_walk.specs.declared.Step.{Step}
 use Rattle.record_walk.specs.declared.Step.the-variants.{Seen, End}
 use Rattle.relevant.specs.Places.{setOf, hasTag}
 use Rattle.record_walk.specs.Walks.{nextOwned}
-use Rattle.property_tests.specs.DataTests.{tagOfData}
+use Rattle.property_predicates.specs.DataTests.{dataHasTag}
 use Rattle.record_walk.proofs.WalkSteps.{remaining, whole-set}
 use Rattle.record_walk.proofs.WalkLaws.{walk-ends, seen-there, dataOf}
-use Rattle.property_tests.proofs.TestLaws.{tells-tag}
+use Rattle.property_predicates.proofs.TestLaws.{tells-tag}
 use Rattle.name_list.specs.declared.Span.{Span}
 use Rattle.name_list.specs.declared.Names.{Names}
 use Rattle.granted.specs.declared.GranteeRead.{GranteeRead}
@@ -76,7 +76,7 @@ module _ (book x : List ℕ) (wild : Bool) where
       room : names .count < maxRecords
       room = omega (arith, so-far .few, number-grows book x w o f c g, number-small book x w o f c g)
 
-      module _ (t : Bool) (test : t ≡ tagOfData wild (dataOf book c)) where
+      module _ (t : Bool) (test : t ≡ dataHasTag wild (dataOf book c)) where
         pub untagged : t ≡ false → Collected names (c .walk)
         untagged e =
             let (cr, s) = seen-there book x w o f c g in

@@ -58,7 +58,7 @@ pub fn granted_by(book: &[u8], owner: &[u8], wild: bool) -> Names
         let from = c.rdata;
         let behind = c.walk;
         let to = behind.at;
-        if property_tests::has_tag(&book[from..to], wild) {
+        if property_predicates::has_tag(&book[from..to], wild) {
             if let GranteeRead::At(at) = grantee(book, Span { from, to }) {
                 if !name_list::holds(book, names, name_list::part(book, at)) {
                     names = name_list::push(names, at);

@@ -2,12 +2,12 @@
 use mathlib.Core.Bool.{Bool}
 use Rattle.relevant.specs.Places.{firstNumber, hasTag}
 use Rattle.record_walk.proofs.SetWalk.{Passed, set-passed, First, set-first}
-use Rattle.property_tests.specs.DataTests.{tagOfData}
-use Rattle.property_tests.proofs.TestLaws.{tells-tag}
+use Rattle.property_predicates.specs.DataTests.{dataHasTag}
+use Rattle.property_predicates.proofs.TestLaws.{tells-tag}
 
 module _ (wild : Bool) where
-  pub tag-passed : Passed firstNumber (hasTag wild) (tagOfData wild)
-  tag-passed = set-passed firstNumber (hasTag wild) (tagOfData wild) (tells-tag wild)
+  pub tag-passed : Passed firstNumber (hasTag wild) (dataHasTag wild)
+  tag-passed = set-passed firstNumber (hasTag wild) (dataHasTag wild) (tells-tag wild)
 
-  pub tag-first : First (hasTag wild) (tagOfData wild)
-  tag-first = set-first (hasTag wild) (tagOfData wild) (tells-tag wild)
+  pub tag-first : First (hasTag wild) (dataHasTag wild)
+  tag-first = set-first (hasTag wild) (dataHasTag wild) (tells-tag wild)

@@ -17,8 +17,8 @@ use Rattle.record_walk.specs.Walks.{nextOwned}
 use Rattle.record_walk.proofs.WalkSteps.{remaining}
 use Rattle.record_walk.proofs.WalkLaws.{dataOf}
 use Rattle.record_walk.proofs.SetWalk.{Left, set-over, Passed, set-passed, set-taken}
-use Rattle.property_tests.specs.DataTests.{tagOfData, isGrantee, grantsTo}
-use Rattle.property_tests.proofs.TestLaws.{tells-tag, tells-grant}
+use Rattle.property_predicates.specs.DataTests.{dataHasTag, isGrantee, grantsTo}
+use Rattle.property_predicates.proofs.TestLaws.{tells-tag, tells-grant}
 
 abbrev pub grantsAny : List ℕ → List CaaRecord → Bool
 grantsAny issuer cs = any (same (lowered issuer)) (grantees cs)
@@ -38,14 +38,14 @@ module _ (issuer : List ℕ) (wild : Bool) where
       false ≡ grantsAny issuer (select (hasTag wild) (setOf book x))
   no-grant = set-over (grantsAny issuer) (hasTag wild)
 
-  pub untagged-passed : Passed (grantsAny issuer) (hasTag wild) (tagOfData wild)
-  untagged-passed = set-passed (grantsAny issuer) (hasTag wild) (tagOfData wild) (tells-tag wild)
+  pub untagged-passed : Passed (grantsAny issuer) (hasTag wild) (dataHasTag wild)
+  untagged-passed = set-passed (grantsAny issuer) (hasTag wild) (dataHasTag wild) (tells-tag wild)
 
   module _ (book x : List ℕ) (w : Walk) (left : GrantsLeft book x w) (o : Step) (f : o ≡ nextOwned book x w) (c : SeenAt) (g : o ≡ Seen c) where
-    module _ (t b : Bool) (test : t ≡ tagOfData wild (dataOf book c)) (e : t ≡ true) (h : b ≡ grantsTo (dataOf book c) issuer) where
+    module _ (t b : Bool) (test : t ≡ dataHasTag wild (dataOf book c)) (e : t ≡ true) (h : b ≡ grantsTo (dataOf book c) issuer) where
       tested : grantsAny issuer (select (hasTag wild) (setOf book x)) ≡ b || grantsAny issuer (select (hasTag wild) (remaining book x (c .walk)))
       tested =
-          let (cr, s, first) = set-taken (grantsAny issuer) (hasTag wild) (tagOfData wild) (tells-tag wild) book x w left o f c g t test e in
+          let (cr, s, first) = set-taken (grantsAny issuer) (hasTag wild) (dataHasTag wild) (tells-tag wild) book x w left o f c g t test e in
           let told : isGrantee issuer (grantee cr) ≡ b = sym (tells-grant issuer _ cr (s .holds)) ∙ sym h in
           first ∙ one-more issuer (grantee cr) _ ∙ rw told
 

@@ -20,7 +20,7 @@ pub fn first_with_tag(book: &[u8], owner: &[u8], wild: bool) -> Found
         let from = c.rdata;
         let behind = c.walk;
         let to = behind.at;
-        if property_tests::has_tag(&book[from..to], wild) {
+        if property_predicates::has_tag(&book[from..to], wild) {
             let rr = c.rr;
             return Found::At(rr);
         }
@@ -41,8 +41,8 @@ pub fn any_grants(book: &[u8], owner: &[u8], wild: bool, issuer: &[u8]) -> bool
         let behind = c.walk;
         let to = behind.at;
         let d = &book[from..to];
-        if property_tests::has_tag(d, wild) {
-            if property_tests::grants(d, issuer) {
+        if property_predicates::has_tag(d, wild) {
+            if property_predicates::grants(d, issuer) {
                 return true;
             }
         }

@@ -23,7 +23,7 @@ use Rattle.value_reader.specs.declared.ValueRead.the-variants.{Malformed, Namel
 use Rattle.value_reader.proofs.ValueRead.{the-type}
 use Rattle.value_reader.proofs.ValuePlaces.{read-malformed, read-nameless, read-named}
 use Rattle.rule.specs.Authorizations.{holder, grantee}
-use Rattle.property_tests.specs.DataTests.{ofData, isGrantee, grantsTo}
+use Rattle.property_predicates.specs.DataTests.{ofData, isGrantee, grantsTo}
 
 same-either-way : (a b : List ℕ) → same a b ≡ same b a
 same-either-way a b =

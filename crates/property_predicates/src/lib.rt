@@ -3,11 +3,11 @@ use property_reader::PropertyRead;
 use record::PropertyTag;
 use value_reader::ValueRead;
 ghost use mathlib.Core.Path.{_≡_};
-ghost use Rattle.property_tests.specs.DataTests.{isCriticalData, tagOfData, grantsTo};
+ghost use Rattle.property_predicates.specs.DataTests.{dataIsUnknownCritical, dataHasTag, grantsTo};
 
 // Whether CAA data has an unknown tag and is critical.
 pub fn is_unknown_critical(d: &[u8]) -> bool
-    ensures { λ r. ⌜ r ≡ isCriticalData (now (d .entry)) ⌝ }
+    ensures { λ r. ⌜ r ≡ dataIsUnknownCritical (now (d .entry)) ⌝ }
 {
     let PropertyRead::Good(p) = property_reader::read_property(d) else {
         return false;
@@ -23,7 +23,7 @@ pub fn is_unknown_critical(d: &[u8]) -> bool
 
 // Whether CAA data has the tag issuewild, or, otherwise asked, the tag issue.
 pub fn has_tag(d: &[u8], wild: bool) -> bool
-    ensures { λ r. ⌜ r ≡ tagOfData wild (now (d .entry)) ⌝ }
+    ensures { λ r. ⌜ r ≡ dataHasTag wild (now (d .entry)) ⌝ }
 {
     let PropertyRead::Good(_) = property_reader::read_property(d) else {
         return false;

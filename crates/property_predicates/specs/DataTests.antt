@@ -14,11 +14,11 @@ abbrev pub ofData : (CaaRecord → Bool) → Option Property → Bool
 ofData test none = false
 ofData test (some p) = test (record { number = 0; owner = []; property = p })
 
-unfoldable pub isCriticalData : List ℕ → Bool
-isCriticalData d = ofData isUnknownCritical (property d)
+unfoldable pub dataIsUnknownCritical : List ℕ → Bool
+dataIsUnknownCritical d = ofData isUnknownCritical (property d)
 
-unfoldable pub tagOfData : Bool → List ℕ → Bool
-tagOfData wild d = ofData (hasTag wild) (property d)
+unfoldable pub dataHasTag : Bool → List ℕ → Bool
+dataHasTag wild d = ofData (hasTag wild) (property d)
 
 abbrev pub isGrantee : List ℕ → Option (List ℕ) → Bool
 isGrantee issuer none = false

@@ -1,8 +1,8 @@
 -- `is_unknown_critical` meets its contract.
 use borrow.Author.Needs.{needs}
-use Rattle.property_tests.proofs.DataTests.{no-critical, low-flags, known-tag, unknown-tag}
-use Rattle.property_tests.proofs.is_unknown_critical.Statement.{statement}
-use Rattle.property_tests.proofs.is_unknown_critical.Tie as tie
+use Rattle.property_predicates.proofs.DataTests.{no-critical, low-flags, known-tag, unknown-tag}
+use Rattle.property_predicates.proofs.is_unknown_critical.Statement.{statement}
+use Rattle.property_predicates.proofs.is_unknown_critical.Tie as tie
 
 read-property-requires : tie.Need-read-property-requires
 read-property-requires c κs = search needs

@@ -1,9 +1,9 @@
 -- `grants` meets its contract.
 use borrow.Author.Needs.{needs}
 use Rattle.value_reader.proofs.ValuePlaces.{name-from, name-to}
-use Rattle.property_tests.proofs.GrantTests.{no-name, name-no-issuer, name-compared}
-use Rattle.property_tests.proofs.grants.Statement.{statement}
-use Rattle.property_tests.proofs.grants.Tie as tie
+use Rattle.property_predicates.proofs.GrantTests.{no-name, name-no-issuer, name-compared}
+use Rattle.property_predicates.proofs.grants.Statement.{statement}
+use Rattle.property_predicates.proofs.grants.Tie as tie
 
 value-part-requires : tie.Need-value-part-requires
 value-part-requires c κs = search needs

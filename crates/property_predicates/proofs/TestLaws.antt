@@ -5,14 +5,14 @@ use mathlib.Core.List.{List}
 use Rattle.rule.specs.Authorizations.{isUnknownCritical, grantee}
 use Rattle.relevant.specs.Places.{hasTag}
 use Rattle.relevant.proofs.Tells.{Tells}
-use Rattle.property_tests.specs.DataTests.{isCriticalData, tagOfData, isGrantee, grantsTo}
+use Rattle.property_predicates.specs.DataTests.{dataIsUnknownCritical, dataHasTag, isGrantee, grantsTo}
 
-pub tells-critical : Tells isCriticalData isUnknownCritical
-unfolding isCriticalData isUnknownCritical
+pub tells-critical : Tells dataIsUnknownCritical isUnknownCritical
+unfolding dataIsUnknownCritical isUnknownCritical
 tells-critical d c e = rw e
 
-pub tells-tag : (wild : Bool) → Tells (tagOfData wild) (hasTag wild)
-unfolding tagOfData
+pub tells-tag : (wild : Bool) → Tells (dataHasTag wild) (hasTag wild)
+unfolding dataHasTag
 tells-tag wild d c e = rw e
 
 pub tells-grant : (issuer : List ℕ) → Tells (λ d. grantsTo d issuer) (λ c. isGrantee issuer (grantee c))

@@ -1,8 +1,8 @@
 -- `has_tag` meets its contract.
 use borrow.Author.Needs.{needs}
-use Rattle.property_tests.proofs.DataTests.{no-tag, tag-issue, tag-issuewild, tag-iodef, tag-other}
-use Rattle.property_tests.proofs.has_tag.Statement.{statement}
-use Rattle.property_tests.proofs.has_tag.Tie as tie
+use Rattle.property_predicates.proofs.DataTests.{no-tag, tag-issue, tag-issuewild, tag-iodef, tag-other}
+use Rattle.property_predicates.proofs.has_tag.Statement.{statement}
+use Rattle.property_predicates.proofs.has_tag.Tie as tie
 
 read-property-requires : tie.Need-read-property-requires
 read-property-requires c κs = search needs
