@@ -10,7 +10,8 @@ use borrow.Author.Tests.{lt-ltb, le-ltb}
 use Rattle.buffer.specs.Buffer.{Put, filled, filledLength}
 use Rattle.buffer.proofs.Filled.{no-room-answer, no-room-octets, put-answer, put-octets}
 use Rattle.buffer.proofs.LentRest.{put-one, put-two, put-three}
-use Rattle.presentation.specs.Written.{digit, threeDigits, decimal}
+use Rattle.presentation.specs.Written.{threeDigits, decimal}
+use Rattle.octets.specs.WrittenDecimal.{digit}
 
 -- Three digits.
 

@@ -13,7 +13,7 @@ use Rattle.octets.specs.Lists.{all, begins, ends, All, all-nil, all-cons
 use Rattle.octets.specs.Octets.{isLetterOrDigit, isUpper, isLower, isDigit, hyphen}
 use Rattle.octets.specs.Label.{isLetterDigitHyphen, isLabel, isHostLabel}
 use Rattle.octets.specs.Grammar.{Production, one, lit, _⊕_, many, many-none, many-more, label}
-use Rattle.octets.specs.Theorems.{Label-is-the-production, Label-octets, Host-labels}
+use Rattle.octets.specs.Theorems.{Label-is-the-production, Hyphen-octet, Label-octets, Host-labels}
 use Rattle.octets.proofs.ListLaws.{or-true, all-true, All-head, All-tail, All-append, ends-append}
 
 -- made of letters, digits and hyphens
@@ -39,6 +39,9 @@ plain-octet x = (
   λ e. ⊎-map (λ h. h) (eqb-true x hyphen) (or-true (isLetterOrDigit x) (eqb x hyphen) .0 e),
   λ o. or-true (isLetterOrDigit x) (eqb x hyphen) .1 (⊎-map (λ h. h) (eq-eqb x hyphen) o),
 )
+
+pub hyphen-octet : Hyphen-octet
+hyphen-octet = refl
 
 pub label-octets : Label-octets
 label-octets = plain-octet

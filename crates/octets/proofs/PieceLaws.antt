@@ -8,7 +8,7 @@ use lib.Dec.{eqb}
 use borrow.Author.Tests.{eqb-true, eqb-false, eq-eqb, ne-eqb}
 use Rattle.octets.specs.Lists.{All, all-nil, all-cons}
 use Rattle.octets.specs.Pieces.{extend, split, join}
-use Rattle.octets.specs.Theorems.{Pieces-join, Pieces-example}
+use Rattle.octets.specs.Theorems.{Pieces-join, Join-form, Pieces-example}
 use Rattle.octets.proofs.ListLaws.{All-head, All-tail}
 
 module _ (c : ℕ) where
@@ -44,6 +44,9 @@ module _ (c : ℕ) where
   split-join (p ∷ []) n h = rw append-nil at (split-front (All-head h) [] [] refl)
   split-join (p ∷ q ∷ ps) n h =
       split-front (All-head h) (c ∷ join c (q ∷ ps)) (q ∷ ps) (rw (eq-eqb c c refl, split-join (q ∷ ps) cons≢nil (All-tail h)) refl)
+
+pub join-form : Join-form
+join-form c = (refl, λ p. refl, λ p q ps. refl)
 
 pub pieces-example : Pieces-example
 pieces-example = refl

@@ -4,8 +4,8 @@ use mathlib.Core.Logic.{_↔_, ⊎-elim}
 use mathlib.Core.Bool.{Bool, true, false, true≢false, false≢true}
 use mathlib.Core.List.{List, [], _∷_, _++_, map, nil≢cons, cons≢nil, head-eq-of-cons-eq, tail-eq-of-cons-eq}
 use Rattle.octets.specs.Lists.{consIf, select, isEmpty, All, all-nil, all-cons, Any, any-here, any-there, Selects, selects-nil, selects-take, selects-pass, First}
-use Rattle.octets.specs.Theorems.{List-tests}
-use Rattle.octets.proofs.ListLaws.{decided, not-passed, All-head, All-tail, ends-append}
+use Rattle.octets.specs.Theorems.{List-folds, List-tests}
+use Rattle.octets.proofs.ListLaws.{decided, not-passed, all-true, any-true, All-head, All-tail, ends-append}
 
 -- where one test says of f x what the other says of x
 pub select-map :
@@ -84,6 +84,9 @@ module _ {A : Type 0} {P : A → Type 0} where
 
     pub selects-exactly : (xs ys : List A) → (select p xs ≡ ys) ↔ Selects P xs ys
     selects-exactly xs ys = (λ e. rw e at (selected xs), selects-unique (selected xs))
+
+pub list-folds : List-folds
+list-folds A p xs xss = (any-true p xs, all-true p xs, refl, refl)
 
 pub list-tests : List-tests
 list-tests A p xs x = (

@@ -11,7 +11,7 @@ use Rattle.octets.specs.Theorems.{Text-octets, Whole-texts}
 use Rattle.octets.proofs.WholeLists.{not-a-tail, not-a-front}
 
 pub text-octets : Text-octets
-text-octets = (refl, refl, refl, refl)
+text-octets = (refl, λ c s. refl, refl, refl, refl, refl, refl)
 
 pub same-equal : (a b : List ℕ) → (same a b ≡ true) ↔ (a ≡ b)
 same-equal [] [] = (λ e. refl, λ e. refl)

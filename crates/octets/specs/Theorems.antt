@@ -1,15 +1,17 @@
 -- What the definitions of this crate mean. Each statement is proved under its name in proofs/.
 use Prim.Native.Nat.{ℕ, _+_, _*_, _^_, _≤_, _<_}
-use Prim.Native.Char.{code}
+use Prim.Native.Char.{Char, code}
+use Prim.Native.String.{String}
+use Prim.Native.String
 use mathlib.Core.Path.{_≡_}
 use mathlib.Core.Logic.{_↔_, _≢_, _⊎_}
 use mathlib.Core.Bool.{Bool, true, false}
-use mathlib.Core.List.{List, [], _∷_, _++_, map}
+use mathlib.Core.List.{List, [], _∷_, _++_, map, List·Memᴰ}
 use mathlib.Core.Option.{Option, none, some}
 use lib.Dec.{eqb}
 use lib.ListN.{length}
 use Rattle.limits.specs.Limits.{maxLabelOctets}
-use Rattle.octets.specs.Lists.{any, select, isEmpty, begins, ends, flatten, All, Selects}
+use Rattle.octets.specs.Lists.{any, all, select, isEmpty, begins, ends, flatten, All, Selects}
 use Rattle.octets.specs.Octets.{Octets, text, isDigit, isLetterOrDigit, isBlank, hyphen, trimStart, lower, lowered, equalIgnoringCase}
 use Rattle.octets.specs.Label.{isLetterDigitHyphen, isLabel, isHostLabel}
 use Rattle.octets.specs.Pieces.{split, join}
@@ -23,10 +25,11 @@ use Rattle.octets.specs.Grammar.{label}
 abbrev pub Octets-below-256 : Type 0
 Octets-below-256 = (s : List ℕ) → Octets s ↔ All (λ x. x < 256) s
 
--- the texts that the rules name, in numbers
+-- a text is the number of each of its characters, in their order; and those that the rules name, in numbers
 abbrev pub Text-octets : Type 0
 Text-octets =
-    (text "*" ≡ 42 ∷ []) × (text "issue" ≡ 105 ∷ 115 ∷ 115 ∷ 117 ∷ 101 ∷ [])
+    (text "" ≡ []) × ((c : Char) (s : String) → text (String._∷_ c s) ≡ code c ∷ text s) × (text " \t\n" ≡ 32 ∷ 9 ∷ 10 ∷ [])
+    × (text "*" ≡ 42 ∷ []) × (text "issue" ≡ 105 ∷ 115 ∷ 115 ∷ 117 ∷ 101 ∷ [])
     × (text "issuewild" ≡ 105 ∷ 115 ∷ 115 ∷ 117 ∷ 101 ∷ 119 ∷ 105 ∷ 108 ∷ 100 ∷ []) × (text "iodef" ≡ 105 ∷ 111 ∷ 100 ∷ 101 ∷ 102 ∷ [])
 
 -- only the 26 capital letters fold, each to its small letter
@@ -64,6 +67,9 @@ Label-is-the-production = (l : List ℕ) → (isLabel l ≡ true) ↔ label l
 abbrev pub Label-octets : Type 0
 Label-octets = (x : ℕ) → (isLetterDigitHyphen x ≡ true) ↔ ((isLetterOrDigit x ≡ true) ⊎ (x ≡ 45))
 
+abbrev pub Hyphen-octet : Type 0
+Hyphen-octet = hyphen ≡ 45
+
 -- "1 to 63 letters, digits and hyphens", and neither first nor last a hyphen
 abbrev pub Host-label : List ℕ → Type 0
 Host-label l =
@@ -81,6 +87,19 @@ List-tests =
     × ((isEmpty xs ≡ true) ↔ (xs ≡ []))
     × (begins p (x ∷ xs) ≡ p x) × (ends p (xs ++ (x ∷ [])) ≡ p x)
     × (xs ≡ [] → (begins p xs ≡ false) × (ends p xs ≡ false))
+
+-- some element passes, every element passes; lists end to end
+abbrev pub List-folds : Type 1
+List-folds =
+    (A : Type 0) (p : A → Bool) (xs : List A) (xss : List (List A)) →
+    ((any p xs ≡ true) ↔ ((y : A) × List·Memᴰ y xs × (p y ≡ true))) × ((all p xs ≡ true) ↔ All (λ y. p y ≡ true) xs)
+    × (flatten {A = A} [] ≡ []) × (flatten (xs ∷ xss) ≡ xs ++ flatten xss)
+
+-- one piece is the text; of more, the first has c behind it, and then come the others
+abbrev pub Join-form : Type 0
+Join-form =
+    (c : ℕ) → (join c [] ≡ []) × ((p : List ℕ) → join c (p ∷ []) ≡ p)
+    × ((p q : List ℕ) (ps : List (List ℕ)) → join c (p ∷ q ∷ ps) ≡ p ++ (c ∷ join c (q ∷ ps)))
 
 -- the pieces of a text are the one way to make it by joining texts without the octet c
 abbrev pub Pieces-join : Type 0

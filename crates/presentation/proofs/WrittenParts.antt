@@ -7,21 +7,19 @@ use mathlib.Core.Bool.{Bool, true, false, cond, _||_}
 use mathlib.Core.List.{List, [], _∷_, _++_, map, append-assoc}
 use lib.Dec.{ltb, eqb}
 use lib.ListN.{length-map}
-use borrow.Author.Tests.{le-leb, ltb-true, eqb-true, eqb-false}
+use borrow.Author.Tests.{ltb-true, eqb-true, eqb-false}
 use Rattle.octets.specs.Lists.{all-nil, all-cons, flatten}
 use Rattle.octets.specs.Octets.{Octets, between, isDigit, isBlank, lower, lowered}
 use Rattle.octets.specs.Grammar.{many-none}
 use Rattle.octets.proofs.ListLaws.{or-true, or-false, All-map}
+use Rattle.octets.proofs.WrittenDecimals.{digit-is}
 use Rattle.octets.proofs.SmallLetters.{lower-letter}
 use Rattle.record.specs.Property.{Property}
-use Rattle.presentation.specs.Written.{space, quote, backslash, digit, threeDigits, decimal, escaped, line}
+use Rattle.presentation.specs.Written.{space, quote, backslash, threeDigits, decimal, escaped, line}
+use Rattle.octets.specs.WrittenDecimal.{digit}
 use Rattle.presentation.specs.Read.{Unit, plain, quoted, numbered, valueOf, isInQuotes}
 use Rattle.presentation.specs.Grammar.{someBlanks, FlagsField, TagField, wireUnit, GoodUnit, UnitsFor, LineOf}
 use Rattle.presentation.specs.Theorems.{smallTag, HasLine}
-
-pub is-digit : (d : ℕ) → d < 10 → isDigit (digit d) ≡ true
-unfolding isDigit
-is-digit d h = rw (le-leb 48 (48 + d) (omega arith), le-leb (48 + d) 57 (omega arith))
 
 pub flags-written : (n : ℕ) → n < 256 → FlagsField n (decimal n)
 unfolding decimal
@@ -30,14 +28,14 @@ flags-written n h = go (ltb n 10) refl (ltb n 100) refl
     go :
         (t : Bool) → ltb n 10 ≡ t → (u : Bool) → ltb n 100 ≡ u →
         FlagsField n (cond t (digit n ∷ []) (cond u (digit (n / 10) ∷ digit (n % 10) ∷ []) (threeDigits n)))
-    go true t u e = (omega arith, omega arith, all-cons (is-digit n (ltb-true n 10 t)) all-nil, omega arith, omega arith)
+    go true t u e = (omega arith, omega arith, all-cons (digit-is n (ltb-true n 10 t)) all-nil, omega arith, omega arith)
     go false t true u =
         let small = ltb-true n 100 u in
-        (omega arith, omega arith, all-cons (is-digit (n / 10) (omega arith)) (all-cons (is-digit (n % 10) (omega arith)) all-nil), omega arith, omega arith)
+        (omega arith, omega arith, all-cons (digit-is (n / 10) (omega arith)) (all-cons (digit-is (n % 10) (omega arith)) all-nil), omega arith, omega arith)
     go false t false u = (
       omega arith,
       omega arith,
-      all-cons (is-digit (n / 100) (omega arith)) (all-cons (is-digit (n / 10 % 10) (omega arith)) (all-cons (is-digit (n % 10) (omega arith)) all-nil)),
+      all-cons (digit-is (n / 100) (omega arith)) (all-cons (digit-is (n / 10 % 10) (omega arith)) (all-cons (digit-is (n % 10) (omega arith)) all-nil)),
       omega arith,
       omega arith,
     )
@@ -66,7 +64,7 @@ octet-written x h = go (eqb x quote || eqb x backslash) refl (between 32 126 x) 
     go false t false u = (
       numbered (digit (x / 100)) (digit (x / 10 % 10)) (digit (x % 10)),
       refl,
-      (is-digit (x / 100) (omega arith), is-digit (x / 10 % 10) (omega arith), is-digit (x % 10) (omega arith), omega arith),
+      (digit-is (x / 100) (omega arith), digit-is (x / 10 % 10) (omega arith), digit-is (x % 10) (omega arith), omega arith),
       omega arith,
     )
 

@@ -1,11 +1,12 @@
 -- CAA data written as a line (RFC 8659 section 4.1.1; the requirements' "A record as a line").
-use Prim.Native.Nat.{ℕ, _+_, _/_, _%_}
+use Prim.Native.Nat.{ℕ, _/_, _%_}
 use Prim.Native.Char.{code}
 use mathlib.Core.Bool.{Bool, cond, _||_}
 use mathlib.Core.List.{List, [], _∷_, _++_, map}
 use lib.Dec.{eqb, ltb}
 use Rattle.octets.specs.Lists.{flatten}
 use Rattle.octets.specs.Octets.{between, lowered}
+use Rattle.octets.specs.WrittenDecimal.{digit}
 use Rattle.record.specs.Property.{Property}
 
 abbrev pub space : ℕ
@@ -17,10 +18,7 @@ quote = code "\""
 abbrev pub backslash : ℕ
 backslash = code "\\"
 
--- a digit below ten; an octet in three digits; an octet with no needless zero
-abbrev pub digit : ℕ → ℕ
-digit d = code "0" + d
-
+-- an octet in three digits; an octet with no needless zero
 abbrev pub threeDigits : ℕ → List ℕ
 threeDigits n = digit (n / 100) ∷ digit (n / 10 % 10) ∷ digit (n % 10) ∷ []
 

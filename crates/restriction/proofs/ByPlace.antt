@@ -1,12 +1,14 @@
 -- What is said of a name by place says who may sign for it by the rule.
 use Prim.Native.Nat.{ℕ, _+_}
+use native.Mathlib.Omega.{arith}
 use mathlib.Core.Path.{_≡_, refl, sym, ap, _∙_}
+use mathlib.Core.Logic.{_↔_}
 use mathlib.Core.Bool.{Bool, true, false, cond, not, _&&_}
 use mathlib.Core.List.{List, [], _∷_}
 use lib.ListN.{drop}
-use Rattle.octets.specs.Lists.{select, isEmpty}
+use Rattle.octets.specs.Lists.{any, select, isEmpty}
 use Rattle.rule.specs.RelevantSet.{CaaRecord}
-use Rattle.rule.specs.Authorizations.{isUnknownCritical, isIssue, isIssueWild, orElse, governing, grantees, governedBy, unlessForbidden, decided}
+use Rattle.rule.specs.Authorizations.{Authorization, forbidden, isUnknownCritical, isIssue, isIssueWild, orElse, governing, grantees, governedBy, unlessForbidden, decided}
 use Rattle.rule.specs.IssuerLists.{listed, distinct, issuers}
 use Rattle.relevant.specs.declared.Near.{Near}
 use Rattle.relevant.specs.declared.Near.the-variants.{At, Nowhere}
@@ -14,9 +16,10 @@ use Rattle.relevant.specs.Places.{setOf, nearestPlace, foundAt, relevantAt}
 use Rattle.name_list.specs.declared.Span.{Span}
 use Rattle.name_list.specs.Places.{part}
 use Rattle.granted.specs.Places.{grantedBy}
+use Rattle.restriction.specs.declared.Restriction.{Restriction}
 use Rattle.restriction.specs.declared.Restriction.the-variants.{Open, Forbidden, Governed}
 use Rattle.restriction.specs.Places.{restrictionBy, restrictionFrom, restrictionAt, restrictedTo}
-use Rattle.restriction.specs.Theorems.{Restriction-by-place}
+use Rattle.restriction.specs.Theorems.{Restriction-by-place, Forbidden-by-place}
 use Rattle.restriction.proofs.OneName.{issuers-granted}
 use Rattle.restriction.proofs.OwnerPart.{owner-part}
 use Rattle.restriction.proofs.Passing.{any-selected}
@@ -42,6 +45,44 @@ module _ (request book : List ℕ) (owner : Span) (wildcard : Bool) (rs : List C
       go true [] [] (i ∷ is) e f = ap listed f ∙ sym (issuers-granted (i .number) (grantees (i ∷ is)))
       go false [] ws [] e f = refl
       go false [] ws (i ∷ is) e f = ap listed f ∙ sym (issuers-granted (i .number) (grantees (i ∷ is)))
+
+module _ (owner : Span) (wildcard : Bool) (rs : List CaaRecord) where
+  abbrev Forbids : Restriction → Authorization → Type 0
+  Forbids s a = (s ≡ Forbidden) ↔ ((r : ℕ) × (a ≡ forbidden r))
+
+  forbids : Forbids (restrictionBy owner wildcard rs) (unlessForbidden (select isUnknownCritical rs) (governedBy (governing wildcard rs)))
+  forbids = rw (any-selected isUnknownCritical rs) (go (select isUnknownCritical rs) (governing wildcard rs))
+    where
+      free : (gs : List CaaRecord) (r : ℕ) → governedBy gs ≡ forbidden r → ⊥
+      free [] r e = let z : _≡_ {A = ℕ} 0 1 = cc in omega arith
+      free (g ∷ gs) r e = let z : _≡_ {A = ℕ} 0 1 = cc in omega arith
+
+      open-or-governed :
+          (t u : Bool) → cond t (Governed (record { owner = owner; wild = true })) (cond u (Governed (record { owner = owner; wild = false })) Open) ≡ Forbidden → ⊥
+      open-or-governed true u e = let z : _≡_ {A = ℕ} 0 1 = cc in omega arith
+      open-or-governed false true e = let z : _≡_ {A = ℕ} 0 1 = cc in omega arith
+      open-or-governed false false e = let z : _≡_ {A = ℕ} 0 1 = cc in omega arith
+
+      go :
+          (us gs : List CaaRecord) →
+          Forbids
+          (cond (not (isEmpty us)) Forbidden
+          (cond (wildcard && any isIssueWild rs) (Governed (record { owner = owner; wild = true }))
+          (cond (any isIssue rs) (Governed (record { owner = owner; wild = false })) Open)))
+          (unlessForbidden us (governedBy gs))
+      go (u ∷ us) gs = (λ e. (u .number, refl), λ k. refl)
+      go [] gs = (λ e. absurd (open-or-governed (wildcard && any isIssueWild rs) (any isIssue rs) e), λ k. absurd (free gs (k .0) (k .1)))
+
+pub forbidden-by-place : Forbidden-by-place
+unfolding restrictionAt relevantAt
+forbidden-by-place request book name wildcard = go (nearestPlace book x)
+  where
+    x : List ℕ
+    x = part request name
+
+    go : (o : Near) → (restrictionFrom book x name wildcard o ≡ Forbidden) ↔ ((r : ℕ) × (decided wildcard (foundAt book x o) ≡ forbidden r))
+    go Nowhere = (λ e. absurd (let z : _≡_ {A = ℕ} 0 1 = cc in omega arith), λ k. absurd (let e = k .1 in let z : _≡_ {A = ℕ} 0 1 = cc in omega arith))
+    go (At at) = forbids (record { from = name .from + at; to = name .to }) wildcard (setOf book (drop at x))
 
 pub restriction-by-place : Restriction-by-place
 unfolding restrictionAt relevantAt
