@@ -1,7 +1,7 @@
 // Tests of CAA data: whether it is critical and unknown, which tag it has, and whom it grants.
+use grantee_reader::GranteeRead;
 use property_reader::PropertyRead;
 use record::PropertyTag;
-use value_reader::ValueRead;
 ghost use mathlib.Core.Path.{_≡_};
 ghost use Rattle.property_predicates.specs.DataTests.{dataIsUnknownCritical, dataHasTag, grantsTo};
 
@@ -40,15 +40,11 @@ pub fn has_tag(d: &[u8], wild: bool) -> bool
 pub fn grants(d: &[u8], issuer: &[u8]) -> bool
     ensures { λ r. ⌜ r ≡ grantsTo (now (d .entry)) (now (issuer .entry)) ⌝ }
 {
-    let v = property_reader::value_part(d);
-    let ValueRead::Named(n) = value_reader::read_value(v) else {
+    let GranteeRead::At(n) = grantee_reader::read_grantee(d) else {
         return false;
     };
     let from = n.from;
     let to = n.to;
-    let name = &v[from..to];
-    if !issuer_reader::is_issuer(name) {
-        return false;
-    }
+    let name = &d[from..to];
     text::same_ignoring_case(name, issuer)
 }

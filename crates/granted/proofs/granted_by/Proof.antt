@@ -4,7 +4,7 @@ use borrow.Author.Needs.{needs}
 use Rattle.limits.specs.Limits.{maxRecords}
 use Rattle.record_walk.proofs.WalkSteps.{remaining}
 use Rattle.record_walk.proofs.WalkLaws.{seen-order, seen-inside, fewer-left}
-use Rattle.granted.proofs.GrantedWalk.{Collected, none-collected, all-collected, new, known, nobody, untagged}
+use Rattle.granted.proofs.GrantedWalk.{Collected, none-collected, all-collected, first-fits, end-fits, new, known, nobody, untagged}
 use Rattle.granted.proofs.granted_by.Statement.{statement}
 use Rattle.granted.proofs.granted_by.Tie as tie
 
@@ -30,23 +30,29 @@ enum-told c = search needs
 returns : tie.Need-returns Inv-loop μ-loop
 returns c = search (needs, all-collected)
 
-sub-has-tag : tie.Need-sub-has-tag Inv-loop μ-loop
-sub-has-tag c = search (needs, seen-order)
+sub-d : tie.Need-sub-d Inv-loop μ-loop
+sub-d c = search (needs, seen-order)
 
-part-has-tag-start : tie.Need-part-has-tag-start Inv-loop μ-loop
-part-has-tag-start c = search (needs, seen-order)
+part-d-start : tie.Need-part-d-start Inv-loop μ-loop
+part-d-start c = search (needs, seen-order)
 
-part-has-tag-end : tie.Need-part-has-tag-end Inv-loop μ-loop
-part-has-tag-end c = search (needs, seen-inside)
+part-d-end : tie.Need-part-d-end Inv-loop μ-loop
+part-d-end c = search (needs, seen-inside)
 
 has-tag-requires : tie.Need-has-tag-requires Inv-loop μ-loop
 has-tag-requires c κs = search needs
 
-grantee-requires : tie.Need-grantee-requires Inv-loop μ-loop
-grantee-requires c κs = search needs
+read-grantee-requires : tie.Need-read-grantee-requires Inv-loop μ-loop
+read-grantee-requires c κs = search needs
 
-enum-known-at : tie.Need-enum-known-at Inv-loop μ-loop
-enum-known-at c = search needs
+enum-known-n : tie.Need-enum-known-n Inv-loop μ-loop
+enum-known-n c = search needs
+
+add-first : tie.Need-add-first Inv-loop μ-loop
+add-first c = search (needs, first-fits)
+
+add-end : tie.Need-add-end Inv-loop μ-loop
+add-end c = search (needs, end-fits)
 
 part-requires : tie.Need-part-requires Inv-loop μ-loop
 part-requires c κs = search needs
@@ -95,12 +101,14 @@ granted-by-spec =
     enum-known-c
     enum-told
     returns
-    sub-has-tag
-    part-has-tag-start
-    part-has-tag-end
+    sub-d
+    part-d-start
+    part-d-end
     has-tag-requires
-    grantee-requires
-    enum-known-at
+    read-grantee-requires
+    enum-known-n
+    add-first
+    add-end
     part-requires
     holds-requires
     push-requires

@@ -1,0 +1,2 @@
+pub mod ValueEnd
+pub mod Grantees
