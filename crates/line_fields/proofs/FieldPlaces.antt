@@ -8,75 +8,61 @@ use mathlib.Core.Option.{Option, none, some}
 use lib.ListN.{length, take, drop, length-append, length-drop}
 use lib.Seq.{take-at, drop-at, drop-drop}
 use Rattle.octets.specs.Octets.{isBlank, trimStart}
+use Rattle.value.proofs.Blanks.{trimStart-takes}
+use Rattle.text_classes.proofs.Rests.{rest-whole}
 use Rattle.presentation.specs.Read.{field}
 use Rattle.presentation.proofs.Fields.{field-apart}
 use Rattle.line_fields.specs.declared.FieldAt.{FieldAt}
 use Rattle.line_fields.specs.declared.FieldRead.{FieldRead}
 use Rattle.line_fields.specs.declared.FieldRead.the-variants.{Good, Fault}
-use Rattle.line_fields.specs.Places.{run, isUnblank, runEnd, fieldPlaces, fieldAt}
-
-run-short : (p : ℕ → Bool) (l : List ℕ) → length (run p l) ≤ length l
-run-short p [] = omega arith
-run-short p (x ∷ l) = go (p x) (run-short p l)
-  where
-    go : (t : Bool) → length (run p l) ≤ length l → length (cond t (x ∷ run p l) []) ≤ suc (length l)
-    go true h = omega arith
-    go false h = omega arith
-
-without-run : (l : List ℕ) → trimStart l ≡ drop (length (run isBlank l)) l
-without-run [] = refl
-without-run (x ∷ l) = go (isBlank x) (without-run l)
-  where
-    go :
-        (t : Bool) → trimStart l ≡ drop (length (run isBlank l)) l →
-        cond t (trimStart l) (x ∷ l) ≡ drop (length (cond t (x ∷ run isBlank l) [])) (x ∷ l)
-    go true h = h
-    go false h = refl
+use Rattle.line_fields.specs.Places.{unblanks, fieldEnd, fieldPlaces, fieldAt}
 
 -- no blank ends it; or one does
-no-field : (l : List ℕ) → length l ≤ length (run isUnblank l) → field l ≡ none
+no-field : (l : List ℕ) → length l ≤ length (unblanks l) → field l ≡ none
 no-field [] h = refl
 no-field (x ∷ l) h = go (isBlank x) refl (no-field l) h
   where
     go :
-        (t : Bool) → isBlank x ≡ t → (length l ≤ length (run isUnblank l) → field l ≡ none) →
-        length (x ∷ l) ≤ length (run isUnblank (x ∷ l)) → field (x ∷ l) ≡ none
+        (t : Bool) → isBlank x ≡ t → (length l ≤ length (unblanks l) → field l ≡ none) →
+        length (x ∷ l) ≤ length (unblanks (x ∷ l)) → field (x ∷ l) ≡ none
     go true e ih h = let k = rw e at h in absurd (omega arith)
     go false e ih h = let k = rw e at h in rw (e, ih (omega arith))
 
 a-field :
-    (l : List ℕ) → length (run isUnblank l) < length l →
-    field l ≡ some (run isUnblank l, trimStart (drop (length (run isUnblank l)) l))
+    (l : List ℕ) → length (unblanks l) < length l →
+    field l ≡ some (unblanks l, trimStart (drop (length (unblanks l)) l))
 a-field [] h = absurd (omega arith)
 a-field (x ∷ l) h = go (isBlank x) refl (a-field l) h
   where
     go :
         (t : Bool) → isBlank x ≡ t →
-        (length (run isUnblank l) < length l → field l ≡ some (run isUnblank l, trimStart (drop (length (run isUnblank l)) l))) →
-        length (run isUnblank (x ∷ l)) < length (x ∷ l) →
-        field (x ∷ l) ≡ some (run isUnblank (x ∷ l), trimStart (drop (length (run isUnblank (x ∷ l))) (x ∷ l)))
+        (length (unblanks l) < length l → field l ≡ some (unblanks l, trimStart (drop (length (unblanks l)) l))) →
+        length (unblanks (x ∷ l)) < length (x ∷ l) →
+        field (x ∷ l) ≡ some (unblanks (x ∷ l), trimStart (drop (length (unblanks (x ∷ l))) (x ∷ l)))
     go true e ih h = rw (e, e)
     go false e ih h = let k = rw e at h in rw (e, ih (omega arith))
 
-module _ (s : List ℕ) (at e : ℕ) (ends : e ≡ runEnd isUnblank s at) where
+module _ (s : List ℕ) (at e : ℕ) (ends : e ≡ fieldEnd s at) where
   abbrev lead : ℕ
-  lead = length (run isUnblank (drop at s))
+  lead = length (unblanks (drop at s))
 
   pub field-open : length s ≤ e → Fault ≡ fieldAt s at
-  unfolding runEnd fieldAt
+  unfolding fieldEnd fieldAt
   field-open h = rw (no-field (drop at s) (omega (arith, length-drop at s)))
 
-  pub field-closed : (n : ℕ) → e < length s → n ≡ runEnd isBlank s e → Good (record { end = e; next = n }) ≡ fieldAt s at
-  unfolding runEnd fieldAt
-  field-closed n h next =
-      let place : n ≡ placed = next ∙ behind in
-      rw (a-field (drop at s) (omega (arith, length-drop at s)), ends, place)
-    where
-      placed : ℕ
-      placed = length s - length (trimStart (drop (length (run isUnblank (drop at s))) (drop at s)))
+  module _ (h : e < length s) where
+    -- what follows its blanks
+    pub rest-inside : (rest : List ℕ) → rest ≡ trimStart (take (length s - e) (drop e s)) → length rest ≤ length s
+    rest-inside rest trimmed =
+        let (b, apart, blank) = trimStart-takes (drop e s) in
+        rw (trimmed, rest-whole s e) (omega (arith, ap length apart, length-append b (trimStart (drop e s)), length-drop e s))
 
-      behind : runEnd isBlank s e ≡ placed
-      behind = rw (drop-drop lead at s, ← ends, without-run (drop e s), length-drop, length-drop) (omega (arith, run-short isBlank (drop e s), length-drop e s))
+    pub field-closed :
+        (rest : List ℕ) → rest ≡ trimStart (take (length s - e) (drop e s)) → (n : ℕ) → n ≡ length s - length rest →
+        Good (record { end = e; next = n }) ≡ fieldAt s at
+    unfolding fieldEnd fieldAt
+    field-closed rest trimmed n next =
+        rw (a-field (drop at s) (omega (arith, length-drop at s)), drop-drop lead at s, ← ends, next, trimmed, rest-whole s e)
 
 -- what the places of a field say of it
 module _ (s : List ℕ) (at : ℕ) where

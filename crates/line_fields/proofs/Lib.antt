@@ -1,2 +1,2 @@
-pub mod RunEnds
+pub mod FieldEnds
 pub mod FieldPlaces

@@ -1,6 +1,6 @@
 -- Definitions for code: a field of a line by its places.
 use Prim.Native.Nat.{ℕ, _+_}
-use mathlib.Core.Bool.{Bool, cond, not}
+use mathlib.Core.Bool.{cond}
 use mathlib.Core.List.{List, [], _∷_}
 use mathlib.Core.Option.{Option, none, some}
 use lib.ListN.{length, drop}
@@ -10,17 +10,14 @@ use Rattle.presentation.specs.Read.{field}
 use Rattle.line_fields.specs.declared.FieldRead.{FieldRead}
 use Rattle.line_fields.specs.declared.FieldRead.the-variants.{Good as GoodField, Fault as NoField}
 
--- the octets of a class at the front
-abbrev pub run : (ℕ → Bool) → List ℕ → List ℕ
-run p [] = []
-run p (x ∷ s) = cond (p x) (x ∷ run p s) []
-
-abbrev pub isUnblank : ℕ → Bool
-isUnblank x = not (isBlank x)
+-- the octets at the front that are no blanks
+abbrev pub unblanks : List ℕ → List ℕ
+unblanks [] = []
+unblanks (x ∷ s) = cond (isBlank x) [] (x ∷ unblanks s)
 
 -- where those end that begin at a place
-unfoldable pub runEnd : (ℕ → Bool) → List ℕ → ℕ → ℕ
-runEnd p s at = at + length (run p (drop at s))
+unfoldable pub fieldEnd : List ℕ → ℕ → ℕ
+fieldEnd s at = at + length (unblanks (drop at s))
 
 -- a field by its places
 abbrev pub fieldPlaces : List ℕ → ℕ → Option (List ℕ × List ℕ) → FieldRead

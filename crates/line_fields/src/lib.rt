@@ -1,44 +1,14 @@
-// The fields of a line, which blanks end: where each ends, and whether it is all letters and digits.
+// The fields of a line, which blanks end: where each ends, and where the next begins.
 ghost use mathlib.Core.Path.{_≡_};
-ghost use Rattle.octets.specs.Lists.{all};
-ghost use Rattle.octets.specs.Octets.{isLetterOrDigit, isBlank};
-ghost use Rattle.line_fields.specs.Places.{isUnblank, runEnd, fieldAt};
-
-// Whether a text is all letters and digits.
-pub fn is_letters_and_digits(s: &[u8]) -> bool
-    ensures { λ r. ⌜ r ≡ all isLetterOrDigit (now (s .entry)) ⌝ }
-{
-    let mut i: usize = 0;
-    while i < s.len() {
-        if !ascii::is_letter_or_digit(s[i]) {
-            return false;
-        }
-        i += 1;
-    }
-    true
-}
+ghost use Rattle.line_fields.specs.Places.{fieldEnd, fieldAt};
 
 // Where the octets that are no blanks, from a place on, end.
 fn field_end(s: &[u8], at: usize) -> usize
-    ensures { λ r. ⌜ r ≡ runEnd isUnblank (now (s .entry)) at ⌝ }
+    ensures { λ r. ⌜ r ≡ fieldEnd (now (s .entry)) at ⌝ }
 {
     let mut e: usize = at;
     while e < s.len() {
         if ascii::is_blank(s[e]) {
-            return e;
-        }
-        e += 1;
-    }
-    e
-}
-
-// Where the blanks, from a place on, end.
-fn blanks_end(s: &[u8], at: usize) -> usize
-    ensures { λ r. ⌜ r ≡ runEnd isBlank (now (s .entry)) at ⌝ }
-{
-    let mut e: usize = at;
-    while e < s.len() {
-        if !ascii::is_blank(s[e]) {
             return e;
         }
         e += 1;
@@ -65,6 +35,7 @@ pub fn read_field(s: &[u8], at: usize) -> FieldRead
     if s.len() <= end {
         return FieldRead::Fault;
     }
-    let next = blanks_end(s, end);
+    let rest = text_classes::trim_start(&s[end..]);
+    let next = s.len() - rest.len();
     FieldRead::Good(FieldAt { end, next })
 }

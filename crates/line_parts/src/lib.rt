@@ -3,6 +3,7 @@ use decimal_text::OctetRead;
 use limits::MAX_TAG_OCTETS;
 use line_fields::FieldRead;
 use line_unit::Style;
+use text_classes::Class;
 ghost use mathlib.Core.Path.{_≡_};
 ghost use Rattle.presentation.specs.Read.{isLineTag};
 ghost use Rattle.line_parts.specs.Places.{lineAt, valueAt};
@@ -17,7 +18,7 @@ fn is_line_tag(t: &[u8]) -> bool
     if MAX_TAG_OCTETS < t.len() {
         return false;
     }
-    line_fields::is_letters_and_digits(t)
+    text_classes::all_of(t, Class::LetterOrDigit)
 }
 
 // A line by its fields: its flags, where its tag begins and ends, and where its value begins.

@@ -3,6 +3,7 @@ use limits::MAX_DATA_OCTETS;
 use presentation::Made;
 use property_reader::PropertyRead;
 use refusal::Refusal;
+use text_classes::Class;
 ghost use mathlib.Core.Path.{_≡_};
 ghost use Rattle.presentation.specs.Calls.{writeLine};
 
@@ -18,7 +19,7 @@ pub fn write_line(d: &[u8], buffer: &mut [u8]) -> Made
         return Made::Refused(Refusal::BadData);
     };
     let tag = property_reader::tag_part(d);
-    if !line_fields::is_letters_and_digits(tag) {
+    if !text_classes::all_of(tag, Class::LetterOrDigit) {
         return Made::Refused(Refusal::BadData);
     }
     let value = property_reader::value_part(d);

@@ -34,14 +34,10 @@ last-no-label (x ∷ l) e =
     let place : length (x ∷ l) - 1 ≡ length l = omega arith in
     rw (ends-at isLetterOrDigit 0 x l, rw place at e, hyphen-is-neither, and-false)
 
-pub octet-no-label : (l : List ℕ) → all isLetterDigitHyphen l ≡ false → false ≡ isLabel l
-unfolding isLabel
-octet-no-label l e = rw e
-
 ends-on : (l s : List ℕ) (x : ℕ) → l ≡ s ++ (x ∷ []) → getD l (length l - 1) 0 ≡ x
 ends-on l s x e = rw e (getD-at s x [] 0 (length (s ++ (x ∷ [])) - 1) (omega (arith, length-append s (x ∷ []))))
 
-pub is-label : (l : List ℕ) → (length l ≡ 0 → ⊥) → (getD l 0 0 ≡ hyphen → ⊥) → (getD l (length l - 1) 0 ≡ hyphen → ⊥) →
+is-label : (l : List ℕ) → (length l ≡ 0 → ⊥) → (getD l 0 0 ≡ hyphen → ⊥) → (getD l (length l - 1) 0 ≡ hyphen → ⊥) →
     all isLetterDigitHyphen l ≡ true → true ≡ isLabel l
 is-label l some first last plain =
     let each = all-true isLetterDigitHyphen l .0 plain in
@@ -50,3 +46,12 @@ is-label l some first last plain =
       begins-without l (omega arith) each (λ s e. first (rw e)),
       ends-without l (omega arith) each (λ s e. last (ends-on l s hyphen e)),
     ))
+
+octet-no-label : (l : List ℕ) → all isLetterDigitHyphen l ≡ false → false ≡ isLabel l
+unfolding isLabel
+octet-no-label l e = rw e
+
+pub label-by-octets : (l : List ℕ) → (length l ≡ 0 → ⊥) → (getD l 0 0 ≡ hyphen → ⊥) → (getD l (length l - 1) 0 ≡ hyphen → ⊥) →
+    (t : Bool) → t ≡ all isLetterDigitHyphen l → t ≡ isLabel l
+label-by-octets l some first last true e = is-label l some first last (sym e)
+label-by-octets l some first last false e = octet-no-label l (sym e)

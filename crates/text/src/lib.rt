@@ -1,5 +1,6 @@
 // Texts of octets: the comparison that ignores letter case, labels, and pieces.
 use limits::MAX_LABEL_OCTETS;
+use text_classes::Class;
 ghost use mathlib.Core.Path.{_≡_};
 ghost use Rattle.octets.specs.Octets.{equalIgnoringCase};
 ghost use Rattle.octets.specs.Label.{isLabel, isHostLabel};
@@ -42,14 +43,7 @@ pub fn is_label(l: &[u8]) -> bool
     if l[n - 1] == b'-' {
         return false;
     }
-    let mut at: usize = 0;
-    while at < n {
-        if !ascii::is_letter_digit_hyphen(l[at]) {
-            return false;
-        }
-        at += 1;
-    }
-    true
+    text_classes::all_of(l, Class::LetterDigitHyphen)
 }
 
 pub fn is_host_label(l: &[u8]) -> bool

@@ -12,11 +12,11 @@ use Rattle.octets.specs.Pieces.{split}
 use Rattle.text.specs.Places.{pieceEnd}
 use Rattle.octets.proofs.ListLaws.{all-true, not-passed}
 use Rattle.octets.proofs.PieceLaws.{pieces-join}
-use Rattle.value_text.specs.declared.Class.the-variants.{Blank, LetterOrDigit, ParameterOctet}
+use Rattle.text_classes.specs.declared.Class.the-variants.{Blank, LetterOrDigit, ParameterOctet}
 use Rattle.value.specs.IssueValues.{trimStart, trimEnd, isParameterTag, isParameterOctet, isTagAndValue, isParameter, isBlankAlone, areParameters}
-use Rattle.value_text.specs.Classes.{inClass}
+use Rattle.text_classes.specs.Classes.{inClass}
 use Rattle.value.proofs.Cuts.{split-one}
-use Rattle.value_text.proofs.Rests.{rest-whole}
+use Rattle.text_classes.proofs.Rests.{rest-whole}
 use Rattle.value_parameters.proofs.FirstPiece.{cut-last, cut-more}
 use Rattle.value.proofs.Parameters.{value-behind, blank-free}
 

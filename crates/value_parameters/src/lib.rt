@@ -1,5 +1,5 @@
 // Parameters of issue and issuewild properties (RFC 8659 section 4.2).
-use value_text::Class;
+use text_classes::Class;
 ghost use mathlib.Core.Path.{_≡_};
 ghost use Rattle.value.specs.IssueValues.{isParameter};
 ghost use Rattle.value_parameters.specs.Parameters.{areParametersIn};
@@ -8,26 +8,26 @@ ghost use Rattle.value_parameters.specs.Parameters.{areParametersIn};
 fn is_parameter(s: &[u8]) -> bool
     ensures { λ r. ⌜ r ≡ isParameter (now (s .entry)) ⌝ }
 {
-    let p = value_text::trim_start(value_text::trim_end(s));
+    let p = text_classes::trim_start(text_classes::trim_end(s));
     let e = text::piece_end(p, 0, b'=');
     if p.len() <= e {
         return false;
     }
-    let tag = value_text::trim_end(&p[..e]);
+    let tag = text_classes::trim_end(&p[..e]);
     if tag.len() == 0 {
         return false;
     }
-    if !value_text::all_of(tag, Class::LetterOrDigit) {
+    if !text_classes::all_of(tag, Class::LetterOrDigit) {
         return false;
     }
-    value_text::all_of(value_text::trim_start(&p[e + 1..]), Class::ParameterOctet)
+    text_classes::all_of(text_classes::trim_start(&p[e + 1..]), Class::ParameterOctet)
 }
 
 // What stands behind the first semicolon: nothing but blanks, or parameters.
 pub fn are_parameters(s: &[u8]) -> bool
     ensures { λ r. ⌜ r ≡ areParametersIn (now (s .entry)) ⌝ }
 {
-    if value_text::all_of(s, Class::Blank) {
+    if text_classes::all_of(s, Class::Blank) {
         return true;
     }
     let mut at: usize = 0;

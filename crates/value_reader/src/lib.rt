@@ -38,8 +38,8 @@ fn is_domain_name(s: &[u8]) -> bool
 fn read_name(s: &[u8]) -> ValueRead
     ensures { λ r. ⌜ r ≡ namePlaces (now (s .entry)) (nameIn (trim (now (s .entry)))) ⌝ }
 {
-    let front = value_text::trim_end(s);
-    let name = value_text::trim_start(front);
+    let front = text_classes::trim_end(s);
+    let name = text_classes::trim_start(front);
     if name.len() == 0 {
         return ValueRead::Nameless;
     }

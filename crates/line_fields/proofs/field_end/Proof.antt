@@ -3,13 +3,13 @@ use Prim.Native.Nat.{_-_}
 use mathlib.Core.Path.{_≡_}
 use lib.ListN.{length}
 use borrow.Author.Needs.{needs}
-use Rattle.line_fields.specs.Places.{isUnblank, runEnd}
-use Rattle.line_fields.proofs.RunEnds.{blank-no-octet, unblank-octet, run-turn, run-stop, run-last}
+use Rattle.line_fields.specs.Places.{fieldEnd}
+use Rattle.line_fields.proofs.FieldEnds.{field-goes-on, field-stops, line-ends}
 use Rattle.line_fields.proofs.field_end.Statement.{statement}
 use Rattle.line_fields.proofs.field_end.Tie as tie
 
 abbrev Inv-loop : tie.InvT-loop
-Inv-loop s at e₀ e = runEnd isUnblank s at ≡ runEnd isUnblank s e
+Inv-loop s at e₀ e = fieldEnd s at ≡ fieldEnd s e
 
 abbrev μ-loop : tie.MeasureT-loop
 μ-loop s at e₀ e = length s - e
@@ -24,7 +24,7 @@ is-blank-requires : tie.Need-is-blank-requires Inv-loop μ-loop
 is-blank-requires c κs = search needs
 
 returns : tie.Need-returns Inv-loop μ-loop
-returns c = search (needs, run-stop, blank-no-octet)
+returns c = search (needs, field-stops)
 
 add-e : tie.Need-add-e Inv-loop μ-loop
 add-e c = search needs
@@ -33,10 +33,10 @@ loop-less : tie.Need-loop-less Inv-loop μ-loop
 loop-less c = search needs
 
 loop-again : tie.Need-loop-again Inv-loop μ-loop
-loop-again c = search (needs, run-turn, unblank-octet)
+loop-again c = search (needs, field-goes-on)
 
 returns-2 : tie.Need-returns-2 Inv-loop μ-loop
-returns-2 c = search (needs, run-last)
+returns-2 c = search (needs, line-ends)
 
 pub field-end-spec : {M : Type 1} → statement M
 field-end-spec =

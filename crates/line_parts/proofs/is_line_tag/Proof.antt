@@ -10,11 +10,11 @@ returns c = search (needs, empty-no-tag)
 returns-2 : tie.Need-returns-2
 returns-2 c = search (needs, long-no-tag)
 
-is-letters-and-digits-requires : tie.Need-is-letters-and-digits-requires
-is-letters-and-digits-requires c κs = search needs
+all-of-requires : tie.Need-all-of-requires
+all-of-requires c κs = search needs
 
 returns-3 : tie.Need-returns-3
 returns-3 c = search (needs, tag-by-octets)
 
 pub is-line-tag-spec : {M : Type 1} → statement M
-is-line-tag-spec = tie.close (tie.spec returns returns-2 is-letters-and-digits-requires returns-3)
+is-line-tag-spec = tie.close (tie.spec returns returns-2 all-of-requires returns-3)

@@ -26,8 +26,8 @@ returns-2 c = told writeLine _ _ (refused BadData _) (search (needs, no-data))
 tag-part-requires : tie.Need-tag-part-requires
 tag-part-requires c κs = search needs
 
-is-letters-and-digits-requires : tie.Need-is-letters-and-digits-requires
-is-letters-and-digits-requires c κs = search needs
+all-of-requires : tie.Need-all-of-requires
+all-of-requires c κs = search needs
 
 returns-3 : tie.Need-returns-3
 returns-3 c = told writeLine _ _ (refused BadData _) (search (needs, not-plain, not-true))
@@ -54,7 +54,7 @@ write-line-spec =
     enum-told
     returns-2
     tag-part-requires
-    is-letters-and-digits-requires
+    all-of-requires
     returns-3
     value-part-requires
     write-property-requires

@@ -1,12 +1,12 @@
--- `value_text::trim_start` meets its contract. The loop's invariant: what is left is the same without the blanks at its front.
+-- `text_classes::trim_start` meets its contract. The loop's invariant: what is left is the same without the blanks at its front.
 use mathlib.Core.Path.{_≡_}
 use lib.ListN.{length}
 use borrow.Author.Needs.{needs}
 use borrow.Author.Tests.{not-true, not-false}
 use Rattle.value.specs.IssueValues.{trimStart}
-use Rattle.value_text.proofs.TrimWalk.{start-less, start-turn, start-stop, start-end}
-use Rattle.value_text.proofs.trim_start.Statement.{statement}
-use Rattle.value_text.proofs.trim_start.Tie as tie
+use Rattle.text_classes.proofs.TrimWalk.{start-less, start-turn, start-stop, start-end}
+use Rattle.text_classes.proofs.trim_start.Statement.{statement}
+use Rattle.text_classes.proofs.trim_start.Tie as tie
 
 abbrev Inv-loop : tie.InvT-loop
 Inv-loop s t₀ t = trimStart s ≡ trimStart t

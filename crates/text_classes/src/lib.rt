@@ -1,17 +1,18 @@
-// Texts within values of issue and issuewild properties: octets of a class, and blanks taken off either end.
+// Texts by the class of their octets: whether all are of one, and without the blanks at either end.
 ghost use mathlib.Core.Path.{_≡_};
 ghost use Rattle.octets.specs.Lists.{all};
 ghost use Rattle.value.specs.IssueValues.{trimStart, trimEnd, isParameterOctet};
-ghost use Rattle.value_text.specs.Classes.{inClass};
+ghost use Rattle.text_classes.specs.Classes.{inClass};
 
-// Classes of octets that a part of a value may be made of.
+// Classes of octets that a label, a tag, a value or the blanks around them are made of.
 pub enum Class {
     Blank,
     LetterOrDigit,
+    LetterDigitHyphen,
     ParameterOctet,
 }
 
-// Octets 33 to 126 except the semicolon.
+// Octets of a parameter's value (RFC 8659 section 4.2): 33 to 126 except the semicolon.
 fn is_parameter_octet(b: u8) -> bool
     ensures { λ r. ⌜ r ≡ isParameterOctet b ⌝ }
 {
@@ -31,6 +32,7 @@ fn is_in(b: u8, class: Class) -> bool
     match class {
         Class::Blank => ascii::is_blank(b),
         Class::LetterOrDigit => ascii::is_letter_or_digit(b),
+        Class::LetterDigitHyphen => ascii::is_letter_digit_hyphen(b),
         Class::ParameterOctet => is_parameter_octet(b),
     }
 }

@@ -11,7 +11,7 @@ use Rattle.octets.specs.Octets.{isBlank}
 use Rattle.octets.proofs.Walks.{drop-step}
 use Rattle.value.specs.IssueValues.{trimStart, trimEnd}
 use Rattle.value.proofs.Blanks.{trimEnd-back, trimEnd-upTo}
-use Rattle.value_text.proofs.Rests.{rest-whole}
+use Rattle.text_classes.proofs.Rests.{rest-whole}
 
 -- From the front.
 

@@ -1,9 +1,9 @@
--- `value_text::is_parameter_octet` meets its contract.
+-- `text_classes::is_parameter_octet` meets its contract.
 use borrow.Author.Needs.{needs}
 use Rattle.octets.proofs.Tests.{tests}
 use Rattle.value.specs.IssueValues.{isParameterOctet}
-use Rattle.value_text.proofs.is_parameter_octet.Statement.{statement}
-use Rattle.value_text.proofs.is_parameter_octet.Tie as tie
+use Rattle.text_classes.proofs.is_parameter_octet.Statement.{statement}
+use Rattle.text_classes.proofs.is_parameter_octet.Tie as tie
 
 returns : tie.Need-returns
 unfolding isParameterOctet

@@ -1,4 +1,4 @@
--- `value_text::trim_end` meets its contract. The loop's invariant: what is left is the same without the blanks at its end.
+-- `text_classes::trim_end` meets its contract. The loop's invariant: what is left is the same without the blanks at its end.
 use native.Mathlib.Nat.{sub-le}
 use mathlib.Core.Path.{_≡_, sym}
 use lib.ListN.{length}
@@ -6,9 +6,9 @@ use lib.Seq.{length-take-le}
 use borrow.Author.Needs.{needs}
 use borrow.Author.Tests.{not-true, not-false}
 use Rattle.value.specs.IssueValues.{trimEnd}
-use Rattle.value_text.proofs.TrimWalk.{end-less, end-turn, end-stop, end-end}
-use Rattle.value_text.proofs.trim_end.Statement.{statement}
-use Rattle.value_text.proofs.trim_end.Tie as tie
+use Rattle.text_classes.proofs.TrimWalk.{end-less, end-turn, end-stop, end-end}
+use Rattle.text_classes.proofs.trim_end.Statement.{statement}
+use Rattle.text_classes.proofs.trim_end.Tie as tie
 
 abbrev Inv-loop : tie.InvT-loop
 Inv-loop s t₀ t = trimEnd s ≡ trimEnd t

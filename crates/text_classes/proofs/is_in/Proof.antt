@@ -1,7 +1,7 @@
--- `value_text::is_in` meets its contract: each arm knows the class, and what it calls answers for that class.
+-- `text_classes::is_in` meets its contract: each arm knows the class, and what it calls answers for that class.
 use borrow.Author.Needs.{needs}
-use Rattle.value_text.proofs.is_in.Statement.{statement}
-use Rattle.value_text.proofs.is_in.Tie as tie
+use Rattle.text_classes.proofs.is_in.Statement.{statement}
+use Rattle.text_classes.proofs.is_in.Tie as tie
 
 enum-told : tie.Need-enum-told
 enum-told c = search needs
@@ -18,6 +18,12 @@ is-letter-or-digit-requires c κs = search needs
 enum-told-3 : tie.Need-enum-told-3
 enum-told-3 c = search needs
 
+is-letter-digit-hyphen-requires : tie.Need-is-letter-digit-hyphen-requires
+is-letter-digit-hyphen-requires c κs = search needs
+
+enum-told-4 : tie.Need-enum-told-4
+enum-told-4 c = search needs
+
 is-parameter-octet-requires : tie.Need-is-parameter-octet-requires
 is-parameter-octet-requires c κs = search needs
 
@@ -30,6 +36,9 @@ returns-2 c = rw (c .before .enum-told2 .given .1) (search needs)
 returns-3 : tie.Need-returns-3
 returns-3 c = rw (c .before .enum-told3 .given .1) (search needs)
 
+returns-4 : tie.Need-returns-4
+returns-4 c = rw (c .before .enum-told4 .given .1) (search needs)
+
 pub is-in-spec : {M : Type 1} → statement M
 is-in-spec =
     tie.close
@@ -39,7 +48,10 @@ is-in-spec =
     enum-told-2
     is-letter-or-digit-requires
     enum-told-3
+    is-letter-digit-hyphen-requires
+    enum-told-4
     is-parameter-octet-requires
     returns
     returns-2
-    returns-3)
+    returns-3
+    returns-4)
