@@ -5,7 +5,8 @@ use native.Mathlib.Omega.{arith}
 use mathlib.Core.Path.{_≡_, refl, sym, _∙_}
 use mathlib.Core.List.{List, [], _∷_, _++_, append-assoc, append-nil}
 use lib.ListN.{length, take, drop, set, length-append, length-drop, length-set, drop-of-length-le}
-use lib.Seq.{take-append-seam, drop-append-seam, take-all, drop-drop, set-split}
+use lib.Seq.{take-append-seam, drop-append-seam, drop-drop, set-split}
+use Rattle.octets.proofs.Walks.{rest-whole}
 use Rattle.buffer.specs.Buffer.{Put}
 
 pub put-nothing : (d : List ℕ) → Put [] d d 0
@@ -29,13 +30,9 @@ module _ (a : ℕ) where
     put-three c (x ∷ y ∷ []) h = absurd (omega arith)
     put-three c (x ∷ y ∷ z ∷ d) h = record { count = refl; octets = refl }
 
--- what is lent is the whole rest
-pub lent-rest : (w : ℕ) (x : List ℕ) → take (length x - w) (drop w x) ≡ drop w x
-lent-rest w x = take-all (length x - w) (drop w x) (omega (arith, length-drop w x))
-
--- how long it is
+-- how long the rest is that is lent
 pub rest-room : (x : List ℕ) (w k : ℕ) → w + k ≤ length x → k ≤ length (take (length x - w) (drop w x))
-rest-room x w k h = rw (lent-rest w x, length-drop w x) (omega arith)
+rest-room x w k h = rw (rest-whole x w, length-drop w x) (omega arith)
 
 -- an octet set leaves the length
 pub set-length : (x d : List ℕ) (i b : ℕ) → length x ≡ length d → length (set x i b) ≡ length d
@@ -69,7 +66,7 @@ module _ {e d x : List ℕ} {w : ℕ} (p : Put e d x w) where
         Put e′ d (take w x ++ (y ++ drop (length x - w) (drop w x))) (w + n)
     put-more y n q = record {
       count = omega (arith, long, q .count);
-      octets = rw (front, drop-of-length-le (drop w x) {i = length x - w} (omega (arith, length-drop w x)), append-nil, q .octets, lent-rest, rest) (sym behind);
+      octets = rw (front, drop-of-length-le (drop w x) {i = length x - w} (omega (arith, length-drop w x)), append-nil, q .octets, rest-whole, rest) (sym behind);
     }
 
   pub put-octet : (b : ℕ) (e′ : List ℕ) → w < length x → e′ ≡ e ++ (b ∷ []) → Put e′ d (set x w b) (w + 1)

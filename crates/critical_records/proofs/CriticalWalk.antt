@@ -8,7 +8,7 @@ use mathlib.Core.List.{List, [], _∷_}
 use lib.ListN.{take, drop}
 use Rattle.limits.specs.Limits.{maxRecords}
 use Rattle.octets.specs.Lists.{any, select, consIf}
-use Rattle.octets.proofs.ListLaws.{or-false}
+use Rattle.octets.proofs.ListLaws.{or-eq-false}
 use Rattle.record.specs.Property.{property}
 use Rattle.record.specs.Records.{Record, isCaa}
 use Rattle.record_reader.specs.Places.{recordAt}
@@ -73,7 +73,7 @@ module _ (book : List ℕ) (at k : ℕ) (left : CriticalLeft book at k) where
 -- of no owner
 none-of : (p q : CaaRecord → Bool) (cs : List CaaRecord) → any p cs ≡ false → select p (select q cs) ≡ []
 none-of p q [] e = refl
-none-of p q (c ∷ cs) e = let (here, rest) = or-false (p c) (any p cs) .0 e in go (q c) here (none-of p q cs rest)
+none-of p q (c ∷ cs) e = let (here, rest) = or-eq-false (p c) (any p cs) .0 e in go (q c) here (none-of p q cs rest)
   where
     go : (b : Bool) → p c ≡ false → select p (select q cs) ≡ [] → select p (consIf b c (select q cs)) ≡ []
     go false h r = r

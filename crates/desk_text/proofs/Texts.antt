@@ -10,8 +10,7 @@ use Rattle.octets.specs.Lists.{All, all-nil, all-cons, all, select, begins}
 use Rattle.octets.specs.Octets.{text, isUpper, isLower, isDigit, isLetterOrDigit}
 use Rattle.octets.specs.Decimal.{decimalFrom}
 use Rattle.octets.specs.Pieces.{split, join}
-use Rattle.octets.proofs.ListLaws.{All-imp, All-head, all-true}
-use Rattle.octets.proofs.DottedLabels.{told-apart}
+use Rattle.octets.proofs.ListLaws.{told-apart, All-imp, All-head, all-true}
 use Rattle.octets.proofs.PieceLaws.{pieces-join}
 use Rattle.refusal.specs.declared.Refusal.{Refusal}
 use Rattle.refusal.specs.declared.Refusal.the-variants.{RequestTooLong, BadName, TooManyNames, BadIssuer, BookTooLong, BadRecord, TooManyRecords, NoRoom, BadLine, LineTooLong, BadData}

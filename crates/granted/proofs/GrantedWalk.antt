@@ -16,8 +16,7 @@ use Rattle.record.specs.Property.{property}
 use Rattle.record.proofs.PropertyLaws.{property-is-its-parts}
 use Rattle.rule.specs.RelevantSet.{CaaRecord}
 use Rattle.rule.specs.Authorizations.{grantee, consSome, grantees}
-use Rattle.granted.specs.Joined.{joined}
-use Rattle.granted.proofs.Joining.{joined-distinct}
+use Rattle.granted.proofs.Joining.{joined, joined-distinct}
 use Rattle.record_walk.specs.declared.Walk.{Walk}
 use Rattle.record_walk.specs.declared.Seen.{Seen as SeenAt}
 use Rattle.record_walk.specs.declared.Step.{Step}
@@ -34,17 +33,12 @@ use Rattle.value_reader.specs.declared.NameAt.{NameAt}
 use Rattle.grantee_reader.specs.Places.{granteeOfData, nameAt, granteeAt}
 use Rattle.grantee_reader.specs.declared.GranteeRead.{GranteeRead}
 use Rattle.grantee_reader.specs.declared.GranteeRead.the-variants.{At, Nobody}
-use Rattle.grantee_reader.proofs.Grantees.{nobody-granted, somebody-granted, grantee-from, grantee-to}
+use Rattle.grantee_reader.proofs.Grantees.{grantee-of-data, nobody-granted, somebody-granted, grantee-from, grantee-to}
 use Rattle.name_list.specs.Places.{part, namesIn, pushed}
 use Rattle.granted.specs.Places.{grantedBy}
 use Rattle.name_list.proofs.NestedParts.{part-inside, part-within}
 use Rattle.name_list.proofs.KeptNames.{part-here, names-none, pushed-full, pushed-count, pushed-names}
 use Rattle.record_walk.proofs.WalkNumbers.{number-grows, number-small}
-
--- data grants as the record that holds it does
-tells-grantee : (d : List ℕ) (c : CaaRecord) → property d ≡ some (c .property) → granteeOfData d ≡ grantee c
-unfolding granteeOfData grantee
-tells-grantee d c e = rw e
 
 module _ (ms : List (List ℕ)) (n : List ℕ) (ns : List (List ℕ)) where
   join-known : any (same n) ms ≡ true → joined ms (n ∷ ns) ≡ joined ms ns
@@ -116,7 +110,7 @@ module _ (book x : List ℕ) (wild : Bool) where
           granted =
               let (cr, s) = seen-there book x w o f c g in
               let passes : hasTag wild cr ≡ true = sym (tells-tag wild _ cr (s .holds)) ∙ sym test ∙ e in
-              so-far .joins ∙ rw (s .left, passes, tells-grantee _ cr (s .holds))
+              so-far .joins ∙ rw (s .left, passes, grantee-of-data _ .0 cr (s .holds))
 
           pub nobody : r ≡ Nobody → Collected names (c .walk)
           nobody k = passed (granted ∙ rw (nobody-granted _ r read k))

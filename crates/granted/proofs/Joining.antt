@@ -9,7 +9,11 @@ use Rattle.octets.proofs.Texts.{same-equal}
 use Rattle.octets.proofs.SelectTests.{select-every, select-twice, any-behind}
 use Rattle.rule.specs.IssuerLists.{distinct}
 use Rattle.rule.proofs.DistinctLaws.{isOther}
-use Rattle.granted.specs.Joined.{joined}
+
+-- the names so far, and behind them each of the others where it first stands
+abbrev pub joined : List (List ℕ) → List (List ℕ) → List (List ℕ)
+joined ms [] = ms
+joined ms (n ∷ ns) = joined (cond (any (same n) ms) ms (ms ++ (n ∷ []))) ns
 
 -- what is not yet among those so far
 abbrev isNew : List (List ℕ) → List ℕ → Bool

@@ -5,7 +5,7 @@ use mathlib.Core.Path.{_≡_, refl, sym, ap, _∙_}
 use mathlib.Core.Logic.{_⊎_, inl, inr}
 use mathlib.Core.Bool.{Bool, true, false, cond, not}
 use mathlib.Core.List.{List}
-use mathlib.Core.Option.{Option, none, some}
+use mathlib.Core.Option.{none, some}
 use lib.ListN.{length, take, drop}
 use lib.Seq.{drop-drop}
 use mir.Syntax.{w64}
@@ -14,8 +14,7 @@ use denote.Enum.Declared.{tagOf as variant}
 use borrow.Author.Tests.{not-true, not-false}
 use Rattle.octets.specs.Octets.{lowered}
 use Rattle.issuer.specs.Issuer.{isIssuer}
-use Rattle.record.specs.Property.{Property, property}
-use Rattle.property_reader.specs.Places.{valueIn, valuePart}
+use Rattle.property_reader.specs.Places.{valuePart}
 use Rattle.value.specs.IssueValues.{areParameters, issueValue}
 use Rattle.value_reader.specs.Places.{valueAt}
 use Rattle.value_reader.specs.declared.NameAt.{NameAt}
@@ -23,9 +22,9 @@ use Rattle.value_reader.specs.declared.ValueRead.{ValueRead}
 use Rattle.value_reader.specs.declared.ValueRead.the-variants.{Malformed, Nameless, Named}
 use Rattle.value_reader.proofs.ValueRead.{the-type}
 use Rattle.value_reader.proofs.ValuePlaces.{read-malformed, read-nameless, read-named, name-from, name-to}
-use Rattle.rule.specs.Authorizations.{holder, grantee}
-use Rattle.grantee_reader.specs.Places.{granteeOf, granteeOfData, nameAt, granteePlaces, granteeAt, granteeThere}
-use Rattle.grantee_reader.specs.Theorems.{Grantee-by-place}
+use Rattle.rule.specs.Authorizations.{grantee}
+use Rattle.grantee_reader.specs.Places.{granteeOfData, nameAt, granteePlaces, granteeAt, granteeThere}
+use Rattle.grantee_reader.specs.Theorems.{Grantee-of-data, Grantee-by-place}
 use Rattle.grantee_reader.specs.declared.GranteeRead.{GranteeRead}
 use Rattle.grantee_reader.specs.declared.GranteeRead.the-variants.{At, Nobody}
 use Rattle.grantee_reader.proofs.ValueEnd.{value-short, value-ends}
@@ -44,26 +43,22 @@ module _ (d : List ℕ) where
       long : start + n .to - (start + n .from) ≡ n .to - n .from
       long = omega arith
 
-  -- data laid out wrongly has an empty value, which grants nobody
-  by-value : granteeOfData d ≡ holder (issueValue (valuePart d))
-  unfolding granteeOfData grantee valuePart issueValue areParameters
-  by-value = go (property d)
-    where
-      go : (o : Option Property) → granteeOf o ≡ holder (issueValue (valueIn o))
-      go none = refl
-      go (some p) = refl
+-- data laid out wrongly has an empty value, which grants nobody
+pub grantee-of-data : Grantee-of-data
+unfolding granteeOfData grantee valuePart issueValue areParameters
+grantee-of-data d = (λ c e. rw e, λ e. rw e)
 
 pub grantee-by-place : Grantee-by-place
-unfolding granteeAt
+unfolding granteeAt granteeOfData
 grantee-by-place d = go (valueAt v) refl
   where
     v : List ℕ
     v = valuePart d
 
     go : (o : ValueRead) → valueAt v ≡ o → granteeThere d (granteePlaces d v o) ≡ granteeOfData d
-    go Malformed e = rw (by-value d, read-malformed v (valueAt v) refl e)
-    go Nameless e = rw (by-value d, read-nameless v (valueAt v) refl e)
-    go (Named n) e = rw (by-value d, read-named v (valueAt v) refl n e _ refl) (by (isIssuer (nameAt v n)))
+    go Malformed e = rw (read-malformed v (valueAt v) refl e)
+    go Nameless e = rw (read-nameless v (valueAt v) refl e)
+    go (Named n) e = rw (read-named v (valueAt v) refl n e _ refl) (by (isIssuer (nameAt v n)))
       where
         by : (t : Bool) → granteeThere d (cond t (At (shifted d n)) Nobody) ≡ cond t (some (lowered (nameAt v n))) none
         by true = ap (λ l. some (lowered l)) (shifted-name d n)

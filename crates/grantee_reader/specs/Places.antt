@@ -1,28 +1,24 @@
 -- The issuer that CAA data grants, and where its name stands; Theorems.antt ties the two.
 use Prim.Native.Nat.{ℕ, _+_, _-_}
 use mathlib.Core.Bool.{cond}
-use mathlib.Core.List.{List, []}
+use mathlib.Core.List.{List}
 use mathlib.Core.Option.{Option, none, some}
 use lib.ListN.{length, take, drop}
 use Rattle.octets.specs.Octets.{lowered}
 use Rattle.issuer.specs.Issuer.{isIssuer}
-use Rattle.record.specs.Property.{Property, property}
 use Rattle.property_reader.specs.Places.{valuePart}
 use Rattle.value_reader.specs.declared.NameAt.{NameAt}
 use Rattle.value_reader.specs.declared.ValueRead.{ValueRead}
 use Rattle.value_reader.specs.declared.ValueRead.the-variants.{Malformed, Nameless, Named}
 use Rattle.value_reader.specs.Places.{valueAt}
-use Rattle.rule.specs.Authorizations.{grantee}
+use Rattle.value.specs.IssueValues.{issueValue}
+use Rattle.rule.specs.Authorizations.{holder}
 use Rattle.grantee_reader.specs.declared.GranteeRead.{GranteeRead}
 use Rattle.grantee_reader.specs.declared.GranteeRead.the-variants.{At, Nobody}
 
--- the issuer that CAA data grants: that of a record that holds it, whatever its owner and number; nobody where it is laid out wrongly
-abbrev pub granteeOf : Option Property → Option (List ℕ)
-granteeOf none = none
-granteeOf (some p) = grantee (record { number = 0; owner = []; property = p })
-
+-- the issuer that CAA data grants, by its value; nobody where the data is laid out wrongly, and so has none
 unfoldable pub granteeOfData : List ℕ → Option (List ℕ)
-granteeOfData d = granteeOf (property d)
+granteeOfData d = holder (issueValue (valuePart d))
 
 -- the octets of d at a place
 abbrev pub nameAt : List ℕ → NameAt → List ℕ

@@ -2,8 +2,17 @@
 use Prim.Native.Nat.{ℕ}
 use mathlib.Core.Path.{_≡_}
 use mathlib.Core.List.{List}
+use mathlib.Core.Option.{none, some}
+use Rattle.record.specs.Property.{property}
+use Rattle.rule.specs.RelevantSet.{CaaRecord}
+use Rattle.rule.specs.Authorizations.{grantee}
 use Rattle.grantee_reader.specs.Places.{granteeOfData, granteeAt, granteeThere}
 
--- the issuer found by place is the one that the rule grants
+-- data grants whom a record that holds it grants by the rule
+abbrev pub Grantee-of-data : Type 0
+Grantee-of-data =
+    (d : List ℕ) → ((c : CaaRecord) → property d ≡ some (c .property) → granteeOfData d ≡ grantee c) × (property d ≡ none → granteeOfData d ≡ none)
+
+-- the issuer found by place is that one
 abbrev pub Grantee-by-place : Type 0
 Grantee-by-place = (d : List ℕ) → granteeThere d (granteeAt d) ≡ granteeOfData d

@@ -1,13 +1,13 @@
 -- The loop of any_grants: some record with the tag grants the issuer where one of those that are left does.
 use Prim.Native.Nat.{ℕ}
-use mathlib.Core.Path.{_≡_, refl, sym, _∙_}
+use mathlib.Core.Path.{_≡_, sym, _∙_}
 use mathlib.Core.Bool.{Bool, true, false, _||_}
 use mathlib.Core.List.{List}
-use mathlib.Core.Option.{Option, none, some}
 use Rattle.octets.specs.Lists.{any, select}
 use Rattle.octets.specs.Octets.{same, lowered}
 use Rattle.rule.specs.RelevantSet.{CaaRecord}
-use Rattle.rule.specs.Authorizations.{grantee, consSome, grantees}
+use Rattle.rule.specs.Authorizations.{grantee, isGrantee, grantees}
+use Rattle.rule.proofs.GranteeLaws.{one-more}
 use Rattle.relevant.specs.Places.{setOf, hasTag}
 use Rattle.record_walk.specs.declared.Walk.{Walk}
 use Rattle.record_walk.specs.declared.Seen.{Seen as SeenAt}
@@ -17,17 +17,11 @@ use Rattle.record_walk.specs.Walks.{nextOwned}
 use Rattle.record_walk.proofs.WalkSteps.{remaining}
 use Rattle.record_walk.proofs.WalkLaws.{dataOf}
 use Rattle.record_walk.proofs.SetWalk.{Left, set-over, Passed, set-passed, set-taken}
-use Rattle.property_predicates.specs.DataTests.{dataHasTag, isGrantee, grantsTo}
+use Rattle.property_predicates.specs.DataTests.{dataHasTag, grantsTo}
 use Rattle.property_predicates.proofs.TestLaws.{tells-tag, tells-grant}
 
 abbrev pub grantsAny : List ℕ → List CaaRecord → Bool
 grantsAny issuer cs = any (same (lowered issuer)) (grantees cs)
-
-one-more :
-    (issuer : List ℕ) (o : Option (List ℕ)) (ns : List (List ℕ)) →
-    any (same (lowered issuer)) (consSome o ns) ≡ isGrantee issuer o || any (same (lowered issuer)) ns
-one-more issuer none ns = refl
-one-more issuer (some n) ns = refl
 
 module _ (issuer : List ℕ) (wild : Bool) where
   abbrev pub GrantsLeft : List ℕ → List ℕ → Walk → Type 0
@@ -46,8 +40,8 @@ module _ (issuer : List ℕ) (wild : Bool) where
       tested : grantsAny issuer (select (hasTag wild) (setOf book x)) ≡ b || grantsAny issuer (select (hasTag wild) (remaining book x (c .walk)))
       tested =
           let (cr, s, first) = set-taken (grantsAny issuer) (hasTag wild) (dataHasTag wild) (tells-tag wild) book x w left o f c g t test e in
-          let told : isGrantee issuer (grantee cr) ≡ b = sym (tells-grant issuer _ cr (s .holds)) ∙ sym h in
-          first ∙ one-more issuer (grantee cr) _ ∙ rw told
+          let told : isGrantee (lowered issuer) (grantee cr) ≡ b = sym (tells-grant issuer _ cr (s .holds)) ∙ sym h in
+          first ∙ one-more (lowered issuer) (grantee cr) _ ∙ rw told
 
       pub grant-found : b ≡ true → true ≡ grantsAny issuer (select (hasTag wild) (setOf book x))
       grant-found k = sym (tested ∙ rw k)

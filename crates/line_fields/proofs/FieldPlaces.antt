@@ -8,8 +8,9 @@ use mathlib.Core.Option.{Option, none, some}
 use lib.ListN.{length, take, drop, length-append, length-drop}
 use lib.Seq.{take-at, drop-at, drop-drop}
 use Rattle.octets.specs.Octets.{isBlank, trimStart}
+use Rattle.octets.proofs.ReaderLaws.{fault-told}
 use Rattle.value.proofs.Blanks.{trimStart-takes}
-use Rattle.text_classes.proofs.Rests.{rest-whole}
+use Rattle.octets.proofs.Walks.{rest-whole}
 use Rattle.presentation.specs.Read.{field}
 use Rattle.presentation.proofs.Fields.{field-apart}
 use Rattle.line_fields.specs.declared.FieldAt.{FieldAt}
@@ -115,11 +116,8 @@ module _ (s : List ℕ) (at : ℕ) where
 
     pub field-missing : o ≡ Fault → field (drop at s) ≡ none
     unfolding fieldAt
-    field-missing g = go (field (drop at s)) refl (sym told ∙ g)
-      where
-        go : (q : Option (List ℕ × List ℕ)) → field (drop at s) ≡ q → fieldPlaces s at q ≡ Fault → field (drop at s) ≡ none
-        go none h k = h
-        go (some r) h k = let z : _≡_ {A = ℕ} 0 1 = cc in absurd (omega arith)
+    field-missing g =
+        fault-told (fieldPlaces s at) (field (drop at s)) (λ r e. let z : _≡_ {A = ℕ} 0 1 = cc in omega arith) .0 (sym told ∙ g)
 
     pub field-starts : (p : FieldAt) → o ≡ Good p → at ≤ p .end
     field-starts p g = field-there p g .starts

@@ -7,8 +7,8 @@ use mathlib.Core.List.{List}
 use mathlib.Core.Option.{Option, none, some}
 use lib.Dec.{leb}
 use lib.ListN.{length, take, drop, length-drop}
-use lib.Seq.{take-all}
 use borrow.Author.Tests.{le-leb, lt-leb, leb-true}
+use Rattle.octets.proofs.Walks.{rest-whole}
 use Rattle.limits.specs.Limits.{maxLineOctets, maxTagOctets}
 use Rattle.refusal.specs.declared.Refusal.the-variants.{BadLine, LineTooLong}
 use Rattle.octets.specs.Lists.{all, isEmpty}
@@ -62,7 +62,7 @@ module _ (s : List ℕ) where
         field₃ = take (length s - l .value) (drop (l .value) s)
 
         third : field₃ ≡ drop (l .value) s
-        third = take-all (length s - l .value) (drop (l .value) s) (omega (arith, length-drop (l .value) s))
+        third = rest-whole s (l .value)
 
         -- by what the value says
         by-value : (w : Option (List ℕ)) → lineValue field₃ ≡ w → readLine s ≡ propertyOf (some (l .flags)) tag w

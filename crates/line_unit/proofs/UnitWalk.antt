@@ -38,16 +38,6 @@ module _ (class : ℕ → Bool) where
       let (front, good) = unit-reads class l u rest .0 h in
       omega (arith, ap length front, length-append (wireUnit u) rest, full u)
 
-  -- units stand for no more octets than they have
-  many : (us : List Unit) → length us ≤ length (flatten (map wireUnit us))
-  many [] = omega arith
-  many (u ∷ us) = rw length-append (omega (arith, full u, many us))
-
-  pub unescaped-short : (l v : List ℕ) → unescaped class l ≡ some v → length v ≤ length l
-  unescaped-short l v h =
-      let (us, front, good, are) = unescaped-units class l v .0 h in
-      omega (arith, ap length front, ap length are, length-map us valueOf, many us)
-
   -- any limit that is no less than the length will do
   enough : (m n : ℕ) (l : List ℕ) → length l ≤ m → length l ≤ n → items (unit class) m l ≡ items (unit class) n l
   enough zero zero l h k = refl

@@ -12,12 +12,12 @@ use lib.Seq.{drop-drop, length-take-le}
 use borrow.Author.Tests.{leb-true, leb-false, le-leb, lt-leb, ne-eqb}
 use Rattle.limits.specs.Limits.{maxLabelOctets, maxNameOctets}
 use Rattle.octets.specs.Reader.{pure, given, andThen}
+use Rattle.octets.proofs.Walks.{drop-step}
 use Rattle.name_reader.specs.declared.NameEnd.{NameEnd}
 use Rattle.name_reader.specs.declared.NameEnd.the-variants.{At, Fault}
 use Rattle.name.specs.Names.{Label, Name, wire, labels, name}
 use Rattle.name_reader.specs.Places.{endOf, nameEnd}
 use Rattle.name.proofs.NameLaws.{fewer-labels}
-use Rattle.name_reader.proofs.PlaceLaws.{octet-at}
 
 none-left : (k : ℕ) → labels k [] ≡ none
 none-left zero = refl
@@ -96,7 +96,7 @@ module _ (s : List ℕ) (at p : ℕ) (o : Onward s at p) where
 
   module _ (x : ℕ) (h : p < length s) (e : x ≡ getD s p 0) where
     front : drop p s ≡ x ∷ drop (p + 1) s
-    front = octet-at s p x h e
+    front = drop-step 0 s p (p + 1) h refl ∙ rw e
 
     pub label-too-long : maxLabelOctets < x → Fault ≡ nameEnd s at
     label-too-long g = rw (o .same, front, long-label (o .room) x (drop (p + 1) s) g)

@@ -1,18 +1,17 @@
 -- One label off by place: what parentPlace says in each case, and that it takes off the first label.
 use Prim.Native.Nat.{ℕ, _≤_, _<_, _+_, _-_}
 use native.Mathlib.Omega.{arith}
-use mathlib.Core.Path.{_≡_, refl}
+use mathlib.Core.Path.{_≡_, refl, ap}
 use mathlib.Core.Bool.{Bool, true, false, cond, _||_}
 use mathlib.Core.List.{List, [], _∷_, _++_, append-assoc}
 use lib.Dec.{eqb, ltb}
 use lib.ListN.{length, take, drop, getD, length-append, length-drop, drop-of-length-le}
 use lib.Seq.{drop-drop, drop-append-seam, take-at}
 use borrow.Author.Tests.{ltb-false, le-ltb, lt-ltb, eq-eqb, ne-eqb}
-use Rattle.octets.proofs.ListLaws.{or-false}
+use Rattle.octets.proofs.Walks.{drop-step}
 use Rattle.name.specs.Names.{Name, wire}
 use Rattle.name_reader.specs.Places.{parentFrom, parentPlace}
 use Rattle.name_reader.specs.Theorems.{Parent-by-place}
-use Rattle.name_reader.proofs.PlaceLaws.{octet-at}
 
 module _ (s : List ℕ) (at : ℕ) where
   pub past-end : length s ≤ at → at ≡ parentPlace s at
@@ -22,7 +21,7 @@ module _ (s : List ℕ) (at : ℕ) where
   module _ (x : ℕ) (h : at < length s) (e : x ≡ getD s at 0) where
     here : parentPlace s at ≡ parentFrom at (x ∷ drop (at + 1) s)
     unfolding parentPlace
-    here = rw (octet-at s at x h e)
+    here = rw (drop-step 0 s at (at + 1) h refl, ← e)
 
     pub at-root : x ≡ 0 → at ≡ parentPlace s at
     at-root z = rw (here, eq-eqb x 0 z)
@@ -56,21 +55,34 @@ module _ (s : List ℕ) (at : ℕ) (l : List ℕ) (ls : Name) (rest : List ℕ) 
       let fits : length l ≤ length (l ++ wire ls ++ rest) = simp length-append (omega arith) in
       rw (h, ne-eqb (length l) 0 (λ z. omega arith), le-ltb (length (l ++ wire ls ++ rest)) (length l) fits)
 
--- a place further on lies within the octets
-pub up-inside : (s : List ℕ) (at p : ℕ) → p ≡ parentPlace s at → at < p → p ≤ length s
-unfolding parentPlace
-up-inside s at p e h = go (drop at s) (length-drop at s) e
-  where
-    go : (t : List ℕ) → length t ≡ length s - at → p ≡ parentFrom at t → p ≤ length s
-    go [] f g = absurd (omega arith)
-    go (n ∷ t) f g = by (eqb n 0 || ltb (length t) n) refl g
-      where
-        by : (b : Bool) → eqb n 0 || ltb (length t) n ≡ b → p ≡ cond b at (at + 1 + n) → p ≤ length s
-        by true k g = absurd (omega arith)
-        by false k g = let low = ltb-false (length t) n (or-false (eqb n 0) (ltb (length t) n) .0 k .1) in omega arith
+-- another place is further on, and inside the name
+module _ (s : List ℕ) (at u : ℕ) (up : u ≡ parentPlace s at) (other : u ≡ at → ⊥) where
+  pub further : (at < u) × (u ≤ length s)
+  unfolding parentPlace
+  further = go (drop at s) refl up
+    where
+      go : (t : List ℕ) → drop at s ≡ t → u ≡ parentFrom at t → (at < u) × (u ≤ length s)
+      go [] e h = absurd (other h)
+      go (n ∷ t) e h = label (eqb n 0) (ltb (length t) n) refl h
+        where
+          label : (a b : Bool) → ltb (length t) n ≡ b → u ≡ cond (a || b) at (at + 1 + n) → (at < u) × (u ≤ length s)
+          label true b f h = absurd (other h)
+          label false true f h = absurd (other h)
+          label false false f h = (omega arith, omega (arith, ltb-false (length t) n f, length-drop at s, ap length e))
 
-pub up-less : (s : List ℕ) (at p : ℕ) → p ≡ parentPlace s at → at < p → length s - p < length s - at
-up-less s at p e h = omega (arith, up-inside s at p e h)
+  pub at-before : at ≤ length s
+  at-before = omega (arith, further)
+
+  pub closer : length s - u < length s - at
+  closer = omega (arith, further)
+
+-- the same of a place that is known to be further on
+module _ (s : List ℕ) (at p : ℕ) (up : p ≡ parentPlace s at) (h : at < p) where
+  pub up-inside : p ≤ length s
+  up-inside = further s at p up (λ e. omega arith) .1
+
+  pub up-less : length s - p < length s - at
+  up-less = closer s at p up (λ e. omega arith)
 
 pub parent-by-place : Parent-by-place
 parent-by-place = (

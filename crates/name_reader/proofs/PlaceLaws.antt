@@ -1,21 +1,18 @@
--- What stands at a place, and what the end of a name by place says of the name read there: for whoever walks a slice by these ends.
+-- What the end of a name by place says of the name read there: for whoever walks a slice by these ends.
 use Prim.Native.Nat.{ℕ, _≤_, _<_, _+_, _-_}
-use native.Mathlib.Numerals.{add-one}
 use native.Mathlib.Omega.{arith}
 use mathlib.Core.Path.{_≡_, refl, sym, ap, _∙_}
 use mathlib.Core.Logic.{_↔_}
 use mathlib.Core.List.{List, _∷_, _++_}
 use mathlib.Core.Option.{Option, none, some}
 use lib.ListN.{length, drop, take, getD, length-append, length-drop}
-use lib.Seq.{drop-cons, drop-drop, drop-append-seam, take-at}
+use lib.Seq.{drop-drop, drop-append-seam, take-at}
+use Rattle.octets.proofs.ReaderLaws.{fault-told}
 use Rattle.name_reader.specs.declared.NameEnd.{NameEnd}
 use Rattle.name_reader.specs.declared.NameEnd.the-variants.{At, Fault}
 use Rattle.name.specs.Names.{Name, wire, name}
-use Rattle.name_reader.specs.Places.{nameEnd}
+use Rattle.name_reader.specs.Places.{endOf, nameEnd}
 use Rattle.name.proofs.NameLaws.{name-is-its-labels, fewer-labels}
-
-pub octet-at : (s : List ℕ) (at x : ℕ) → at < length s → x ≡ getD s at 0 → drop at s ≡ x ∷ drop (at + 1) s
-octet-at s at x h e = rw (e, add-one) (drop-cons s at 0 h)
 
 module _ (s : List ℕ) (at : ℕ) where
   -- the name n stands in s from `at` up to e
@@ -62,11 +59,7 @@ module _ (s : List ℕ) (at : ℕ) where
 
   pub name-faults : (nameEnd s at ≡ Fault) ↔ (name (drop at s) ≡ none)
   unfolding nameEnd
-  name-faults = (go (name (drop at s)) refl, λ h. rw h)
-    where
-      go : (o : Option (Name × List ℕ)) → name (drop at s) ≡ o → nameEnd s at ≡ Fault → name (drop at s) ≡ none
-      go none h g = h
-      go (some r) h g = let z : _≡_ {A = ℕ} 0 1 = cc in absurd (omega arith)
+  name-faults = fault-told (endOf s) (name (drop at s)) (λ r e. let z : _≡_ {A = ℕ} 0 1 = cc in omega arith)
 
   -- the same as a caller of name_end knows it
   module _ (o : NameEnd) (e : ℕ) (f : o ≡ nameEnd s at) (g : o ≡ At e) where

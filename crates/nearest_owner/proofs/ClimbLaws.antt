@@ -10,7 +10,7 @@ use Rattle.octets.specs.Lists.{isEmpty}
 use Rattle.name_reader.specs.Places.{parentPlace}
 use Rattle.relevant.specs.declared.Near.the-variants.{At, Nowhere}
 use Rattle.relevant.specs.Places.{setOf, nearestFrom, nearestPlace}
-use Rattle.relevant.proofs.ParentBounds.{further}
+use Rattle.name_reader.proofs.Parents.{further}
 use Rattle.nearest_owner.specs.OwningEnds.{Owning}
 
 -- from `at` on, with as many steps as there are octets left

@@ -9,9 +9,10 @@ use mathlib.Core.Bool.{Bool, true, false, not, _||_, and-false, or-true, or-fals
 use mathlib.Core.List.{List}
 use lib.Dec.{eqb}
 use lib.ListN.{length, take, drop, getD, set, replicate, length-replicate, length-set, length-drop}
-use lib.Seq.{getD-set-same, getD-set-other, take-all}
+use lib.Seq.{getD-set-same, getD-set-other}
 use borrow.Author.Tests.{eqb-true, eqb-false}
 use Rattle.limits.specs.Limits.{maxRecords, maxNameOctets}
+use Rattle.octets.proofs.Walks.{rest-whole}
 use Rattle.octets.specs.Lists.{isEmpty}
 use Rattle.octets.specs.Octets.{equalIgnoringCase}
 use Rattle.octets.proofs.ListLaws.{decided}
@@ -43,7 +44,7 @@ too-long s x h = lengths-first x (lastOf s (length x)) (λ e. omega (arith, e, l
 pub whole-rest :
     (s x : List ℕ) (at : ℕ) (b : Bool) → b ≡ equalIgnoringCase x (take (length s - at) (drop at s)) → at ≡ length s - length x →
     b ≡ equalIgnoringCase x (lastOf s (length x))
-whole-rest s x at b f e = f ∙ rw (take-all (length s - at) (drop at s) (omega (arith, length-drop at s)), e)
+whole-rest s x at b f e = f ∙ rw (rest-whole s at, e)
 
 all-alike : {A : Type 0} (m n : ℕ) (a : A) → getD (replicate m a) n a ≡ a
 all-alike zero n a = refl

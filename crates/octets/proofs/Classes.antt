@@ -11,7 +11,7 @@ use borrow.Author.Tests.{le-leb, lt-leb, ltb-true, ltb-false, eqb-true, eqb-fals
 use Rattle.octets.specs.Lists.{all, any}
 use Rattle.octets.specs.Octets.{text, between, isDigit, isUpper, isLower, isLetterOrDigit, isBlank, lower}
 use Rattle.octets.specs.Theorems.{Octets-below-256, Letter-case, Octet-classes}
-use Rattle.octets.proofs.ListLaws.{decided, all-true, any-false, All-imp}
+use Rattle.octets.proofs.ListLaws.{beq-true, decided, all-true, any-false, All-imp}
 
 between-outside : (low high x : ℕ) → (x < low) ⊎ (high < x) → between low high x ≡ false
 between-outside low high x (inl h) = rw (lt-leb low x h)
@@ -31,12 +31,6 @@ below f zero e k h = absurd (not-suc-le-zero h)
 below f (suc n) e k h =
     let both = and-eq-true-iff (f n) (allBelow f n) .0 e in
     ⊎-elim (λ t. rw (eqb-true k n t) (both .0)) (λ t. below f n (both .1) k (omega (arith, eqb-false k n t))) (decided (eqb k n))
-
-beq-true : (a b : Bool) → Bool·beq a b ≡ true → a ≡ b
-beq-true true true e = refl
-beq-true true false e = sym e
-beq-true false true e = e
-beq-true false false e = refl
 
 -- a class of ASCII octets is the list of them: below 128 by one test, computed; past it neither holds x
 module _ (f : ℕ → Bool) (s : List ℕ) where

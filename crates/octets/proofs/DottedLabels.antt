@@ -9,7 +9,7 @@ use Rattle.octets.specs.Lists.{all, All}
 use Rattle.octets.specs.Octets.{isLetterOrDigit, isUpper, isLower, isDigit}
 use Rattle.octets.specs.Label.{isLetterDigitHyphen, isLabel}
 use Rattle.octets.specs.Pieces.{split, join}
-use Rattle.octets.proofs.ListLaws.{all-true, All-imp}
+use Rattle.octets.proofs.ListLaws.{told-apart, all-true, All-imp}
 use Rattle.octets.proofs.PieceLaws.{pieces-join}
 use Rattle.octets.proofs.Labels.{label-parts}
 
@@ -23,10 +23,6 @@ module _ (c : ℕ) (p : List ℕ → Bool) (free : (l : List ℕ) → p l ≡ tr
     λ e. let k = pieces-join c s (split c s) .0 refl in (split c s, k .0, k .1, all-true p (split c s) .0 e),
     λ j. rw (pieces-join c s (j .0) .1 (j .1, j .2, All-imp free (j .3))) (all-true p (j .0) .1 (j .3)),
   )
-
--- an octet that a test tells from c
-pub told-apart : (p : ℕ → Bool) (c : ℕ) → p c ≡ false → (x : ℕ) → p x ≡ true → x ≢ c
-told-apart p c out x passes e = true≢false (cc)
 
 pub label-dotless : (l : List ℕ) → isLabel l ≡ true → All (λ x. x ≢ code ".") l
 unfolding isLetterDigitHyphen isLetterOrDigit isUpper isLower isDigit

@@ -14,7 +14,7 @@ use Rattle.octets.specs.Octets.{isLetterOrDigit, isUpper, isLower, isDig
 use Rattle.octets.specs.Label.{isLetterDigitHyphen, isLabel, isHostLabel}
 use Rattle.octets.specs.Grammar.{Production, one, lit, _⊕_, many, many-none, many-more, label}
 use Rattle.octets.specs.Theorems.{Label-is-the-production, Hyphen-octet, Label-octets, Host-labels}
-use Rattle.octets.proofs.ListLaws.{or-true, all-true, All-head, All-tail, All-append, ends-append}
+use Rattle.octets.proofs.ListLaws.{or-eq-true, all-true, All-head, All-tail, All-append, ends-append}
 
 -- made of letters, digits and hyphens
 abbrev pub Plain : List ℕ → Type 0
@@ -36,8 +36,8 @@ label-parts l = (
 plain-octet : (x : ℕ) → (isLetterDigitHyphen x ≡ true) ↔ ((isLetterOrDigit x ≡ true) ⊎ (x ≡ hyphen))
 unfolding isLetterDigitHyphen
 plain-octet x = (
-  λ e. ⊎-map (λ h. h) (eqb-true x hyphen) (or-true (isLetterOrDigit x) (eqb x hyphen) .0 e),
-  λ o. or-true (isLetterOrDigit x) (eqb x hyphen) .1 (⊎-map (λ h. h) (eq-eqb x hyphen) o),
+  λ e. ⊎-map (λ h. h) (eqb-true x hyphen) (or-eq-true (isLetterOrDigit x) (eqb x hyphen) .0 e),
+  λ o. or-eq-true (isLetterOrDigit x) (eqb x hyphen) .1 (⊎-map (λ h. h) (eq-eqb x hyphen) o),
 )
 
 pub hyphen-octet : Hyphen-octet

@@ -1,21 +1,21 @@
 -- Tests as statements: what `||`, `all`, `any` and `ends` say when they pass or fail (`&&`: mathlib's and-eq-true-iff), and laws of All.
 use mathlib.Core.Path.{_≡_, refl, sym, subst}
-use mathlib.Core.Logic.{_↔_, _⊎_, inl, inr, ⊎-map}
-use mathlib.Core.Bool.{Bool, true, false, _||_, true≢false, false≢true, and-eq-true-iff}
+use mathlib.Core.Logic.{_↔_, _≢_, _⊎_, inl, inr, ⊎-map}
+use mathlib.Core.Bool.{Bool, true, false, _||_, Bool·beq, true≢false, false≢true, and-eq-true-iff}
 use mathlib.Core.List.{List, [], _∷_, _++_, map, List·Memᴰ, List·Memᴰ·head, List·Memᴰ·tail, List·Memᴰ·not-nil, List·Memᴰ·cases-cons}
 use Rattle.octets.specs.Lists.{all, any, ends, All, all-nil, all-cons}
 
-pub or-true : (a b : Bool) → (a || b ≡ true) ↔ ((a ≡ true) ⊎ (b ≡ true))
-or-true true b = (λ e. inl refl, λ o. refl)
-or-true false b = (λ e. inr e, right)
+pub or-eq-true : (a b : Bool) → (a || b ≡ true) ↔ ((a ≡ true) ⊎ (b ≡ true))
+or-eq-true true b = (λ e. inl refl, λ o. refl)
+or-eq-true false b = (λ e. inr e, right)
   where
     right : (false ≡ true) ⊎ (b ≡ true) → b ≡ true
     right (inl e) = absurd (false≢true e)
     right (inr e) = e
 
-pub or-false : (a b : Bool) → (a || b ≡ false) ↔ ((a ≡ false) × (b ≡ false))
-or-false true b = (λ e. absurd (true≢false e), λ k. k .0)
-or-false false b = (λ e. (refl, e), λ k. k .1)
+pub or-eq-false : (a b : Bool) → (a || b ≡ false) ↔ ((a ≡ false) × (b ≡ false))
+or-eq-false true b = (λ e. absurd (true≢false e), λ k. k .0)
+or-eq-false false b = (λ e. (refl, e), λ k. k .1)
 
 -- a test passes or fails, with the equation kept
 pub decided : (t : Bool) → (t ≡ true) ⊎ (t ≡ false)
@@ -28,9 +28,19 @@ alike true b h = sym (h .0 refl)
 alike false true h = h .1 refl
 alike false false h = refl
 
+pub beq-true : (a b : Bool) → Bool·beq a b ≡ true → a ≡ b
+beq-true true true e = refl
+beq-true true false e = absurd (false≢true e)
+beq-true false true e = absurd (false≢true e)
+beq-true false false e = refl
+
 pub not-passed : (t : Bool) → (t ≡ true → ⊥) → t ≡ false
 not-passed true h = absurd (h refl)
 not-passed false h = refl
+
+-- what passes a test is not what fails it
+pub told-apart : {A : Type 0} (p : A → Bool) (c : A) → p c ≡ false → (x : A) → p x ≡ true → x ≢ c
+told-apart p c fails x passes e = true≢false (cc)
 
 module _ {A : Type 0} where
   module _ {P : A → Type 0} where
@@ -80,8 +90,8 @@ module _ {A : Type 0} where
     pub any-false : (xs : List A) → (any p xs ≡ false) ↔ All (λ x. p x ≡ false) xs
     any-false [] = (λ e. all-nil, λ h. refl)
     any-false (x ∷ xs) = (
-      λ e. let k = or-false (p x) (any p xs) .0 e in all-cons (k .0) (any-false xs .0 (k .1)),
-      λ h. or-false (p x) (any p xs) .1 (All-head h, any-false xs .1 (All-tail h)),
+      λ e. let k = or-eq-false (p x) (any p xs) .0 e in all-cons (k .0) (any-false xs .0 (k .1)),
+      λ h. or-eq-false (p x) (any p xs) .1 (All-head h, any-false xs .1 (All-tail h)),
     )
 
     -- an element that passes
@@ -91,8 +101,8 @@ module _ {A : Type 0} where
     pub any-true : (xs : List A) → (any p xs ≡ true) ↔ Passing xs
     any-true [] = (λ e. absurd (false≢true e), λ k. absurd (List·Memᴰ·not-nil (k .1)))
     any-true (x ∷ xs) = (
-      λ e. found (⊎-map (λ h. h) (any-true xs .0) (or-true (p x) (any p xs) .0 e)),
-      λ k. or-true (p x) (any p xs) .1 (passes k (List·Memᴰ·cases-cons (k .1)) (any-true xs .1)),
+      λ e. found (⊎-map (λ h. h) (any-true xs .0) (or-eq-true (p x) (any p xs) .0 e)),
+      λ k. or-eq-true (p x) (any p xs) .1 (passes k (List·Memᴰ·cases-cons (k .1)) (any-true xs .1)),
     )
       where
         found : (p x ≡ true) ⊎ Passing xs → Passing (x ∷ xs)

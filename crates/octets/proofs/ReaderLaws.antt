@@ -2,10 +2,10 @@
 use Prim.Native.Nat.{ℕ}
 use native.Mathlib.Omega.{arith}
 use mathlib.Core.Path.{_≡_, refl, sym, ap}
-use mathlib.Core.Logic.{_↔_}
+use mathlib.Core.Logic.{_↔_, _≢_}
 use mathlib.Core.Bool.{Bool, true, false, cond}
 use mathlib.Core.List.{List, [], _∷_, _++_}
-use mathlib.Core.Option.{Option, none, some, Option·some-injective, Option·none-ne-some}
+use mathlib.Core.Option.{Option, none, some, Option·some-injective, Option·none-ne-some, Option·some-ne-none}
 use lib.Dec.{leb}
 use lib.ListN.{length, take, drop, length-append, take-append-drop}
 use lib.Seq.{length-take-le, take-at, drop-at}
@@ -17,6 +17,11 @@ module _ {A : Type 0} where
   pub nothing-found : (o : Option A) → ((a : A) → o ≡ some a → ⊥) → o ≡ none
   nothing-found none bad = refl
   nothing-found (some a) bad = absurd (bad a refl)
+
+  -- an answer about what was found is a fault exactly where nothing was, if what tells of a value is never that fault
+  pub fault-told : {B : Type 0} (told : Option A → B) (o : Option A) → ((a : A) → told (some a) ≢ told none) → (told o ≡ told none) ↔ (o ≡ none)
+  fault-told told none apart = (λ e. refl, λ e. refl)
+  fault-told told (some a) apart = (λ e. absurd (apart a e), λ e. absurd (Option·some-ne-none a e))
 
   -- also: both parts of an equation between two found values
   pub pure-some : (a b : A) (s rest : List ℕ) → (pure a s ≡ some (b, rest)) ↔ ((a ≡ b) × (s ≡ rest))

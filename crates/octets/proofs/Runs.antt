@@ -10,8 +10,7 @@ use borrow.Author.Tests.{eqb-true}
 use Rattle.octets.specs.Lists.{All, all-nil, all-cons}
 use Rattle.octets.specs.Octets.{isBlank}
 use Rattle.octets.specs.Grammar.{one, many, many-none, many-more}
-use Rattle.octets.proofs.ListLaws.{or-true, not-passed}
-use Rattle.octets.proofs.DottedLabels.{told-apart}
+use Rattle.octets.proofs.ListLaws.{told-apart, or-eq-true, not-passed}
 
 -- every octet is of the class
 abbrev pub Of : (ℕ → Bool) → List ℕ → Type 0
@@ -35,7 +34,7 @@ module _ {p : ℕ → Bool} where
 -- a class that holds neither space nor tab
 pub not-blank : (p : ℕ → Bool) → p (code " ") ≡ false → p (code "\t") ≡ false → (x : ℕ) → p x ≡ true → isBlank x ≡ false
 unfolding isBlank
-not-blank p space tab x passes = not-passed (isBlank x) (λ e. go (or-true (eqb x (code " ")) (eqb x (code "\t")) .0 e))
+not-blank p space tab x passes = not-passed (isBlank x) (λ e. go (or-eq-true (eqb x (code " ")) (eqb x (code "\t")) .0 e))
   where
     go : (eqb x (code " ") ≡ true) ⊎ (eqb x (code "\t") ≡ true) → ⊥
     go (inl e) = told-apart p (code " ") space x passes (eqb-true x (code " ") e)

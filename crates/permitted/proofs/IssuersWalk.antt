@@ -20,9 +20,8 @@ use Rattle.rule.specs.RelevantSet.{caaRecords}
 use Rattle.rule.specs.Authorizations.{Authorization, authorization, decided}
 use Rattle.rule.specs.IssuerLists.{Issuers, anyone, listed, issuers}
 use Rattle.narrowing.specs.Narrowing.{narrowed}
-use Rattle.permitted.specs.Narrowing.{narrowedBy}
 use Rattle.rule.specs.Calls.{authorizations}
-use Rattle.permitted.proofs.Narrowing.{narrowed-more, narrowed-end, narrowed-nobody}
+use Rattle.permitted.proofs.Narrowing.{narrowedBy, narrowed-more, narrowed-end, narrowed-nobody}
 use Rattle.octets.proofs.SelectTests.{select-nothing}
 use Rattle.relevant.specs.Places.{relevantAt}
 use Rattle.relevant.proofs.ByPlace.{authorization-by-place}

@@ -1,11 +1,11 @@
 -- The records that governed last narrow no further. Names with the same governing records narrow alike, and once more changes nothing.
 use Prim.Native.Nat.{ℕ}
 use mathlib.Core.Path.{_≡_, refl, sym, ap, _∙_}
-use mathlib.Core.Bool.{Bool, true, false, cond, Bool·beq, and-eq-true-iff, false≢true}
+use mathlib.Core.Bool.{Bool, true, false, cond, Bool·beq, and-eq-true-iff}
 use mathlib.Core.List.{List}
 use Rattle.octets.specs.Lists.{select, All}
 use Rattle.octets.specs.Octets.{lowered, equalIgnoringCase}
-use Rattle.octets.proofs.ListLaws.{All-imp}
+use Rattle.octets.proofs.ListLaws.{beq-true, All-imp}
 use Rattle.octets.proofs.Texts.{same-equal}
 use Rattle.rule.specs.IssuerLists.{listed}
 use Rattle.rule.proofs.DistinctLaws.{distinct-all}
@@ -34,12 +34,6 @@ module _ (book : List ℕ) where
   unfolding grantedBy
   granted-small x wild = distinct-all (All-imp (λ n h. h .1) (grantees-small (select (hasTag wild) (setOf book x))))
 
-one-truth : (a b : Bool) → Bool·beq a b ≡ true → a ≡ b
-one-truth true true e = refl
-one-truth true false e = absurd (false≢true e)
-one-truth false true e = absurd (false≢true e)
-one-truth false false e = refl
-
 module _ (request book : List ℕ) (before : SoFar) (by : Governing) (after : SoFar) where
   -- narrowed by the records that govern one more name, and still sound
   pub record Narrows : Type 0 where
@@ -53,7 +47,7 @@ module _ (request book : List ℕ) (before : SoFar) (by : Governing) (after : So
       alike :
           Bool·beq (before .wild) (by .wild) ≡ true → equalIgnoringCase (part request (before .owner)) (part request (by .owner)) ≡ true →
           grantedBy book (part request (before .owner)) (before .wild) ≡ grantedBy book (part request (by .owner)) (by .wild)
-      alike w o = rw (one-truth (before .wild) (by .wild) w) (granted-same book (part request (before .owner)) (part request (by .owner)) (by .wild) o)
+      alike w o = rw (beq-true (before .wild) (by .wild) w) (granted-same book (part request (before .owner)) (part request (by .owner)) (by .wild) o)
 
       go :
           (t : Bool) → governedAlike request before by ≡ t →

@@ -2,11 +2,11 @@
 use Prim.Native.Nat.{ℕ}
 use mathlib.Core.Path.{_≡_, refl, sym, ap, _∙_, fun-ext}
 use mathlib.Core.Logic.{inl, inr}
-use mathlib.Core.Bool.{Bool, true, false, _&&_}
+use mathlib.Core.Bool.{Bool, true, false, _&&_, and-self}
 use mathlib.Core.List.{List, [], _∷_}
 use Rattle.octets.specs.Lists.{all, any, select, All, all-nil, all-cons}
 use Rattle.octets.specs.Octets.{same, lowered}
-use Rattle.octets.proofs.ListLaws.{or-true, All-imp}
+use Rattle.octets.proofs.ListLaws.{or-eq-true, All-imp}
 use Rattle.octets.proofs.Texts.{same-equal}
 use Rattle.octets.proofs.SelectTests.{select-passed, select-every, select-nothing, select-twice}
 use Rattle.rule.specs.Authorizations.{Authorization, unrestricted, forbidden, granted, permits}
@@ -14,12 +14,11 @@ use Rattle.rule.specs.IssuerLists.{Issuers, anyone, listed, distinct, issuers}
 use Rattle.rule.proofs.DistinctLaws.{any-distinct}
 use Rattle.restriction.proofs.OneName.{issuers-granted}
 use Rattle.narrowing.specs.Narrowing.{narrowed}
-use Rattle.permitted.specs.Narrowing.{narrowedBy}
 
--- a test is as good as twice
-and-same : (t : Bool) → t && t ≡ t
-and-same true = refl
-and-same false = refl
+-- what the issuers so far and the authorizations left come to
+abbrev pub narrowedBy : Issuers → List Authorization → Issuers
+narrowedBy anyone says = issuers says
+narrowedBy (listed ms) says = listed (select (λ m. all (permits m) says) ms)
 
 pub narrowed-end : (i : Issuers) → narrowedBy i [] ≡ i
 narrowed-end anyone = refl
@@ -53,15 +52,15 @@ narrowed-more i (granted r ns) says = rw (issuers-granted r ns) (narrowed-grante
 all-among : (ns : List (List ℕ)) → All (λ n. lowered n ≡ n) ns → All (λ m. any (same (lowered m)) ns ≡ true) ns
 all-among [] all-nil = all-nil
 all-among (n ∷ ns) (all-cons e h) = all-cons
-    (or-true (same (lowered n) n) (any (same (lowered n)) ns) .1 (inl (same-equal (lowered n) n .1 e)))
-    (All-imp (λ m k. or-true (same (lowered m) n) (any (same (lowered m)) ns) .1 (inr k)) (all-among ns h))
+    (or-eq-true (same (lowered n) n) (any (same (lowered n)) ns) .1 (inl (same-equal (lowered n) n .1 e)))
+    (All-imp (λ m k. or-eq-true (same (lowered m) n) (any (same (lowered m)) ns) .1 (inr k)) (all-among ns h))
 
 -- narrowing again by the same changes nothing
 pub narrowed-again :
     (i : Issuers) (ns : List (List ℕ)) → All (λ n. lowered n ≡ n) ns → narrowed (narrowed i (listed ns)) (listed ns) ≡ narrowed i (listed ns)
 narrowed-again anyone ns h = ap listed (select-passed (λ m. any (same (lowered m)) ns) (all-among ns h))
 narrowed-again (listed ms) ns h =
-    ap listed (select-twice among among ms ∙ ap (λ p. select p ms) (fun-ext (λ m. and-same (among m))))
+    ap listed (select-twice among among ms ∙ ap (λ p. select p ms) (fun-ext (λ m. and-self (among m))))
   where
     among : List ℕ → Bool
     among m = any (same (lowered m)) ns

@@ -9,8 +9,7 @@ use lib.Dec.{eqb}
 use borrow.Author.Tests.{eqb-true, ne-eqb}
 use Rattle.octets.specs.Lists.{begins, ends, All, flatten}
 use Rattle.octets.specs.Octets.{isBlank}
-use Rattle.octets.proofs.ListLaws.{All-head, ends-append}
-use Rattle.octets.proofs.DottedLabels.{told-apart}
+use Rattle.octets.proofs.ListLaws.{told-apart, All-head, ends-append}
 use Rattle.octets.proofs.Runs.{not-blank}
 use Rattle.presentation.specs.Written.{quote, backslash}
 use Rattle.presentation.specs.Read.{Unit, plain, quoted, numbered, unescaped, isInQuotes, isBare, lineValue}

@@ -10,7 +10,7 @@ use borrow.Author.Tests.{leb-true, le-leb, lt-leb, ltb-true, ltb-false, eqb-fals
 use Rattle.octets.specs.Lists.{all-nil, all-cons}
 use Rattle.octets.specs.Octets.{between}
 use Rattle.octets.specs.WrittenDecimal.{decimal as anyDecimal}
-use Rattle.octets.proofs.ListLaws.{or-false}
+use Rattle.octets.proofs.ListLaws.{or-eq-false}
 use Rattle.octets.proofs.WrittenDecimals.{digit-is, decimal-small, decimal-more, decimals}
 use Rattle.presentation.specs.Written.{threeDigits, decimal, escaped, line}
 use Rattle.octets.specs.WrittenDecimal.{digit}
@@ -30,16 +30,16 @@ unfolding isInQuotes isBare
 plain-octets x = (
   (
     λ h. let (low, high, none) = ranged 32 x (eqb x 34 || eqb x 92) h in
-        let (a, b) = or-false (eqb x 34) (eqb x 92) .0 none in
+        let (a, b) = or-eq-false (eqb x 34) (eqb x 92) .0 none in
         (low, high, eqb-false x 34 a, eqb-false x 92 b),
     λ (low, high, a, b). rw (le-leb 32 x low, le-leb x 126 high, ne-eqb x 34 a, ne-eqb x 92 b),
   ),
   (
     λ h. let (low, high, none) = ranged 33 x _ h in
-        let (abcd, e) = or-false _ (eqb x 41) .0 none in
-        let (abc, d) = or-false _ (eqb x 40) .0 abcd in
-        let (ab, c) = or-false _ (eqb x 59) .0 abc in
-        let (a, b) = or-false (eqb x 34) (eqb x 92) .0 ab in
+        let (abcd, e) = or-eq-false _ (eqb x 41) .0 none in
+        let (abc, d) = or-eq-false _ (eqb x 40) .0 abcd in
+        let (ab, c) = or-eq-false _ (eqb x 59) .0 abc in
+        let (a, b) = or-eq-false (eqb x 34) (eqb x 92) .0 ab in
         (low, high, eqb-false x 34 a, eqb-false x 92 b, eqb-false x 59 c, eqb-false x 40 d, eqb-false x 41 e),
     λ (low, high, a, b, c, d, e). rw (le-leb 33 x low, le-leb x 126 high, ne-eqb x 34 a, ne-eqb x 92 b, ne-eqb x 59 c, ne-eqb x 40 d, ne-eqb x 41 e),
   ),

@@ -11,7 +11,7 @@ use borrow.Author.Tests.{ltb-true, eqb-true, eqb-false}
 use Rattle.octets.specs.Lists.{all-nil, all-cons, flatten}
 use Rattle.octets.specs.Octets.{Octets, between, isDigit, isBlank, lower, lowered}
 use Rattle.octets.specs.Grammar.{many-none}
-use Rattle.octets.proofs.ListLaws.{or-true, or-false, All-map}
+use Rattle.octets.proofs.ListLaws.{or-eq-true, or-eq-false, All-map}
 use Rattle.octets.proofs.WrittenDecimals.{digit-is}
 use Rattle.octets.proofs.SmallLetters.{lower-letter}
 use Rattle.record.specs.Property.{Property}
@@ -58,9 +58,9 @@ octet-written x h = go (eqb x quote || eqb x backslash) refl (between 32 126 x) 
     go :
         (t : Bool) → eqb x quote || eqb x backslash ≡ t → (u : Bool) → between 32 126 x ≡ u →
         UnitFor x (cond t (backslash ∷ x ∷ []) (cond u (x ∷ []) (backslash ∷ threeDigits x)))
-    go true t u e = (quoted x, refl, special (or-true (eqb x quote) (eqb x backslash) .0 t), refl)
+    go true t u e = (quoted x, refl, special (or-eq-true (eqb x quote) (eqb x backslash) .0 t), refl)
     go false t true u =
-        (plain x, refl, (rw (u, t) refl, eqb-false x backslash (or-false (eqb x quote) (eqb x backslash) .0 t .1)), refl)
+        (plain x, refl, (rw (u, t) refl, eqb-false x backslash (or-eq-false (eqb x quote) (eqb x backslash) .0 t .1)), refl)
     go false t false u = (
       numbered (digit (x / 100)) (digit (x / 10 % 10)) (digit (x % 10)),
       refl,

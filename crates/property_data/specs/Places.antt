@@ -1,12 +1,13 @@
 -- Definitions for code: the octets that units stand for, and CAA data by its parts.
 use Prim.Native.Nat.{ℕ}
-use mathlib.Core.Bool.{Bool, true, false, cond}
+use mathlib.Core.Bool.{Bool, cond}
 use mathlib.Core.List.{List, [], _∷_}
 use mathlib.Core.Option.{Option, none, some}
 use lib.Dec.{leb}
 use lib.ListN.{length}
 use Rattle.limits.specs.Limits.{maxTagOctets}
 use Rattle.record.specs.Property.{Property, wireProperty}
+use Rattle.record.specs.Records.{isSome}
 use Rattle.presentation.specs.Read.{unescaped}
 use Rattle.presentation.specs.Calls.{Output, readOf}
 use Rattle.line_unit.specs.declared.Style.{Style}
@@ -21,10 +22,6 @@ countRead (some v) = Octets (length v)
 
 unfoldable pub unitCount : Style → List ℕ → UnitCount
 unitCount style s = countRead (unescaped (plainIn style) s)
-
-abbrev pub isSome : Option (List ℕ) → Bool
-isSome none = false
-isSome (some v) = true
 
 abbrev pub isUnits : Style → List ℕ → Bool
 isUnits style s = isSome (unescaped (plainIn style) s)

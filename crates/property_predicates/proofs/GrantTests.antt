@@ -1,21 +1,18 @@
 -- The issuer that CAA data grants: a law for each way out of grants.
 use Prim.Native.Nat.{ℕ, _-_}
-use mathlib.Core.Path.{_≡_, refl, sym, _∙_}
+use mathlib.Core.Path.{_≡_, sym, _∙_}
 use mathlib.Core.Bool.{Bool, false}
 use mathlib.Core.List.{List}
-use mathlib.Core.Option.{Option, none, some}
 use lib.ListN.{take, drop}
 use Rattle.octets.specs.Octets.{same, lowered, equalIgnoringCase}
 use Rattle.octets.proofs.ListLaws.{alike}
 use Rattle.octets.proofs.Texts.{same-equal}
-use Rattle.record.specs.Property.{Property, property}
 use Rattle.value_reader.specs.declared.NameAt.{NameAt}
-use Rattle.rule.specs.Authorizations.{grantee}
-use Rattle.grantee_reader.specs.Places.{granteeOf, granteeOfData, granteeAt}
+use Rattle.grantee_reader.specs.Places.{granteeAt}
 use Rattle.grantee_reader.specs.declared.GranteeRead.{GranteeRead}
 use Rattle.grantee_reader.specs.declared.GranteeRead.the-variants.{At, Nobody}
 use Rattle.grantee_reader.proofs.Grantees.{nobody-granted, somebody-granted}
-use Rattle.property_predicates.specs.DataTests.{ofData, isGrantee, grantsTo}
+use Rattle.property_predicates.specs.DataTests.{grantsTo}
 
 same-either-way : (a b : List ℕ) → same a b ≡ same b a
 same-either-way a b =
@@ -23,19 +20,12 @@ same-either-way a b =
 
 -- o is the answer of read_grantee
 module _ (d issuer : List ℕ) (o : GranteeRead) (f : o ≡ granteeAt d) where
-  granted : grantsTo d issuer ≡ isGrantee issuer (granteeOfData d)
-  unfolding grantsTo granteeOfData
-  granted = go (property d)
-    where
-      go : (p : Option Property) → ofData (λ c. isGrantee issuer (grantee c)) p ≡ isGrantee issuer (granteeOf p)
-      go none = refl
-      go (some q) = refl
-
   pub nobody : o ≡ Nobody → false ≡ grantsTo d issuer
-  nobody g = rw (granted, nobody-granted d o f g)
+  unfolding grantsTo
+  nobody g = rw (nobody-granted d o f g)
 
   pub name-compared :
       (n : NameAt) → o ≡ At n → (t : Bool) → t ≡ equalIgnoringCase (take (n .to - n .from) (drop (n .from) d)) issuer → t ≡ grantsTo d issuer
-  unfolding equalIgnoringCase
+  unfolding grantsTo equalIgnoringCase
   name-compared n g t h =
-      rw (granted, somebody-granted d o f n g) (h ∙ same-either-way (lowered (take (n .to - n .from) (drop (n .from) d))) (lowered issuer))
+      rw (somebody-granted d o f n g) (h ∙ same-either-way (lowered (take (n .to - n .from) (drop (n .from) d))) (lowered issuer))

@@ -2,10 +2,12 @@
 use Prim.Native.Nat.{ℕ}
 use mathlib.Core.Bool.{Bool}
 use mathlib.Core.List.{List}
-use Rattle.rule.specs.Authorizations.{isUnknownCritical, grantee}
+use Rattle.octets.specs.Octets.{lowered}
+use Rattle.grantee_reader.proofs.Grantees.{grantee-of-data}
+use Rattle.rule.specs.Authorizations.{isUnknownCritical, grantee, isGrantee}
 use Rattle.relevant.specs.Places.{hasTag}
 use Rattle.relevant.proofs.Tells.{Tells}
-use Rattle.property_predicates.specs.DataTests.{dataIsUnknownCritical, dataHasTag, isGrantee, grantsTo}
+use Rattle.property_predicates.specs.DataTests.{dataIsUnknownCritical, dataHasTag, grantsTo}
 
 pub tells-critical : Tells dataIsUnknownCritical isUnknownCritical
 unfolding dataIsUnknownCritical isUnknownCritical
@@ -15,6 +17,6 @@ pub tells-tag : (wild : Bool) → Tells (dataHasTag wild) (hasTag wild)
 unfolding dataHasTag
 tells-tag wild d c e = rw e
 
-pub tells-grant : (issuer : List ℕ) → Tells (λ d. grantsTo d issuer) (λ c. isGrantee issuer (grantee c))
-unfolding grantsTo grantee
-tells-grant issuer d c e = rw e
+pub tells-grant : (issuer : List ℕ) → Tells (λ d. grantsTo d issuer) (λ c. isGrantee (lowered issuer) (grantee c))
+unfolding grantsTo
+tells-grant issuer d c e = rw (grantee-of-data d .0 c e)

@@ -3,11 +3,12 @@ use Prim.Native.Nat.{ℕ}
 use mathlib.Core.Bool.{Bool, false}
 use mathlib.Core.List.{List, []}
 use mathlib.Core.Option.{Option, none, some}
-use Rattle.octets.specs.Octets.{same, lowered}
+use Rattle.octets.specs.Octets.{lowered}
 use Rattle.record.specs.Property.{Property, property}
 use Rattle.rule.specs.RelevantSet.{CaaRecord}
-use Rattle.rule.specs.Authorizations.{isUnknownCritical, grantee}
+use Rattle.rule.specs.Authorizations.{isUnknownCritical, isGrantee}
 use Rattle.relevant.specs.Places.{hasTag}
+use Rattle.grantee_reader.specs.Places.{granteeOfData}
 
 -- tests of CAA data: those of a record that holds it, whatever its owner and number; false where it is laid out wrongly
 abbrev pub ofData : (CaaRecord → Bool) → Option Property → Bool
@@ -20,9 +21,6 @@ dataIsUnknownCritical d = ofData isUnknownCritical (property d)
 unfoldable pub dataHasTag : Bool → List ℕ → Bool
 dataHasTag wild d = ofData (hasTag wild) (property d)
 
-abbrev pub isGrantee : List ℕ → Option (List ℕ) → Bool
-isGrantee issuer none = false
-isGrantee issuer (some n) = same (lowered issuer) n
-
+-- the issuer is the one that it grants
 unfoldable pub grantsTo : List ℕ → List ℕ → Bool
-grantsTo d issuer = ofData (λ c. isGrantee issuer (grantee c)) (property d)
+grantsTo d issuer = isGrantee (lowered issuer) (granteeOfData d)

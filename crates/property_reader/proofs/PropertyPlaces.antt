@@ -7,14 +7,15 @@ use mathlib.Core.Bool.{Bool, true, false, or-true}
 use mathlib.Core.List.{List, [], _∷_}
 use mathlib.Core.Option.{Option, none, some}
 use lib.ListN.{length, take, drop, getD, length-append, length-drop, take-append-drop}
-use lib.Seq.{drop-append-seam, take-at, take-all, length-take-le}
-use Rattle.octets.proofs.ReaderLaws.{nothing-found}
+use lib.Seq.{drop-append-seam, take-at, length-take-le}
+use Rattle.octets.proofs.Walks.{rest-whole}
+use Rattle.octets.proofs.ReaderLaws.{nothing-found, fault-told}
 use Rattle.property_reader.specs.declared.PropertyAt.{PropertyAt}
 use Rattle.property_reader.specs.declared.PropertyRead.{PropertyRead}
 use Rattle.property_reader.specs.declared.PropertyRead.the-variants.{Good, Fault}
 use Rattle.record.specs.Property.{Property, property}
 use Rattle.record.specs.Records.{isCaa, isLaidOut}
-use Rattle.property_reader.specs.Places.{propertyAt, tagPart, valuePart}
+use Rattle.property_reader.specs.Places.{propertyPlaces, propertyAt, tagPart, valuePart}
 use Rattle.record.proofs.PropertyLaws.{property-is-its-parts}
 
 module _ (d : List ℕ) where
@@ -54,11 +55,7 @@ module _ (d : List ℕ) where
 
   pub property-faults : (propertyAt d ≡ Fault) ↔ (property d ≡ none)
   unfolding propertyAt
-  property-faults = (go (property d) refl, λ h. rw h)
-    where
-      go : (o : Option Property) → property d ≡ o → propertyAt d ≡ Fault → property d ≡ none
-      go none h g = h
-      go (some r) h g = let z : _≡_ {A = ℕ} 0 1 = cc in absurd (omega arith)
+  property-faults = fault-told propertyPlaces (property d) (λ r e. let z : _≡_ {A = ℕ} 0 1 = cc in omega arith)
 
   -- a caller of read_property knows its answer o
   module _ (o : PropertyRead) (f : o ≡ propertyAt d) where
@@ -90,7 +87,7 @@ module _ (d : List ℕ) where
       unfolding valuePart
       value-there =
           let (q, k) = property-there p g in
-          rw (k .found) (take-all (length d - p .value) (drop (p .value) d) (omega (arith, length-drop (p .value) d)) ∙ k .value)
+          rw (k .found) (rest-whole d (p .value) ∙ k .value)
 
       pub laid-out-rightly : (type class : ℕ) → true ≡ isLaidOut type class d
       unfolding isLaidOut

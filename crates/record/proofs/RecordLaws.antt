@@ -20,9 +20,9 @@ use Rattle.record.specs.Records.{Record, wireRecord, isCaa, isSome, isLa
 use Rattle.record.specs.Theorems.{GoodRecord, Record-is-its-fields, Record-form, Record-example}
 use Rattle.record.proofs.PropertyLaws.{property-is-its-parts}
 
-is-some : (o : Option Property) → isSome o ≡ true → (p : Property) × (o ≡ some p)
+pub is-some : {A : Type 0} (o : Option A) → isSome o ≡ true → (a : A) × (o ≡ some a)
 is-some none e = absurd (false≢true e)
-is-some (some p) e = (p, refl)
+is-some (some a) e = (a, refl)
 
 -- a record of this type and class may hold the data
 abbrev Fits : ℕ → ℕ → List ℕ → Type 0

@@ -30,9 +30,9 @@ wireRecord r =
 unfoldable pub isCaa : ℕ → ℕ → Bool
 isCaa type class = eqb type 257 && eqb class 1
 
-abbrev pub isSome : Option Property → Bool
+abbrev pub isSome : {A : Type 0} → Option A → Bool
 isSome none = false
-isSome (some p) = true
+isSome (some a) = true
 
 -- which data is laid out rightly, by type and class; what is no CAA record may hold anything
 unfoldable pub isLaidOut : ℕ → ℕ → List ℕ → Bool

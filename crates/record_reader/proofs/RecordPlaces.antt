@@ -7,7 +7,7 @@ use mathlib.Core.List.{List}
 use mathlib.Core.Option.{Option, none, some}
 use lib.ListN.{length, take, drop, length-drop}
 use lib.Seq.{length-take-le}
-use Rattle.octets.proofs.ReaderLaws.{bind-some}
+use Rattle.octets.proofs.ReaderLaws.{fault-told, bind-some}
 use Rattle.name.specs.Names.{Name, name, wire}
 use Rattle.name.proofs.NameLaws.{fewer-labels}
 use Rattle.name_reader.proofs.PlaceLaws.{NameTo, name-to}
@@ -15,7 +15,7 @@ use Rattle.record_reader.specs.declared.RecordAt.{RecordAt}
 use Rattle.record_reader.specs.declared.RecordRead.{RecordRead}
 use Rattle.record_reader.specs.declared.RecordRead.the-variants.{Good, Fault}
 use Rattle.record.specs.Records.{Record, resourceRecord}
-use Rattle.record_reader.specs.Places.{recordAt}
+use Rattle.record_reader.specs.Places.{recordPlaces, recordAt}
 use Rattle.record_reader.proofs.RecordFields.{dataLength, recordFrom, placesFrom, Whole, fields-read, fields-stand}
 
 module _ (s : List ℕ) (at : ℕ) where
@@ -75,11 +75,7 @@ module _ (s : List ℕ) (at : ℕ) where
 
   pub record-faults : (recordAt s at ≡ Fault) ↔ (resourceRecord (drop at s) ≡ none)
   unfolding recordAt
-  record-faults = (go (resourceRecord (drop at s)) refl, λ h. rw h)
-    where
-      go : (o : Option (Record × List ℕ)) → resourceRecord (drop at s) ≡ o → recordAt s at ≡ Fault → resourceRecord (drop at s) ≡ none
-      go none h g = h
-      go (some x) h g = let z : _≡_ {A = ℕ} 0 1 = cc in absurd (omega arith)
+  record-faults = fault-told (recordPlaces s at) (resourceRecord (drop at s)) (λ r e. let z : _≡_ {A = ℕ} 0 1 = cc in omega arith)
 
   -- the same as a caller of read_record knows it
   module _ (o : RecordRead) (f : o ≡ recordAt s at) where

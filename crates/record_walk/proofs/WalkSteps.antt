@@ -3,7 +3,7 @@ use Prim.Native.Nat.{ℕ, suc, _≤_, _<_, _+_, _-_}
 use native.Mathlib.Nat.{sub-zero}
 use native.Mathlib.Omega.{arith}
 use mathlib.Core.Path.{_≡_, refl, sym, ap, subst, _∙_}
-use mathlib.Core.Bool.{Bool, true, false, cond, _&&_, and-eq-true-iff, false≢true}
+use mathlib.Core.Bool.{Bool, true, false, cond, _&&_, and-eq-true-iff}
 use mathlib.Core.List.{List, [], _∷_, _++_}
 use mathlib.Core.Option.{Option, none, some}
 use lib.ListN.{length, drop, length-append, length-drop}
@@ -12,10 +12,11 @@ use Rattle.limits.specs.Limits.{maxRecords}
 use Rattle.octets.specs.Octets.{equalIgnoringCase}
 use Rattle.name.specs.Names.{wire}
 use Rattle.record.specs.Property.{Property, property}
-use Rattle.record.specs.Records.{Record, wireRecord, isCaa, isSome, isLaidOut, resourceRecord}
+use Rattle.record.specs.Records.{Record, wireRecord, isCaa, isLaidOut, resourceRecord}
 use Rattle.record_reader.specs.declared.RecordAt.{RecordAt}
+use Rattle.record.proofs.RecordLaws.{is-some}
 use Rattle.record_reader.proofs.RecordFields.{fields-read}
-use Rattle.record_reader.proofs.RecordPlaces.{RecordTo}
+use Rattle.record_reader.proofs.RecordPlaces.{RecordTo, data-long}
 use Rattle.rule.specs.RelevantSet.{CaaRecord, withProperty, caaRecord, caaRecordsFrom, caaRecords}
 use Rattle.relevant.specs.Places.{readable, owned, setOf}
 use Rattle.record_walk.specs.declared.Walk.{Walk}
@@ -67,11 +68,7 @@ module _ (book : List ℕ) (at : ℕ) (p : RecordAt) (r : Record) (t : RecordTo 
   laid-out caa =
       let (whole, same, behind) = fields-read book at (r .owner) (p .fixed) (t .owner) r (drop (p .next) book) (t .found) in
       let good = subst (λ (r : Record). isLaidOut (r .type) (r .class) (r .rdata) ≡ true) same (whole .laid-out) in
-      held (property (r .rdata)) (rw caa at good)
-    where
-      held : (o : Option Property) → isSome o ≡ true → (q : Property) × (o ≡ some q)
-      held none f = absurd (false≢true f)
-      held (some q) f = (q, refl)
+      is-some (property (r .rdata)) (rw caa at good)
 
 -- the records of any owner, one on
 module _ (book : List ℕ) (at k : ℕ) where
@@ -116,15 +113,11 @@ module _ (book x : List ℕ) (at k : ℕ) where
       unfolding nextOwned
       next-step = rw (room-left k h, t .found, ends, begins)
         where
-          long : length (r .rdata) ≡ p .next - p .rdata
-          long =
-              sym (ap length (t .rdata)) ∙ length-take-le (p .next - p .rdata) (drop (p .rdata) book) (omega (arith, length-drop (p .rdata) book, t .inside))
-
           ends : at + length (wireRecord r) ≡ p .next
-          ends = simp length-append (omega (arith, t .owner .long, t .ten, t .order, long))
+          ends = simp length-append (omega (arith, t .owner .long, t .ten, t .order, data-long book at p r t))
 
           begins : p .next - length (r .rdata) ≡ p .rdata
-          begins = omega (arith, long, t .order)
+          begins = omega (arith, data-long book at p r t, t .order)
 
       remaining-step : remaining book x w ≡ owned x (caaRecord k r ++ caaRecordsFrom (suc k) (readable (maxRecords - suc k) (drop (p .next) book)))
       unfolding remaining

@@ -6,8 +6,8 @@ use mathlib.Core.Bool.{Bool, true, false, cond}
 use mathlib.Core.List.{List, [], _∷_}
 use lib.Dec.{eqb}
 use lib.ListN.{length, take, drop, length-drop}
-use lib.Seq.{take-all}
 use borrow.Author.Tests.{eqb-false}
+use Rattle.octets.proofs.Walks.{rest-whole}
 use Rattle.refusal.specs.declared.RecordNo.{RecordNo}
 use Rattle.octets.specs.Lists.{select, isEmpty}
 use Rattle.name_reader.specs.Places.{parentPlace}
@@ -18,7 +18,7 @@ use Rattle.relevant.specs.declared.Found.the-variants.{At, Nothing}
 use Rattle.relevant.specs.declared.Near.{Near}
 use Rattle.relevant.specs.declared.Near.the-variants.{At as NearAt, Nowhere}
 use Rattle.relevant.specs.Places.{setOf, firstNumber, hasTag, nearestFrom, nearestPlace, relevantAt}
-use Rattle.relevant.proofs.ParentBounds.{closer}
+use Rattle.name_reader.proofs.Parents.{closer}
 
 none-first : (cs : List CaaRecord) → firstNumber cs ≡ Nothing → cs ≡ []
 none-first [] e = refl
@@ -89,7 +89,7 @@ module _ (book s : List ℕ) (o : Near) (f : o ≡ nearestPlace book s) where
 
     found-there : relevantAt book s ≡ found setThere
     unfolding relevantAt
-    found-there = rw (← f, g, take-all (length s - at) (drop at s) (omega (arith, length-drop at s)))
+    found-there = rw (← f, g, rest-whole s at)
 
     module _ (u : Found) (e : u ≡ firstNumber (select isUnknownCritical setThere)) where
       pub decided-critical : (wildcard : Bool) (r : RecordNo) → u ≡ At r → decided wildcard (relevantAt book s) ≡ forbidden (r .0)

@@ -49,9 +49,9 @@ one-base : (n x : Name) → (n ≡ x) ⊎ (n ≡ text "*" ∷ x) → All Host-la
 one-base n x (inl e) h = rw e (host-base x h)
 one-base n x (inr e) h = rw e (wildcard-form .0 x .1)
 
-not-empty : (x : Name) → (not (isEmpty x) ≡ true) ↔ (x ≢ [])
-not-empty [] = (λ e. absurd (false≢true e), λ h. absurd (h refl))
-not-empty (l ∷ x) = (λ e. cons≢nil, λ h. refl)
+not-root : (x : Name) → (not (isEmpty x) ≡ true) ↔ (x ≢ [])
+not-root [] = (λ e. absurd (false≢true e), λ h. absurd (h refl))
+not-root (l ∷ x) = (λ e. cons≢nil, λ h. refl)
 
 host-names : (x : Name) → (all isHostLabel x ≡ true) ↔ All Host-label x
 host-names x = (
@@ -67,7 +67,7 @@ requestable n = (
 )
   where
     tests : (isRequestable n ≡ true) ↔ ((base n ≢ []) × All Host-label (base n))
-    tests = Iff·trans (and-eq-true-iff (not (isEmpty (base n))) (all isHostLabel (base n))) (Iff·and (not-empty (base n)) (host-names (base n)))
+    tests = Iff·trans (and-eq-true-iff (not (isEmpty (base n))) (all isHostLabel (base n))) (Iff·and (not-root (base n)) (host-names (base n)))
 
 pub requested-name-is-its-labels : Requested-name-is-its-labels
 unfolding requestedName

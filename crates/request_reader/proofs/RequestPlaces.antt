@@ -12,7 +12,7 @@ use Rattle.octets.specs.Octets.{text}
 use Rattle.octets.specs.Reader.{given}
 use Rattle.octets.proofs.ListLaws.{All-tail}
 use Rattle.octets.proofs.Texts.{same-equal}
-use Rattle.octets.proofs.ReaderLaws.{bind-some, given-some}
+use Rattle.octets.proofs.ReaderLaws.{fault-told, bind-some, given-some}
 use Rattle.name.specs.Names.{Name, wire, name}
 use Rattle.name.specs.Theorems.{GoodName}
 use Rattle.name.proofs.NameLaws.{name-is-its-labels, fewer-labels}
@@ -21,7 +21,7 @@ use Rattle.request_reader.specs.declared.Requested.{Requested}
 use Rattle.request_reader.specs.declared.RequestedRead.{RequestedRead}
 use Rattle.request_reader.specs.declared.RequestedRead.the-variants.{Good, Fault}
 use Rattle.request.specs.Request.{isAsterisk, isWildcard, base, isRequestable, requestedName}
-use Rattle.request_reader.specs.Places.{requestedAt}
+use Rattle.request_reader.specs.Places.{placesOf, requestedAt}
 
 -- the octets of a name before its X: an asterisk label or nothing
 abbrev pub ahead : Bool → ℕ
@@ -120,11 +120,7 @@ module _ (s : List ℕ) (at : ℕ) where
 
   pub requested-faults : (requestedAt s at ≡ Fault) ↔ (requestedName (drop at s) ≡ none)
   unfolding requestedAt
-  requested-faults = (go (requestedName (drop at s)) refl, λ h. rw h)
-    where
-      go : (o : Option (Name × List ℕ)) → requestedName (drop at s) ≡ o → requestedAt s at ≡ Fault → requestedName (drop at s) ≡ none
-      go none h g = h
-      go (some r) h g = let z : _≡_ {A = ℕ} 0 1 = cc in absurd (omega arith)
+  requested-faults = fault-told (placesOf s) (requestedName (drop at s)) (λ r e. let z : _≡_ {A = ℕ} 0 1 = cc in omega arith)
 
   -- the same as a caller of requested_name knows it
   module _ (o : RequestedRead) (f : o ≡ requestedAt s at) where

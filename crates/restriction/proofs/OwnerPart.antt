@@ -4,9 +4,10 @@ use native.Mathlib.Omega.{arith}
 use mathlib.Core.Path.{_≡_, ap, _∙_}
 use mathlib.Core.List.{List}
 use lib.ListN.{length, take, drop, length-drop}
-use lib.Seq.{length-take-le, take-all}
+use lib.Seq.{length-take-le}
 use mir.Syntax.{w64}
 use mir.Val.{Fits}
+use Rattle.octets.proofs.Walks.{rest-whole}
 use Rattle.relevant.specs.declared.Near.{Near}
 use Rattle.relevant.specs.declared.Near.the-variants.{At}
 use Rattle.relevant.specs.Places.{nearestPlace}
@@ -21,13 +22,10 @@ module _ (request book x : List ℕ) (name : Span) (there : x ≡ part request n
       let inside = near-label book x o f at g in
       record { fits = omega (arith, inside, part-inside request x name there (omega (arith, inside))) }
 
-  pub whole-owner : take (length x - at) (drop at x) ≡ drop at x
-  whole-owner = take-all (length x - at) (drop at x) (omega (arith, length-drop at x))
-
   pub owner-part : part request (record { from = name .from + at; to = name .to }) ≡ drop at x
   owner-part =
       let inside = near-label book x o f at g in
       let (fits, h) = part-there request x name there (omega (arith, inside)) in
       let long = ap length h ∙ length-take-le (name .to - name .from) (drop (name .from) request) (omega (arith, length-drop (name .from) request)) in
       let ends : name .to ≡ name .from + length x = omega (arith, long, inside) in
-      rw ends (part-within request x name there (omega (arith, inside)) at (length x) (omega arith) (omega (arith, inside))) ∙ whole-owner
+      rw ends (part-within request x name there (omega (arith, inside)) at (length x) (omega arith) (omega (arith, inside))) ∙ rest-whole x at

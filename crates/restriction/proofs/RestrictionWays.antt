@@ -4,6 +4,7 @@ use native.Mathlib.Omega.{arith}
 use mathlib.Core.Path.{_≡_, refl, sym, _∙_}
 use mathlib.Core.Bool.{Bool, true, false, not}
 use mathlib.Core.List.{List, [], _∷_}
+use Rattle.octets.proofs.Walks.{rest-whole}
 use Rattle.octets.specs.Lists.{any, select, isEmpty}
 use Rattle.refusal.specs.declared.RecordNo.{RecordNo}
 use Rattle.rule.specs.RelevantSet.{CaaRecord}
@@ -19,7 +20,6 @@ use Rattle.name_list.specs.Places.{part}
 use Rattle.restriction.specs.declared.Restriction.{Restriction}
 use Rattle.restriction.specs.declared.Restriction.the-variants.{Open, Forbidden, Governed}
 use Rattle.restriction.specs.Places.{restrictionBy, restrictionAt}
-use Rattle.restriction.proofs.OwnerPart.{whole-owner}
 use Rattle.restriction.proofs.Passing.{any-selected}
 
 -- whether some record passes, by the first one found
@@ -55,7 +55,7 @@ module _ (request book x : List ℕ) (name : Span) (wildcard : Bool) (there : x 
 
     by : {r : Restriction} → restrictionBy owner wildcard set ≡ r → Answers r
     unfolding restrictionAt
-    by e = sym e ∙ rw (← there, ← f, g, whole-owner request book x name there o f at g)
+    by e = sym e ∙ rw (← there, ← f, g, rest-whole x at)
 
     module _ (u : Found) (e : u ≡ firstNumber (select isUnknownCritical set)) where
       pub forbidden-there : (r : RecordNo) → u ≡ At r → Answers Forbidden

@@ -6,7 +6,7 @@ use mathlib.Core.Bool.{Bool, true, false, cond, not, _||_, true≢false}
 use mathlib.Core.List.{List, [], _∷_}
 use Rattle.octets.specs.Lists.{any, select, All, all-nil, all-cons, Selects, Distinct, distinct-nil, distinct-cons}
 use Rattle.octets.specs.Octets.{same}
-use Rattle.octets.proofs.ListLaws.{not-passed}
+use Rattle.octets.proofs.ListLaws.{not-passed, told-apart}
 use Rattle.octets.proofs.SelectLaws.{selected}
 use Rattle.octets.proofs.SelectedLists.{selects-have, selects-all, selects-distinct, any-selects}
 use Rattle.octets.proofs.Texts.{same-equal}
@@ -26,17 +26,13 @@ others n ms = selected (isOther n) decides ms
       λ d. ap not (not-passed (same m n) (λ e. d (same-equal m n .0 e))),
     )
 
--- a test that n fails passes only others
-passes-others : (q : List ℕ → Bool) (n : List ℕ) → q n ≡ false → (x : List ℕ) → q x ≡ true → x ≢ n
-passes-others q n e x h k = true≢false (cc)
-
 pub any-distinct : (q : List ℕ → Bool) (ns : List (List ℕ)) → any q (distinct ns) ≡ any q ns
 any-distinct q [] = refl
 any-distinct q (n ∷ ns) = go (q n) refl (any-distinct q ns)
   where
     go : (t : Bool) → q n ≡ t → any q (distinct ns) ≡ any q ns → t || any q (select (isOther n) (distinct ns)) ≡ t || any q ns
     go true e rest = refl
-    go false e rest = any-selects q (passes-others q n e) (others n (distinct ns)) ∙ rest
+    go false e rest = any-selects q (told-apart q n e) (others n (distinct ns)) ∙ rest
 
 pub firstBefore-distinct : (p q : List ℕ → Bool) (ns : List (List ℕ)) → firstBefore p q (distinct ns) ≡ firstBefore p q ns
 firstBefore-distinct p q [] = refl
@@ -47,8 +43,8 @@ firstBefore-distinct p q (n ∷ ns) = go (q n) refl (p n) refl (firstBefore-dist
         cond s false (cond t (any q (select (isOther n) (distinct ns))) (firstBefore p q (select (isOther n) (distinct ns))))
         ≡ cond s false (cond t (any q ns) (firstBefore p q ns))
     go true qn t pn rest = refl
-    go false qn true pn rest = any-selects q (passes-others q n qn) (others n (distinct ns)) ∙ any-distinct q ns
-    go false qn false pn rest = firstBefore-selects p q (passes-others p n pn) (passes-others q n qn) (others n (distinct ns)) ∙ rest
+    go false qn true pn rest = any-selects q (told-apart q n qn) (others n (distinct ns)) ∙ any-distinct q ns
+    go false qn false pn rest = firstBefore-selects p q (told-apart p n pn) (told-apart q n qn) (others n (distinct ns)) ∙ rest
 
 pub distinct-all : {P : List ℕ → Type 0} {ns : List (List ℕ)} → All P ns → All P (distinct ns)
 distinct-all all-nil = all-nil

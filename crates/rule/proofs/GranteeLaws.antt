@@ -13,7 +13,7 @@ use Rattle.issuer.specs.Theorems.{WellFormed}
 use Rattle.issuer.proofs.Dotted.{issuer-is-its-labels}
 use Rattle.issuer.proofs.AnyCase.{issuer-in-any-case}
 use Rattle.rule.specs.RelevantSet.{CaaRecord}
-use Rattle.rule.specs.Authorizations.{grantee, consSome, grantees}
+use Rattle.rule.specs.Authorizations.{grantee, isGrantee, consSome, grantees}
 use Rattle.rule.specs.Meaning.{Grants, GrantedBefore}
 use Rattle.rule.proofs.AuthorizationLaws.{grantee-exactly}
 use Rattle.rule.proofs.OrderLaws.{firstBefore, Decides, firstBefore-exactly}
@@ -34,31 +34,24 @@ grantees-small (g ∷ gs) = go (grantee g) refl (grantees-small gs)
     go none e h = h
     go (some n) e h = all-cons (granted-small n g (grantee-exactly g n .0 e)) h
 
--- there is a grantee, and it is d
-abbrev isTo : List ℕ → Option (List ℕ) → Bool
-isTo d none = false
-isTo d (some n) = same d n
-
-is-to : (d : List ℕ) (o : Option (List ℕ)) → (isTo d o ≡ true) ↔ (o ≡ some d)
-is-to d none = (λ e. absurd (false≢true e), λ e. absurd (Option·none-ne-some d e))
-is-to d (some n) = (λ e. ap some (sym (same-equal d n .0 e)), λ e. same-equal d n .1 (sym (Option·some-injective n d e)))
+is-grantee : (d : List ℕ) (o : Option (List ℕ)) → (isGrantee d o ≡ true) ↔ (o ≡ some d)
+is-grantee d none = (λ e. absurd (false≢true e), λ e. absurd (Option·none-ne-some d e))
+is-grantee d (some n) = (λ e. ap some (sym (same-equal d n .0 e)), λ e. same-equal d n .1 (sym (Option·some-injective n d e)))
 
 abbrev grantsTo : List ℕ → CaaRecord → Bool
-grantsTo d r = isTo d (grantee r)
+grantsTo d r = isGrantee d (grantee r)
 
 grants-to : (d : List ℕ) → Decides (grantsTo d) (Grants d)
-grants-to d r = Iff·trans (is-to d (grantee r)) (grantee-exactly r d)
+grants-to d r = Iff·trans (is-grantee d (grantee r)) (grantee-exactly r d)
+
+pub one-more : (d : List ℕ) (o : Option (List ℕ)) (ns : List (List ℕ)) → any (same d) (consSome o ns) ≡ isGrantee d o || any (same d) ns
+one-more d none ns = refl
+one-more d (some n) ns = refl
 
 module _ (a b : List ℕ) where
   any-grantees : (gs : List CaaRecord) → any (same b) (grantees gs) ≡ any (grantsTo b) gs
   any-grantees [] = refl
-  any-grantees (g ∷ gs) = go (grantee g) (any-grantees gs)
-    where
-      go :
-          (o : Option (List ℕ)) → any (same b) (grantees gs) ≡ any (grantsTo b) gs →
-          any (same b) (consSome o (grantees gs)) ≡ isTo b o || any (grantsTo b) gs
-      go none rest = rest
-      go (some n) rest = rw rest
+  any-grantees (g ∷ gs) = one-more b (grantee g) (grantees gs) ∙ rw (any-grantees gs)
 
   firstBefore-grantees : (gs : List CaaRecord) → firstBefore (same a) (same b) (grantees gs) ≡ firstBefore (grantsTo a) (grantsTo b) gs
   firstBefore-grantees [] = refl
@@ -67,7 +60,7 @@ module _ (a b : List ℕ) where
       go :
           (o : Option (List ℕ)) → firstBefore (same a) (same b) (grantees gs) ≡ firstBefore (grantsTo a) (grantsTo b) gs →
           firstBefore (same a) (same b) (consSome o (grantees gs))
-          ≡ cond (isTo b o) false (cond (isTo a o) (any (grantsTo b) gs) (firstBefore (grantsTo a) (grantsTo b) gs))
+          ≡ cond (isGrantee b o) false (cond (isGrantee a o) (any (grantsTo b) gs) (firstBefore (grantsTo a) (grantsTo b) gs))
       go none rest = rest
       go (some n) rest = rw (rest, any-grantees gs)
 

@@ -72,6 +72,11 @@ holder (named n) = cond (isIssuer n) (some (lowered n)) none
 unfoldable pub grantee : CaaRecord → Option (List ℕ)
 grantee r = holder (issueValue (r .property .value))
 
+-- there is a grantee, and it is d
+abbrev pub isGrantee : List ℕ → Option (List ℕ) → Bool
+isGrantee d none = false
+isGrantee d (some n) = same d n
+
 abbrev pub consSome : Option (List ℕ) → List (List ℕ) → List (List ℕ)
 consSome none ns = ns
 consSome (some n) ns = n ∷ ns

@@ -11,9 +11,9 @@ use Rattle.octets.specs.Octets.{isLetterOrDigit, isUpper, isLower, isDigit}
 use Rattle.octets.specs.Label.{isLetterDigitHyphen, isLabel}
 use Rattle.octets.specs.Pieces.{join}
 use Rattle.octets.specs.Grammar.{label, lit, _⊕_, many, many-none, many-more}
-use Rattle.octets.proofs.ListLaws.{All-join, or-true, All-head, All-tail, All-imp}
+use Rattle.octets.proofs.ListLaws.{told-apart, All-join, or-eq-true, All-head, All-tail, All-imp}
 use Rattle.octets.proofs.Labels.{label-parts, label-is-the-production}
-use Rattle.octets.proofs.DottedLabels.{Joined, pieces-pass, label-dotless, told-apart}
+use Rattle.octets.proofs.DottedLabels.{Joined, pieces-pass, label-dotless}
 use Rattle.octets.proofs.Runs.{Of, not-blank, Blankless}
 use Rattle.value.specs.IssueValues.{isDomainName}
 use Rattle.value.specs.Productions.{issuerDomainName}
@@ -64,13 +64,13 @@ unfolding isNameOctet
 name-octets n h = let j = by-labels n .0 h in rw (j .1) (go (j .0) (j .3))
   where
     of-label : (l : List ℕ) → isLabel l ≡ true → Of isNameOctet l
-    of-label l h = All-imp (λ x e. or-true (isLetterDigitHyphen x) (eqb x (code ".")) .1 (inl e)) (label-parts l .0 h .0)
+    of-label l h = All-imp (λ x e. or-eq-true (isLetterDigitHyphen x) (eqb x (code ".")) .1 (inl e)) (label-parts l .0 h .0)
 
     go : (ls : List (List ℕ)) → All (λ l. isLabel l ≡ true) ls → Of isNameOctet (join (code ".") ls)
     go [] h = all-nil
     go (l ∷ []) h = of-label l (All-head h)
     go (l ∷ k ∷ ls) h =
-        let dot = or-true (isLetterDigitHyphen (code ".")) true .1 (inr refl) in
+        let dot = or-eq-true (isLetterDigitHyphen (code ".")) true .1 (inr refl) in
         All-join (of-label l (All-head h)) (all-cons dot (go (k ∷ ls) (All-tail h)))
 
 pub domain-name-blankless : {n : List ℕ} → isDomainName n ≡ true → Blankless n

@@ -9,7 +9,7 @@ use Rattle.octets.specs.Lists.{all, All}
 use Rattle.octets.specs.Octets.{isBlank}
 use Rattle.octets.specs.Pieces.{split, join}
 use Rattle.octets.specs.Grammar.{Production, _⊕_, optional}
-use Rattle.octets.proofs.ListLaws.{or-true, all-true, All-head, All-tail}
+use Rattle.octets.proofs.ListLaws.{or-eq-true, all-true, All-head, All-tail}
 use Rattle.octets.proofs.PieceLaws.{pieces-join}
 use Rattle.octets.proofs.Runs.{many-of, of-many}
 use Rattle.value.specs.IssueValues.{isParameter, isBlankAlone, areParameters}
@@ -80,7 +80,7 @@ behind-matches s = (
 )
   where
     cases : (areParameters (split (code ";") s) ≡ true) ↔ ((isBlankAlone (split (code ";") s) ≡ true) ⊎ (all isParameter (split (code ";") s) ≡ true))
-    cases = or-true (isBlankAlone (split (code ";") s)) (all isParameter (split (code ";") s))
+    cases = or-eq-true (isBlankAlone (split (code ";") s)) (all isParameter (split (code ";") s))
 
     forth : (ps : List (List ℕ)) → split (code ";") s ≡ ps → (isBlankAlone ps ≡ true) ⊎ (all isParameter ps ≡ true) → Behind s
     forth [] e o = absurd (pieces-join (code ";") s [] .0 e .1 refl)

@@ -10,9 +10,8 @@ use Rattle.octets.specs.Lists.{all, all-cons}
 use Rattle.octets.specs.Octets.{isBlank, isLetterOrDigit, isUpper, isLower, isDigit}
 use Rattle.octets.specs.Pieces.{split, join}
 use Rattle.octets.specs.Grammar.{_⊕_}
-use Rattle.octets.proofs.ListLaws.{All-join, all-true, All-head, All-tail, All-imp}
+use Rattle.octets.proofs.ListLaws.{told-apart, All-join, all-true, All-head, All-tail, All-imp}
 use Rattle.octets.proofs.PieceLaws.{pieces-join}
-use Rattle.octets.proofs.DottedLabels.{told-apart}
 use Rattle.octets.proofs.Runs.{Of, many-of, of-many, not-blank, Blank, Blankless}
 use Rattle.value.specs.IssueValues.{trimStart, trimEnd, trim, isParameterOctet, isParameterTag, isTagAndValue, isParameter}
 use Rattle.value.specs.Productions.{blanks, tag, parameter}

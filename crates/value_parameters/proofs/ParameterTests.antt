@@ -16,7 +16,7 @@ use Rattle.text_classes.specs.declared.Class.the-variants.{Blank, LetterOrDigit
 use Rattle.value.specs.IssueValues.{trimStart, trimEnd, isParameterTag, isParameterOctet, isTagAndValue, isParameter, isBlankAlone, areParameters}
 use Rattle.text_classes.specs.Classes.{inClass}
 use Rattle.value.proofs.Cuts.{split-one}
-use Rattle.text_classes.proofs.Rests.{rest-whole}
+use Rattle.octets.proofs.Walks.{rest-whole}
 use Rattle.value_parameters.proofs.FirstPiece.{cut-last, cut-more}
 use Rattle.value.proofs.Parameters.{value-behind, blank-free}
 

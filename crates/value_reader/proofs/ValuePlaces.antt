@@ -6,6 +6,7 @@ use mathlib.Core.Logic.{_↔_, _≢_}
 use mathlib.Core.List.{List, [], _∷_, _++_}
 use lib.ListN.{length, take, drop, length-append}
 use lib.Seq.{take-append-seam, drop-at}
+use Rattle.octets.proofs.WholeLists.{not-empty}
 use Rattle.value_reader.specs.declared.NameAt.{NameAt}
 use Rattle.value_reader.specs.declared.ValueRead.{ValueRead}
 use Rattle.value_reader.specs.declared.ValueRead.the-variants.{Malformed, Nameless, Named}
@@ -20,10 +21,6 @@ pub record Stands (s : List ℕ) (n : NameAt) (m : List ℕ) : Type 0 where
   pub some : n .from < n .to
   pub within : n .to ≤ length s
   pub there : m ≡ take (n .to - n .from) (drop (n .from) s)
-
-not-empty : (m : List ℕ) → m ≢ [] → 0 < length m
-not-empty [] some = absurd (some refl)
-not-empty (x ∷ m) some = omega arith
 
 module _ (s : List ℕ) where
   abbrev place : List ℕ → NameAt
@@ -76,14 +73,6 @@ module _ (s : List ℕ) where
       go malformed e told = let z : _≡_ {A = ℕ} 0 1 = cc in absurd (omega arith)
       go nameless e told = let z : _≡_ {A = ℕ} 0 1 = cc in absurd (omega arith)
       go (named m) e told = let same : place m ≡ n = cc in (m, e, subst (λ n. Stands s n m) same (stands m e))
-
-  -- by its octets, since the same octets may stand at other places of s too
-  pub named-at : (m : List ℕ) → (issueValue s ≡ named m) ↔ ((n : NameAt) × (valueAt s ≡ Named n) × Stands s n m)
-  unfolding valueAt
-  named-at m = (
-    λ e. (place m, rw e, stands m e),
-    λ k. let (n, told, here) = k in let (l, e, there) = named-told n told in e ∙ ap named (there .there ∙ sym (here .there)),
-  )
 
 -- o is the answer
 module _ (s : List ℕ) (o : ValueRead) (read : o ≡ valueAt s) where

@@ -11,7 +11,7 @@ use Rattle.value_reader.specs.declared.ValueRead.{ValueRead}
 use Rattle.value_reader.specs.declared.ValueRead.the-variants.{Malformed}
 use Rattle.value.specs.IssueValues.{trim, areParameters, nameIn, issueValue}
 use Rattle.value_reader.specs.Places.{namePlaces, valueAt}
-use Rattle.text_classes.proofs.Rests.{rest-whole}
+use Rattle.octets.proofs.Walks.{rest-whole}
 use Rattle.value_parameters.proofs.FirstPiece.{cut-last, cut-more}
 use Rattle.value_reader.proofs.NamePlaces.{places-front}
 

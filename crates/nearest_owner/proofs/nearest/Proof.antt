@@ -2,7 +2,7 @@
 use Prim.Native.Nat.{_-_}
 use lib.ListN.{length}
 use borrow.Author.Needs.{needs}
-use Rattle.relevant.proofs.ParentBounds.{at-before, closer}
+use Rattle.name_reader.proofs.Parents.{at-before, closer}
 use Rattle.nearest_owner.proofs.ClimbLaws.{Climbing, climb-start, no-parent, past-owners, none-owned, some-owned}
 use Rattle.nearest_owner.proofs.nearest.Statement.{statement}
 use Rattle.nearest_owner.proofs.nearest.Tie as tie
