@@ -3,7 +3,7 @@ use Prim.Native.Nat.{ℕ, _+_, _-_, _^_, _≤_, _<_}
 use native.Mathlib.Omega.{arith}
 use mathlib.Core.Path.{_≡_, refl, _∙_}
 use mathlib.Core.List.{List, [], _∷_, _++_, append-assoc}
-use lib.ListN.{length, take, drop, set, length-append, length-set}
+use lib.ListN.{length, take, drop, set, length-set}
 use mir.Syntax.{w64}
 use mir.Val.{Fits}
 use Rattle.buffer.specs.Buffer.{Put, filled, filledLength}
