@@ -1,17 +1,17 @@
--- The digits of an octet put at the front of a buffer.
-use Prim.Native.Nat.{ℕ, _+_, _/_, _%_, _≤_, _<_}
+-- The digits of a number counted, and put at the front of a buffer.
+use Prim.Native.Nat.{ℕ, _+_, _/_, _%_, _^_, _≤_, _<_}
 use native.Mathlib.Omega.{arith}
 use mathlib.Core.Path.{_≡_}
-use mathlib.Core.Bool.{Bool, true, false, cond}
-use mathlib.Core.List.{List, [], _∷_}
-use lib.Dec.{ltb}
-use lib.ListN.{length, set}
-use borrow.Author.Tests.{lt-ltb, le-ltb}
+use mathlib.Core.List.{List}
+use lib.ListN.{length, set, length-append}
+use mir.Syntax.{w64}
+use mir.Val.{Fits}
+use Rattle.octets.specs.WrittenDecimal.{decimal}
+use Rattle.octets.proofs.WrittenDecimals.{decimal-small, decimal-more, decimal-within, decimal-some}
 use Rattle.buffer.specs.Buffer.{Put, filled, filledLength}
 use Rattle.buffer.proofs.Filled.{no-room-answer, no-room-octets, put-answer, put-octets}
-use Rattle.buffer.proofs.LentRest.{put-one, put-two, put-three}
-use Rattle.presentation.specs.Written.{threeDigits, decimal}
-use Rattle.octets.specs.WrittenDecimal.{digit}
+use Rattle.buffer.proofs.LentRest.{put-length, put-octet, put-one, put-three}
+use Rattle.presentation.specs.Written.{threeDigits}
 
 -- Three digits.
 
@@ -37,82 +37,62 @@ module _ (b : ℕ) (d : List ℕ) where
 
 -- As few as it takes.
 
-module _ (b : ℕ) where
-  one : b < 10 → decimal b ≡ digit b ∷ []
-  unfolding decimal
-  one h = rw (lt-ltb b 10 h)
+-- a number of 64 bits has at most 20
+pub decimal-few : (n : ℕ) → Fits w64 n → length (decimal n) ≤ 20
+decimal-few n f = decimal-within 19 n (omega (arith, f .fits))
 
-  two : 10 ≤ b → b < 100 → decimal b ≡ digit (b / 10) ∷ digit (b % 10) ∷ []
-  unfolding decimal
-  two l h = rw (le-ltb b 10 l, lt-ltb b 100 h)
+one-more : (n : ℕ) → 10 ≤ n → length (decimal n) ≡ length (decimal (n / 10)) + 1
+one-more n h = rw (decimal-more n h, length-append)
 
-  three : 10 ≤ b → 100 ≤ b → decimal b ≡ threeDigits b
-  unfolding decimal
-  three l h = rw (le-ltb b 10 l, le-ltb b 100 h)
+-- Counted from the last: what is left has one digit more than is still to be counted.
+module _ (n count left : ℕ) (counted : count + length (decimal left) ≡ length (decimal n) + 1) where
+  pub count-fits : Fits w64 n → Fits w64 (count + 1)
+  count-fits f = record { fits = omega (arith, decimal-few n f) }
 
-  pub decimal-short : length (decimal b) ≤ 3
-  unfolding decimal
-  decimal-short = go (ltb b 10) (ltb b 100)
-    where
-      go : (t u : Bool) → length (cond t (digit b ∷ []) (cond u (digit (b / 10) ∷ digit (b % 10) ∷ []) (threeDigits b))) ≤ 3
-      go true u = omega arith
-      go false true = omega arith
-      go false false = omega arith
+  pub count-turn : 10 ≤ left → count + 1 + length (decimal (left / 10)) ≡ length (decimal n) + 1
+  count-turn h = omega (arith, one-more left h)
 
-  module _ (d : List ℕ) (n : ℕ) (told : n ≡ length (decimal b)) where
-    pub no-digits-answer : length d < n → 0 ≡ filledLength (decimal b) d
-    no-digits-answer h = no-room-answer (decimal b) d (rw told at h)
+  pub count-end : left < 10 → count ≡ length (decimal n)
+  count-end h = omega (arith, rw (decimal-small left h) at counted)
 
-    pub no-digits-octets : length d < n → d ≡ filled (decimal b) d
-    no-digits-octets h = no-room-octets (decimal b) d (rw told at h)
+-- Put: one digit, or the tens and then the last digit.
+module _ (n : ℕ) (d : List ℕ) (room : length (decimal n) ≤ length d) where
+  pub digit-room : 0 < length d
+  digit-room = omega (arith, decimal-some n)
 
-    module _ (fits : n ≤ length d) where
-      room : length (decimal b) ≤ length d
-      room = rw told at fits
+  pub digit-put : n < 10 → Put (decimal n) d (set d 0 (48 + n)) 1
+  digit-put h = rw (decimal-small n h) (put-one (48 + n) d digit-room)
 
-      pub one-room : 0 < length d
-      unfolding decimal
-      one-room = go (ltb b 10) (ltb b 100) room
-        where
-          go : (t u : Bool) → length (cond t (digit b ∷ []) (cond u (digit (b / 10) ∷ digit (b % 10) ∷ []) (threeDigits b))) ≤ length d → 0 < length d
-          go true u h = h
-          go false true h = omega arith
-          go false false h = omega arith
+  module _ (h : 10 ≤ n) where
+    pub tens-room : length (decimal (n / 10)) ≤ length d
+    tens-room = omega (arith, one-more n h)
 
-      pub two-room : 10 ≤ b → 2 ≤ length d
-      unfolding decimal
-      two-room l = go (ltb b 100) (rw (le-ltb b 10 l) at room)
-        where
-          go : (t : Bool) → length (cond t (digit (b / 10) ∷ digit (b % 10) ∷ []) (threeDigits b)) ≤ length d → 2 ≤ length d
-          go true h = h
-          go false h = omega arith
+    module _ (x : List ℕ) (w : ℕ) (tens : Put (decimal (n / 10)) d x w) where
+      pub last-room : w < length x
+      last-room = omega (arith, one-more n h, tens .count, put-length tens tens-room)
 
-      module _ (h : b < 10) where
-        one-put : Put (decimal b) d (set d 0 (48 + b)) 1
-        one-put = rw (one h) (put-one (48 + b) d one-room)
+      pub last-fits : length d < 2 ^ 64 → Fits w64 (w + 1)
+      last-fits f = record { fits = omega (arith, one-more n h, tens .count) }
 
-        pub one-digit-answer : 1 ≡ filledLength (decimal b) d
-        one-digit-answer = put-answer (decimal b) d room (set d 0 (48 + b)) 1 one-put
+      pub last-put : Put (decimal n) d (set x w (48 + n % 10)) (w + 1)
+      last-put = put-octet tens (48 + n % 10) (decimal n) last-room (decimal-more n h)
 
-        pub one-digit-octets : set d 0 (48 + b) ≡ filled (decimal b) d
-        one-digit-octets = put-octets (decimal b) d room (set d 0 (48 + b)) 1 one-put
+-- the whole of it, or nothing
+module _ (n : ℕ) (d : List ℕ) (count : ℕ) (told : count ≡ length (decimal n)) where
+  module _ (short : length d < count) where
+    pub no-digits-answer : 0 ≡ filledLength (decimal n) d
+    no-digits-answer = no-room-answer (decimal n) d (rw told at short)
 
-      module _ (l : 10 ≤ b) (h : b < 100) where
-        abbrev both : List ℕ
-        both = set (set d 0 (48 + b / 10)) 1 (48 + b % 10)
+    pub no-digits-octets : d ≡ filled (decimal n) d
+    no-digits-octets = no-room-octets (decimal n) d (rw told at short)
 
-        two-put : Put (decimal b) d both 2
-        two-put = rw (two l h) (put-two (48 + b / 10) (48 + b % 10) d (two-room l))
+  module _ (fits : count ≤ length d) where
+    pub digits-room : length (decimal n) ≤ length d
+    digits-room = rw told at fits
 
-        pub two-digits-answer : 2 ≡ filledLength (decimal b) d
-        two-digits-answer = put-answer (decimal b) d room both 2 two-put
+    module _ (x : List ℕ) (r : ℕ) (p : Put (decimal n) d x r) where
+      pub digits-answer : r ≡ filledLength (decimal n) d
+      digits-answer = put-answer (decimal n) d digits-room x r p
 
-        pub two-digits-octets : set (set d 0 (48 + b / 10)) 1 (48 + b % 10) ≡ filled (decimal b) d
-        two-digits-octets = put-octets (decimal b) d room both 2 two-put
-
-  module _ (d : List ℕ) (l : 10 ≤ b) (h : 100 ≤ b) where
-    pub all-digits-answer : (r : ℕ) → r ≡ filledLength (threeDigits b) d → r ≡ filledLength (decimal b) d
-    all-digits-answer r e = rw (three l h) e
-
-    pub all-digits-octets : (x : List ℕ) → x ≡ filled (threeDigits b) d → x ≡ filled (decimal b) d
-    all-digits-octets x e = rw (three l h) e
+      pub digits-octets : x ≡ filled (decimal n) d
+      digits-octets = put-octets (decimal n) d digits-room x r p

@@ -1,8 +1,10 @@
-// Octets in decimal, read and written.
+// Numbers in decimal, read and written.
 ghost use mathlib.Core.Path.{_≡_};
+ghost use Prim.Native.Nat.{_≤_};
 ghost use lib.ListN.{length};
-ghost use Rattle.buffer.specs.Buffer.{filled, filledLength};
-ghost use Rattle.presentation.specs.Written.{threeDigits, decimal};
+ghost use Rattle.octets.specs.WrittenDecimal.{decimal};
+ghost use Rattle.buffer.specs.Buffer.{Put, filled, filledLength};
+ghost use Rattle.presentation.specs.Written.{threeDigits};
 ghost use Rattle.decimal_text.specs.Places.{decimalIn};
 
 // A number read, if there is one.
@@ -37,19 +39,6 @@ pub fn decimal_octet(s: &[u8]) -> OctetRead
     OctetRead::Good(n as u8)
 }
 
-// How many octets an octet takes in decimal.
-pub fn decimal_length(octet: u8) -> usize
-    ensures { λ r. ⌜ r ≡ length (decimal octet) ⌝ }
-{
-    if octet < 10 {
-        return 1;
-    }
-    if octet < 100 {
-        return 2;
-    }
-    3
-}
-
 // An octet in three digits, at the front of the lent buffer; where there is no room nothing is put, and the answer is 0.
 pub fn put_three_digits(b: u8, out: &mut [u8]) -> usize
     ensures answer { λ r. ⌜ r ≡ filledLength (threeDigits b) (now (out .entry)) ⌝ }
@@ -64,23 +53,41 @@ pub fn put_three_digits(b: u8, out: &mut [u8]) -> usize
     3
 }
 
-// The same in as few digits as it takes.
-pub fn put_decimal(b: u8, out: &mut [u8]) -> usize
-    ensures answer { λ r. ⌜ r ≡ filledLength (decimal b) (now (out .entry)) ⌝ }
-    ensures octets { λ r. ⌜ now (out .exit) ≡ filled (decimal b) (now (out .entry)) ⌝ }
+// How many octets a number takes in decimal.
+pub fn decimal_length(n: u64) -> usize
+    ensures { λ r. ⌜ r ≡ length (decimal n) ⌝ }
 {
-    let n = decimal_length(b);
-    if out.len() < n {
-        return 0;
+    let mut count: usize = 1;
+    let mut left = n;
+    while 10 <= left {
+        left = left / 10;
+        count += 1;
     }
-    if b < 10 {
-        out[0] = b'0' + b;
+    count
+}
+
+// The digits of a number, its tens first.
+fn put_digits(n: u64, out: &mut [u8]) -> usize
+    requires { ⌜ length (decimal n) ≤ length (now out) ⌝ }
+    ensures { λ r. ⌜ Put (decimal n) (now (out .entry)) (now (out .exit)) r ⌝ }
+{
+    if n < 10 {
+        out[0] = b'0' + n as u8;
         return 1;
     }
-    if b < 100 {
-        out[0] = b'0' + b / 10;
-        out[1] = b'0' + b % 10;
-        return 2;
+    let w = put_digits(n / 10, out);
+    out[w] = b'0' + (n % 10) as u8;
+    w + 1
+}
+
+// A number in as few digits as it takes, at the front of the lent buffer; where there is no room nothing is put, and the answer is 0.
+pub fn put_decimal(n: u64, out: &mut [u8]) -> usize
+    ensures answer { λ r. ⌜ r ≡ filledLength (decimal n) (now (out .entry)) ⌝ }
+    ensures octets { λ r. ⌜ now (out .exit) ≡ filled (decimal n) (now (out .entry)) ⌝ }
+{
+    let count = decimal_length(n);
+    if out.len() < count {
+        return 0;
     }
-    put_three_digits(b, out)
+    put_digits(n, out)
 }

@@ -9,16 +9,6 @@ ghost use Rattle.buffer.specs.Buffer.{Put};
 ghost use Rattle.octets.specs.WrittenDecimal.{decimal};
 ghost use Rattle.desk_text.specs.Lines.{lineEnd, numbered, denialText, line};
 
-// A number in decimal.
-fn put_decimal(n: u64, out: &mut [u8]) -> usize
-    requires { ⌜ 20 ≤ length (now out) ⌝ }
-    ensures { λ r. ⌜ Put (decimal n) (now (out .entry)) (now (out .exit)) r ⌝ }
-{
-    let mut digits = [0u8; 20];
-    let k = io::decimal(n, &mut digits);
-    buffer::put_octets(&digits[..k], out)
-}
-
 // A text and a number.
 fn put_number(first: &[u8], n: u64, out: &mut [u8]) -> usize
     requires { ⌜ length (now first) + 20 ≤ length (now out) ⌝ }
@@ -26,7 +16,7 @@ fn put_number(first: &[u8], n: u64, out: &mut [u8]) -> usize
     ensures few { λ r. ⌜ r ≤ length (now (first .entry)) + 20 ⌝ }
 {
     let w = buffer::put_octets(first, out);
-    w + put_decimal(n, &mut out[w..])
+    w + decimal_text::put_decimal(n, &mut out[w..])
 }
 
 // A line of a text, a number, a text and a number.

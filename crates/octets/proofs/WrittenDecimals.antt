@@ -1,13 +1,14 @@
 -- A decimal says its number, with no needless zero.
-use Prim.Native.Nat.{ℕ, zero, suc, _+_, _-_, _*_, _/_, _%_, _≤_, _<_}
+use Prim.Native.Nat.{ℕ, zero, suc, _+_, _-_, _*_, _/_, _%_, _^_, _≤_, _<_}
 use Prim.Native.Char.{code}
 use native.Mathlib.Omega.{arith}
-use native.Mathlib.Nat.{div-add-mod'}
+use native.Mathlib.Nat.{div-add-mod', pow-suc, div-lt-iff-lt-mul}
 use mathlib.Core.Path.{_≡_, refl, sym, _∙_}
 use mathlib.Core.Logic.{_≢_, ⊎-elim}
 use mathlib.Core.Bool.{Bool, true, false, cond}
 use mathlib.Core.List.{List, [], _∷_, _++_, cons≢nil}
 use lib.Dec.{ltb}
+use lib.ListN.{length, length-append}
 use borrow.Author.Tests.{ltb-true, ltb-false, lt-ltb, le-ltb, le-leb}
 use Rattle.octets.specs.Lists.{All, all-nil, all-cons}
 use Rattle.octets.specs.Octets.{isDigit}
@@ -43,6 +44,18 @@ pub decimal-more : (n : ℕ) → 10 ≤ n → decimal n ≡ decimal (n / 10) ++ 
 unfolding decimal
 decimal-more zero h = absurd (omega arith)
 decimal-more (suc n) h = rw (le-ltb (suc n) 10 h, steps-enough n (suc n / 10) (suc n / 10) (omega arith) (omega arith))
+
+-- a number below a power of ten has at most as many digits
+pub decimal-within : (k n : ℕ) → n < 10 ^ suc k → length (decimal n) ≤ suc k
+decimal-within zero n h = rw (decimal-small n (omega arith)) (omega arith)
+decimal-within (suc k) n h = by (ltb n 10) refl (decimal-within k (n / 10))
+  where
+    by : (t : Bool) → ltb n 10 ≡ t → (n / 10 < 10 ^ suc k → length (decimal (n / 10)) ≤ suc k) → length (decimal n) ≤ suc (suc k)
+    by true e ih = rw (decimal-small n (ltb-true n 10 e)) (omega arith)
+    by false e ih =
+        let tens = div-lt-iff-lt-mul {k = 10} {x = n} {y = 10 ^ suc k} (omega arith) .1 (rw pow-suc at h) in
+        let m = ltb-false n 10 e in
+        rw (decimal-more n (omega arith), length-append) (omega (arith, ih tens))
 
 -- what holds of the digits below ten, and of a number where it holds of its tens, holds of every number
 pub by-tens : (P : ℕ → Type 0) → ((n : ℕ) → n < 10 → P n) → ((n : ℕ) → 10 ≤ n → P (n / 10) → P n) → (n : ℕ) → P n
@@ -90,6 +103,13 @@ says-more n h tens =
 
 pub says : (n : ℕ) → Says n
 says = by-tens Says says-small says-more
+
+pub decimal-some : (n : ℕ) → 1 ≤ length (decimal n)
+decimal-some n = go (decimal n) (says n .some)
+  where
+    go : (s : List ℕ) → s ≢ [] → 1 ≤ length s
+    go [] h = absurd (h refl)
+    go (x ∷ s) h = omega arith
 
 pub decimals : Decimals
 decimals n = let h = says n in (h .some, h .digits, h .back, λ s e. by (ltb n 10) refl s e)

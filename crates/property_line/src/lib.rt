@@ -28,7 +28,7 @@ fn put_head(flags: u8, tag: &[u8], out: &mut [u8]) -> usize
     requires { ⌜ length (lineHead flags (now tag)) ≤ length (now out) ⌝ }
     ensures { λ r. ⌜ Put (lineHead flags (now (tag .entry))) (now (out .entry)) (now (out .exit)) r ⌝ }
 {
-    let w = decimal_text::put_decimal(flags, out);
+    let w = decimal_text::put_decimal(flags as u64, out);
     out[w] = b' ';
     let next: usize = w + 1;
     next + buffer::put_lowered(tag, &mut out[next..])
@@ -75,7 +75,7 @@ fn line_length(flags: u8, tag: &[u8], value: &[u8]) -> usize
     requires { ⌜ length (now value) ≤ maxDataOctets ⌝ }
     ensures { λ r. ⌜ r ≡ length (lineOf flags (now (tag .entry)) (now (value .entry))) ⌝ }
 {
-    decimal_text::decimal_length(flags) + tag.len() + value_length(value) + 4
+    decimal_text::decimal_length(flags as u64) + tag.len() + value_length(value) + 4
 }
 
 // A property to its line, at the front of the lent buffer; nothing is written before the room is known to be enough, nor where a part is

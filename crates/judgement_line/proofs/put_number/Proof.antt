@@ -1,6 +1,6 @@
 -- `put_number` meets its contract.
 use borrow.Author.Needs.{needs}
-use Rattle.judgement_line.proofs.Puts.{number-from, number-room, number-few, number-fits, number-put}
+use Rattle.judgement_line.proofs.Puts.{number-from, number-few, number-fits, number-put}
 use Rattle.judgement_line.proofs.put_number.Statement.{statement}
 use Rattle.judgement_line.proofs.put_number.Tie as tie
 
@@ -17,7 +17,7 @@ part-put-decimal-end : tie.Need-part-put-decimal-end
 part-put-decimal-end c = search needs
 
 put-decimal-requires : tie.Need-put-decimal-requires
-put-decimal-requires c κs = search (needs, number-room)
+put-decimal-requires c κs = search needs
 
 add-result : tie.Need-add-result
 add-result c = search (needs, number-fits)
