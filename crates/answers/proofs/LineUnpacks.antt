@@ -3,7 +3,7 @@ use Prim.Native.Nat.{ℕ, _^_, _≤_, _<_}
 use native.Mathlib.Omega.{arith}
 use mathlib.Core.Path.{_≡_, refl, ap}
 use mathlib.Core.Bool.{Bool, true, false, cond}
-use mathlib.Core.List.{List, _++_}
+use mathlib.Core.List.{List, _∷_, _++_}
 use mathlib.Core.Option.{Option, none, some}
 use lib.Dec.{leb}
 use lib.ListN.{length, drop, length-append}
@@ -11,6 +11,8 @@ use borrow.Author.Tests.{leb-true}
 use Rattle.limits.specs.Limits.{maxDataOctets, maxLineOctets}
 use Rattle.refusal.specs.declared.Refusal.the-variants.{NoRoom, LineTooLong, BadData}
 use Rattle.refusal.specs.Refusal.{place}
+use Rattle.octets.specs.Lists.{all-cons}
+use Rattle.octets.specs.Octets.{Octets}
 use Rattle.record.specs.Property.{Property, wireProperty, property}
 use Rattle.record.proofs.PropertyLaws.{property-is-its-parts}
 use Rattle.packed.proofs.Unpacking.{number-small}
@@ -40,21 +42,25 @@ placed-fits made b h =
     cond-fits (leb (length made) (length b)) (record { answer = Length (length made); buffer = made ++ drop (length made) b })
     (refused (NoRoom (length made)) b) (λ e. h) h
 
-line-small : (d : List ℕ) (p : Property) → length d ≤ maxDataOctets → property d ≡ some p → length (line p) < 2 ^ 24
-unfolding maxDataOctets
-line-small d p few e =
-    let whole = property-is-its-parts d p .0 e .0 in
-    omega (arith, ap length whole, length-append (p .tag) (p .value), line-short (p .flags) (p .tag) (p .value))
+first-octet : (x : ℕ) (s : List ℕ) → Octets (x ∷ s) → x < 256
+first-octet x s (all-cons h hs) = h
 
-write-fits : (d b : List ℕ) → MadeFits (writeLine d b .answer)
+line-small : (d : List ℕ) (p : Property) → Octets d → length d ≤ maxDataOctets → property d ≡ some p → length (line p) < 2 ^ 24
+unfolding maxDataOctets
+line-small d p octets few e =
+    let whole = property-is-its-parts d p .0 e .0 in
+    let flags = first-octet (p .flags) _ (rw whole at octets) in
+    omega (arith, ap length whole, length-append (p .tag) (p .value), line-short (p .flags) (p .tag) (p .value) flags)
+
+write-fits : (d b : List ℕ) → Octets d → MadeFits (writeLine d b .answer)
 unfolding writeLine place
-write-fits d b =
+write-fits d b octets =
     cond-fits (leb (length d) maxDataOctets) (writtenOf (property d) b) (refused LineTooLong b)
     (λ e. found (leb-true (length d) maxDataOctets e) (property d) refl) (omega arith)
   where
     found : length d ≤ maxDataOctets → (o : Option Property) → property d ≡ o → MadeFits (writtenOf o b .answer)
     found few none e = omega arith
-    found few (some p) e = cond-fits (isWritable p) (placed (line p) b) (refused BadData b) (λ w. placed-fits (line p) b (line-small d p few e)) (omega arith)
+    found few (some p) e = cond-fits (isWritable p) (placed (line p) b) (refused BadData b) (λ w. placed-fits (line p) b (line-small d p octets few e)) (omega arith)
 
 data-small : (n : ℕ) → leb n maxDataOctets ≡ true → n < 2 ^ 24
 unfolding maxDataOctets
@@ -82,7 +88,7 @@ fitting-unpacks (Length n) h = told-unpacks (madeTold (Length n)) (omega arith) 
 fitting-unpacks (Refused r) h = told-unpacks (madeTold (Refused r)) (number-small r) h (omega arith)
 
 pub written-line-unpacks : Written-line-unpacks
-written-line-unpacks d b = fitting-unpacks (writeLine d b .answer) (write-fits d b)
+written-line-unpacks d b octets = fitting-unpacks (writeLine d b .answer) (write-fits d b octets)
 
 pub read-line-unpacks : Read-line-unpacks
 read-line-unpacks s b = fitting-unpacks (parseLine s b .answer) (read-fits s b)

@@ -45,7 +45,8 @@ Lines-told =
 
 -- and of the two calls on lines, whose answers are lengths or refusals
 abbrev pub Written-line-unpacks : Type 0
-Written-line-unpacks = (d buffer : List ℕ) → Unpacked (packedMade (writeLine d buffer .answer)) (madeTold (writeLine d buffer .answer))
+Written-line-unpacks =
+    (d buffer : List ℕ) → Octets d → Unpacked (packedMade (writeLine d buffer .answer)) (madeTold (writeLine d buffer .answer))
 
 abbrev pub Read-line-unpacks : Type 0
 Read-line-unpacks = (s buffer : List ℕ) → Unpacked (packedMade (parseLine s buffer .answer)) (madeTold (parseLine s buffer .answer))

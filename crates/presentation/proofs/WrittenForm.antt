@@ -1,21 +1,19 @@
 -- Which octets stand for themselves in a value, what units stand for, and how a line is written, octet for octet.
 use Prim.Native.Nat.{ℕ, _+_, _/_, _%_, _≤_, _<_}
 use native.Mathlib.Omega.{arith}
-use mathlib.Core.Path.{_≡_, refl, sym, _∙_}
+use mathlib.Core.Path.{_≡_, refl}
 use mathlib.Core.Logic.{_↔_, _≢_, _⊎_, inl, inr}
-use mathlib.Core.Bool.{Bool, true, false, cond, _&&_, _||_, not, and-eq-true-iff, and-false}
+use mathlib.Core.Bool.{Bool, true, false, _&&_, _||_, not, and-eq-true-iff, and-false}
 use mathlib.Core.List.{List, [], _∷_, append-assoc}
-use lib.Dec.{leb, ltb, eqb}
-use borrow.Author.Tests.{leb-true, le-leb, lt-leb, ltb-true, ltb-false, eqb-false, ne-eqb, not-true}
+use lib.Dec.{leb, eqb}
+use borrow.Author.Tests.{leb-true, le-leb, lt-leb, eqb-false, ne-eqb, not-true}
 use Rattle.octets.specs.Lists.{all-nil, all-cons}
 use Rattle.octets.specs.Octets.{between}
-use Rattle.octets.specs.WrittenDecimal.{decimal as anyDecimal}
 use Rattle.octets.proofs.ListLaws.{or-eq-false}
-use Rattle.octets.proofs.WrittenDecimals.{digit-is, decimal-small, decimal-more, decimals}
-use Rattle.presentation.specs.Written.{threeDigits, decimal, escaped, line}
-use Rattle.octets.specs.WrittenDecimal.{digit}
+use Rattle.octets.proofs.WrittenDecimals.{digit-is, decimals}
+use Rattle.presentation.specs.Written.{threeDigits, escaped, line}
 use Rattle.presentation.specs.Read.{isInQuotes, isBare}
-use Rattle.presentation.specs.Theorems.{Plain-octets, Unit-values, Octet-as-written, Octet-in-decimal, Line-as-written}
+use Rattle.presentation.specs.Theorems.{Plain-octets, Unit-values, Octet-as-written, Line-as-written}
 use Rattle.presentation.proofs.WrittenParts.{flags-written}
 
 -- a range of octets, and a test that none of the others passes
@@ -71,29 +69,6 @@ octet-as-written x = (
     other : (x < 32) ⊎ (126 < x) → escaped x ≡ 92 ∷ threeDigits x
     other far = rw (unlike 34 (omega arith) (omega arith) far, unlike 92 (omega arith) (omega arith) far, outside far)
 
-pub octet-in-decimal : Octet-in-decimal
-unfolding decimal
-octet-in-decimal n h = go (ltb n 10) refl (ltb n 100) refl
-  where
-    tens : 10 ≤ n → n < 100 → anyDecimal n ≡ digit (n / 10) ∷ digit (n % 10) ∷ []
-    tens l m = rw (decimal-more n l, decimal-small (n / 10) (omega arith))
-
-    hundreds : 100 ≤ n → anyDecimal n ≡ threeDigits n
-    hundreds l =
-        let high : n / 10 / 10 ≡ n / 100 = omega arith in
-        rw (decimal-more n (omega arith), decimal-more (n / 10) (omega arith), decimal-small (n / 10 / 10) (omega arith), high)
-
-    go :
-        (t : Bool) → ltb n 10 ≡ t → (u : Bool) → ltb n 100 ≡ u →
-        cond t (digit n ∷ []) (cond u (digit (n / 10) ∷ digit (n % 10) ∷ []) (threeDigits n)) ≡ anyDecimal n
-    go true t u e = sym (decimal-small n (ltb-true n 10 t))
-    go false t true u = sym (tens (ltb-false n 10 t) (ltb-true n 100 u))
-    go false t false u = sym (hundreds (ltb-false n 100 u))
-
--- no needless zero, as of any decimal
-zeroless : (n : ℕ) → n < 256 → (s : List ℕ) → decimal n ≡ 48 ∷ s → s ≡ []
-zeroless n h s e = decimals n .3 s (sym (octet-in-decimal n h) ∙ e)
-
 pub line-as-written : Line-as-written
 unfolding line
-line-as-written p = (simp append-assoc, λ h. (flags-written (p .flags) h, zeroless (p .flags) h))
+line-as-written p = (simp append-assoc, λ h. (flags-written (p .flags) h, decimals (p .flags) .3))

@@ -5,40 +5,24 @@ use mathlib.Core.Path.{_≡_, refl, _∙_}
 use mathlib.Core.Logic.{_⊎_, inl, inr}
 use mathlib.Core.Bool.{Bool, true, false, cond, _||_}
 use mathlib.Core.List.{List, [], _∷_, _++_, map, append-assoc}
-use lib.Dec.{ltb, eqb}
+use lib.Dec.{eqb}
 use lib.ListN.{length-map}
-use borrow.Author.Tests.{ltb-true, eqb-true, eqb-false}
+use borrow.Author.Tests.{eqb-true, eqb-false}
 use Rattle.octets.specs.Lists.{all-nil, all-cons, flatten}
 use Rattle.octets.specs.Octets.{Octets, between, isDigit, isBlank, lower, lowered}
 use Rattle.octets.specs.Grammar.{many-none}
 use Rattle.octets.proofs.ListLaws.{or-eq-true, or-eq-false, All-map}
-use Rattle.octets.proofs.WrittenDecimals.{digit-is}
+use Rattle.octets.proofs.WrittenDecimals.{digit-is, decimal-within, decimal-some, says}
 use Rattle.octets.proofs.SmallLetters.{lower-letter}
 use Rattle.record.specs.Property.{Property}
-use Rattle.presentation.specs.Written.{space, quote, backslash, threeDigits, decimal, escaped, line}
-use Rattle.octets.specs.WrittenDecimal.{digit}
+use Rattle.presentation.specs.Written.{space, quote, backslash, threeDigits, escaped, line}
+use Rattle.octets.specs.WrittenDecimal.{digit, decimal}
 use Rattle.presentation.specs.Read.{Unit, plain, quoted, numbered, valueOf, isInQuotes}
 use Rattle.presentation.specs.Grammar.{someBlanks, FlagsField, TagField, wireUnit, GoodUnit, UnitsFor, LineOf}
 use Rattle.presentation.specs.Theorems.{smallTag, HasLine}
 
 pub flags-written : (n : ℕ) → n < 256 → FlagsField n (decimal n)
-unfolding decimal
-flags-written n h = go (ltb n 10) refl (ltb n 100) refl
-  where
-    go :
-        (t : Bool) → ltb n 10 ≡ t → (u : Bool) → ltb n 100 ≡ u →
-        FlagsField n (cond t (digit n ∷ []) (cond u (digit (n / 10) ∷ digit (n % 10) ∷ []) (threeDigits n)))
-    go true t u e = (omega arith, omega arith, all-cons (digit-is n (ltb-true n 10 t)) all-nil, omega arith, omega arith)
-    go false t true u =
-        let small = ltb-true n 100 u in
-        (omega arith, omega arith, all-cons (digit-is (n / 10) (omega arith)) (all-cons (digit-is (n % 10) (omega arith)) all-nil), omega arith, omega arith)
-    go false t false u = (
-      omega arith,
-      omega arith,
-      all-cons (digit-is (n / 100) (omega arith)) (all-cons (digit-is (n / 10 % 10) (omega arith)) (all-cons (digit-is (n % 10) (omega arith)) all-nil)),
-      omega arith,
-      omega arith,
-    )
+flags-written n h = (decimal-some n, decimal-within 2 n (omega arith), says n .digits, says n .back, omega arith)
 
 tag-written : (t : List ℕ) → TagField t → TagField (lowered t)
 tag-written t (some, few, letters) = rw (length-map t lower) (some, few, All-map lower (λ x h. lower-letter x ∙ h) letters)

@@ -12,10 +12,10 @@ use Rattle.refusal.specs.declared.Refusal.the-variants.{NoRoom, BadLine, LineTo
 use Rattle.octets.specs.Lists.{All, flatten}
 use Rattle.octets.specs.Octets.{Octets, lowered, isDigit, isLetterOrDigit}
 use Rattle.octets.specs.Decimal.{decimalFrom}
-use Rattle.octets.specs.WrittenDecimal.{decimal as anyDecimal}
+use Rattle.octets.specs.WrittenDecimal.{decimal}
 use Rattle.record.specs.Property.{Property, wireProperty}
 use Rattle.presentation.specs.declared.Made.the-variants.{Length, Refused}
-use Rattle.presentation.specs.Written.{decimal, escaped, line}
+use Rattle.presentation.specs.Written.{escaped, line}
 use Rattle.presentation.specs.Read.{plain, quoted, numbered, valueOf, isInQuotes, isBare, readLine}
 use Rattle.presentation.specs.Calls.{writeLine, parseLine}
 use Rattle.presentation.specs.Grammar.{LineOf, FlagsField, TagField}
@@ -54,10 +54,6 @@ Octet-as-written =
     × ((x ≡ 34) ⊎ (x ≡ 92) → escaped x ≡ 92 ∷ x ∷ [])
     × (x < 256 → (x < 32) ⊎ (126 < x) → (a b c : ℕ) × (escaped x ≡ 92 ∷ a ∷ b ∷ c ∷ [])
     × All (λ y. isDigit y ≡ true) (a ∷ b ∷ c ∷ []) × (decimalFrom 0 (a ∷ b ∷ c ∷ []) ≡ x))
-
--- the decimal of an octet is that of any number
-abbrev pub Octet-in-decimal : Type 0
-Octet-in-decimal = (n : ℕ) → n < 256 → decimal n ≡ anyDecimal n
 
 -- flags with no needless zero, one space, tag in small letters, one space, the value in quotes
 abbrev pub Line-as-written : Type 0

@@ -3,10 +3,10 @@ use Prim.Native.Nat.{ℕ, _/_, _%_}
 use Prim.Native.Char.{code}
 use mathlib.Core.Bool.{Bool, cond, _||_}
 use mathlib.Core.List.{List, [], _∷_, _++_, map}
-use lib.Dec.{eqb, ltb}
+use lib.Dec.{eqb}
 use Rattle.octets.specs.Lists.{flatten}
 use Rattle.octets.specs.Octets.{between, lowered}
-use Rattle.octets.specs.WrittenDecimal.{digit}
+use Rattle.octets.specs.WrittenDecimal.{digit, decimal}
 use Rattle.record.specs.Property.{Property}
 
 abbrev pub space : ℕ
@@ -18,12 +18,9 @@ quote = code "\""
 abbrev pub backslash : ℕ
 backslash = code "\\"
 
--- an octet in three digits; an octet with no needless zero
+-- an octet in three digits
 abbrev pub threeDigits : ℕ → List ℕ
 threeDigits n = digit (n / 100) ∷ digit (n / 10 % 10) ∷ digit (n % 10) ∷ []
-
-unfoldable pub decimal : ℕ → List ℕ
-decimal n = cond (ltb n 10) (digit n ∷ []) (cond (ltb n 100) (digit (n / 10) ∷ digit (n % 10) ∷ []) (threeDigits n))
 
 -- octets 32 to 126 stand as they are, but the quote and the backslash take a backslash; all others are backslash and three digits
 unfoldable pub escaped : ℕ → List ℕ

@@ -4,15 +4,14 @@ use native.Mathlib.Omega.{arith}
 use mathlib.Core.Path.{_≡_, refl}
 use mathlib.Core.List.{List, [], _∷_, _++_, append-assoc}
 use lib.ListN.{length, take, drop, set, length-append, length-map, length-set}
-use mir.Syntax.{w8, w64}
+use mir.Syntax.{w64}
 use mir.Val.{Fits}
 use Rattle.octets.specs.Octets.{lower, lowered}
-use Rattle.octets.specs.WrittenDecimal.{decimal as anyDecimal}
+use Rattle.octets.specs.WrittenDecimal.{decimal}
 use Rattle.buffer.specs.Buffer.{Put, filled, filledLength}
 use Rattle.buffer.proofs.Filled.{put-room}
 use Rattle.buffer.proofs.LentRest.{rest-room, put-length, put-octet, put-more, put-two}
-use Rattle.presentation.specs.Written.{space, quote, decimal, line}
-use Rattle.presentation.proofs.WrittenForm.{octet-in-decimal}
+use Rattle.presentation.specs.Written.{space, quote, line}
 use Rattle.property_line.specs.Places.{escapedValue, lineHead, quotedValue, lineOf}
 
 -- Flags, space and tag.
@@ -24,11 +23,9 @@ module _ (f : ℕ) (t d : List ℕ) (room : length (lineHead f t) ≤ length d) 
   pub flags-room : length (decimal f) ≤ length d
   flags-room = omega (arith, head-long)
 
-  module _ (x : List ℕ) (w : ℕ) (told : x ≡ filled (anyDecimal f) d) (answer : w ≡ filledLength (anyDecimal f) d) (small : Fits w8 f) where
+  module _ (x : List ℕ) (w : ℕ) (told : x ≡ filled (decimal f) d) (answer : w ≡ filledLength (decimal f) d) where
     flags-put : Put (decimal f) d x w
-    flags-put =
-        let same = octet-in-decimal f (small .fits) in
-        put-room (decimal f) d flags-room x w (rw same told) (rw same answer)
+    flags-put = put-room (decimal f) d flags-room x w told answer
 
     same : length x ≡ length d
     same = put-length flags-put flags-room

@@ -8,7 +8,8 @@ use Rattle.limits.specs.Limits.{maxDataOctets}
 use Rattle.refusal.specs.declared.Refusal.the-variants.{LineTooLong}
 use Rattle.octets.specs.Lists.{flatten}
 use Rattle.octets.specs.Octets.{lowered}
-use Rattle.presentation.specs.Written.{space, quote, decimal, escaped, line}
+use Rattle.octets.specs.WrittenDecimal.{decimal}
+use Rattle.presentation.specs.Written.{space, quote, escaped, line}
 use Rattle.presentation.specs.Calls.{Output, refused, placed}
 
 -- a value as it stands between quotes
