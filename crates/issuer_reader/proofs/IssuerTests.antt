@@ -1,19 +1,17 @@
 -- An issuer domain name by its length and its labels, as code tests them.
 use Prim.Native.Nat.{ℕ, _≤_, _<_}
-use Prim.Native.Char.{code}
 use native.Mathlib.Omega.{arith}
-use mathlib.Core.Path.{_≡_}
+use mathlib.Core.Path.{_≡_, _∙_}
 use mathlib.Core.Bool.{Bool, true, false, and-false}
 use mathlib.Core.List.{List}
 use lib.ListN.{length}
 use borrow.Author.Tests.{le-leb, lt-leb}
-use Rattle.limits.specs.Limits.{maxIssuerOctets}
+use Rattle.limits.specs.Limits.{maxLabelOctets, maxIssuerOctets}
 use Rattle.refusal.specs.Checks.{checked}
 use Rattle.refusal.specs.declared.Refusal.the-variants.{BadIssuer}
 use Rattle.refusal.specs.declared.Check.the-variants.{Accepted, Refused}
-use Rattle.octets.specs.Lists.{all}
 use Rattle.octets.specs.Label.{isHostLabel}
-use Rattle.octets.specs.Pieces.{split}
+use Rattle.dotted_labels.specs.DottedLabels.{isLabelWithin, areLabels}
 use Rattle.issuer.specs.Issuer.{isIssuer, issuerRefusal}
 
 module _ (d : List ℕ) where
@@ -25,13 +23,10 @@ module _ (d : List ℕ) where
   unfolding isIssuer
   long-no-issuer h = rw (lt-leb (length d) maxIssuerOctets h, and-false)
 
-  pub label-no-issuer : all isHostLabel (split (code ".") d) ≡ false → false ≡ isIssuer d
-  unfolding isIssuer
-  label-no-issuer e = rw (e, and-false)
-
-  pub is-issuer : (length d ≡ 0 → ⊥) → length d ≤ maxIssuerOctets → all isHostLabel (split (code ".") d) ≡ true → true ≡ isIssuer d
-  unfolding isIssuer
-  is-issuer some h e = rw (le-leb 1 (length d) (omega arith), le-leb (length d) maxIssuerOctets h, e)
+  pub issuer-by-labels :
+      (length d ≡ 0 → ⊥) → length d ≤ maxIssuerOctets → (t : Bool) (longest : ℕ) → t ≡ areLabels longest d → longest ≡ maxLabelOctets → t ≡ isIssuer d
+  unfolding isIssuer areLabels isLabelWithin isHostLabel
+  issuer-by-labels some h t longest e limit = e ∙ rw (limit, le-leb 1 (length d) (omega arith), le-leb (length d) maxIssuerOctets h)
 
   module _ (r : Bool) (told : r ≡ isIssuer d) where
     pub issuer-accepted : r ≡ true → Accepted ≡ checked (issuerRefusal d)

@@ -1,5 +1,6 @@
 // Issuer domain names as text: the check.
 use limits::MAX_ISSUER_OCTETS;
+use limits::MAX_LABEL_OCTETS;
 use refusal::Check;
 use refusal::Refusal;
 ghost use mathlib.Core.Path.{_≡_};
@@ -16,17 +17,7 @@ pub fn is_issuer(d: &[u8]) -> bool
     if MAX_ISSUER_OCTETS < d.len() {
         return false;
     }
-    let mut at: usize = 0;
-    loop {
-        let e = text::piece_end(d, at, b'.');
-        if !text::is_host_label(&d[at..e]) {
-            return false;
-        }
-        if d.len() <= e {
-            return true;
-        }
-        at = e + 1;
-    }
+    dotted_labels::are_labels(d, MAX_LABEL_OCTETS)
 }
 
 // Refusal 4.

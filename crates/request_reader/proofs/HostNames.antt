@@ -6,9 +6,10 @@ use mathlib.Core.Bool.{Bool, true, false, not, _&&_, _||_, and-true, and-false, 
 use mathlib.Core.List.{List, [], _∷_, _++_, append-nil}
 use lib.Dec.{ltb}
 use lib.ListN.{length, take, drop}
-use borrow.Author.Tests.{lt-ltb}
+use borrow.Author.Tests.{lt-ltb, le-leb}
 use Rattle.octets.specs.Lists.{All, all, isEmpty}
-use Rattle.octets.specs.Label.{isHostLabel}
+use Rattle.limits.specs.Limits.{maxLabelOctets}
+use Rattle.octets.specs.Label.{isLabel, isHostLabel}
 use Rattle.octets.proofs.ListLaws.{All-head, All-tail}
 use Rattle.name.specs.Names.{Label, Name, wire}
 use Rattle.name_reader.specs.Places.{parentPlace}
@@ -38,13 +39,14 @@ module _ (x : List ℕ) (n : Name) where
         go [] e g = rw (or-false, and-true)
         go (l ∷ ls) e g = absurd (omega (arith, label-passed x at l ls [] e (All-head g .0)))
 
-    -- r is what is said of the label there
-    module _ (h : at < next) (part : List ℕ) (r : Bool) (is : part ≡ take (next - (at + 1)) (drop (at + 1) x)) (told : r ≡ isHostLabel part) where
+    -- r is what is said of the label there, which the name's wire form keeps within its limit
+    module _ (h : at < next) (part : List ℕ) (r : Bool) (is : part ≡ take (next - (at + 1)) (drop (at + 1) x)) (told : r ≡ isLabel part) where
       label : (l : Label) (ls : Name) → drop at x ≡ wire (l ∷ ls) ++ [] → GoodLabel l → (next ≡ at + 1 + length l) × (isHostLabel l ≡ r)
+      unfolding isHostLabel
       label l ls e g =
           let place : next ≡ at + 1 + length l = up ∙ label-passed x at l ls [] e (g .0) in
           let long : next - (at + 1) ≡ length l = omega arith in
-          (place, sym (told ∙ ap isHostLabel (is ∙ rw long (label-octets x at l ls [] e))))
+          (place, rw (le-leb (length l) maxLabelOctets (g .1)) (sym (told ∙ ap isLabel (is ∙ rw long (label-octets x at l ls [] e)))))
 
       pub labels-stop : r ≡ false → false ≡ isHostName n
       labels-stop t = sym (w .same ∙ go (w .left) (w .stands) (w .good))

@@ -52,7 +52,7 @@ fn are_host_labels(name: &[u8]) -> bool
         if next <= at {
             return 0 < at;
         }
-        if !text::is_host_label(&name[at + 1..next]) {
+        if !text::is_label(&name[at + 1..next]) {
             return false;
         }
         at = next;

@@ -1,9 +1,8 @@
 // Texts of octets: the comparison that ignores letter case, labels, and pieces.
-use limits::MAX_LABEL_OCTETS;
 use text_classes::Class;
 ghost use mathlib.Core.Path.{_≡_};
 ghost use Rattle.octets.specs.Octets.{equalIgnoringCase};
-ghost use Rattle.octets.specs.Label.{isLabel, isHostLabel};
+ghost use Rattle.octets.specs.Label.{isLabel};
 ghost use Rattle.text.specs.Places.{pieceEnd};
 
 // The one comparison of names and of tags: whole, octet for octet, A to Z as a to z.
@@ -44,15 +43,6 @@ pub fn is_label(l: &[u8]) -> bool
         return false;
     }
     text_classes::all_of(l, Class::LetterDigitHyphen)
-}
-
-pub fn is_host_label(l: &[u8]) -> bool
-    ensures { λ r. ⌜ r ≡ isHostLabel (now (l .entry)) ⌝ }
-{
-    if MAX_LABEL_OCTETS < l.len() {
-        return false;
-    }
-    is_label(l)
 }
 
 // Where the piece that begins at a place ends: at the next octet c, or at the end of the text.

@@ -7,6 +7,8 @@ use mathlib.Core.Bool.{Bool, true, false, cond}
 use mathlib.Core.List.{List, [], _∷_, _++_, append-nil, append-assoc, cons≢nil}
 use lib.ListN.{length, length-append}
 use Rattle.octets.specs.Octets.{isBlank}
+use Rattle.dotted_labels.specs.DottedLabels.{areLabels}
+use Rattle.dotted_labels.proofs.AnyLength.{any-length}
 use Rattle.value_reader.specs.declared.ValueRead.the-variants.{Malformed, Nameless, Named}
 use Rattle.value.specs.IssueValues.{malformed, nameless, named, trimStart, trimEnd, trim, isDomainName, nameIn}
 use Rattle.value_reader.specs.Places.{namePlaces}
@@ -74,9 +76,10 @@ module _ (s front name : List ℕ) (back : front ≡ trimEnd s) (start : name �
   pub name-missing : length name ≡ 0 → Nameless ≡ namePlaces s (nameIn (trim s))
   name-missing none = sym (ap (namePlaces s) (ap nameIn trimmed ∙ no-octets name none))
 
-  module _ (some : length name ≡ 0 → ⊥) (r : Bool) (told : r ≡ isDomainName name) where
+  module _ (some : length name ≡ 0 → ⊥) (r : Bool) (told : r ≡ areLabels (length name) name) where
     labelled : nameIn (trim s) ≡ cond r (named name) malformed
-    labelled = ap nameIn trimmed ∙ by-labels name some ∙ rw told
+    unfolding isDomainName
+    labelled = ap nameIn trimmed ∙ by-labels name some ∙ rw (told, any-length)
 
     pub name-bad : r ≡ false → Malformed ≡ namePlaces s (nameIn (trim s))
     name-bad bad = sym (ap (namePlaces s) labelled ∙ rw bad)

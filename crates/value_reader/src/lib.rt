@@ -1,6 +1,6 @@
 // The issuer domain name in a value of an issue or issuewild property (RFC 8659 section 4.2).
 ghost use mathlib.Core.Path.{_≡_};
-ghost use Rattle.value.specs.IssueValues.{trim, isDomainName, nameIn};
+ghost use Rattle.value.specs.IssueValues.{trim, nameIn};
 ghost use Rattle.value_reader.specs.Places.{namePlaces, valueAt};
 
 // The issuer domain name that a value holds, by its places.
@@ -17,23 +17,6 @@ pub enum ValueRead {
     Named(NameAt),
 }
 
-// Labels joined by single dots, of any length.
-fn is_domain_name(s: &[u8]) -> bool
-    ensures { λ r. ⌜ r ≡ isDomainName (now (s .entry)) ⌝ }
-{
-    let mut at: usize = 0;
-    loop {
-        let e = text::piece_end(s, at, b'.');
-        if !text::is_label(&s[at..e]) {
-            return false; // a closing dot leaves an empty label here
-        }
-        if s.len() <= e {
-            return true;
-        }
-        at = e + 1;
-    }
-}
-
 // A name with blanks around it, or blanks alone.
 fn read_name(s: &[u8]) -> ValueRead
     ensures { λ r. ⌜ r ≡ namePlaces (now (s .entry)) (nameIn (trim (now (s .entry)))) ⌝ }
@@ -43,7 +26,8 @@ fn read_name(s: &[u8]) -> ValueRead
     if name.len() == 0 {
         return ValueRead::Nameless;
     }
-    if is_domain_name(name) {
+    // labels of any length
+    if dotted_labels::are_labels(name, name.len()) {
         let from = front.len() - name.len();
         return ValueRead::Named(NameAt {
             from,

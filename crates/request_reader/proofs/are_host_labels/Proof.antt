@@ -26,20 +26,20 @@ up-requires c κs = search needs
 returns : tie.Need-returns Inv-loop μ-loop
 returns c n g e = let left = c .before .before .loop .inv n g e in search (needs, labels-end)
 
-add-is-host-label : tie.Need-add-is-host-label Inv-loop μ-loop
-add-is-host-label c = search needs
+add-is-label : tie.Need-add-is-label Inv-loop μ-loop
+add-is-label c = search needs
 
-sub-is-host-label : tie.Need-sub-is-host-label Inv-loop μ-loop
-sub-is-host-label c = search needs
+sub-is-label : tie.Need-sub-is-label Inv-loop μ-loop
+sub-is-label c = search needs
 
-part-is-host-label-start : tie.Need-part-is-host-label-start Inv-loop μ-loop
-part-is-host-label-start c = search needs
+part-is-label-start : tie.Need-part-is-label-start Inv-loop μ-loop
+part-is-label-start c = search needs
 
-part-is-host-label-end : tie.Need-part-is-host-label-end Inv-loop μ-loop
-part-is-host-label-end c = search (needs, up-inside)
+part-is-label-end : tie.Need-part-is-label-end Inv-loop μ-loop
+part-is-label-end c = search (needs, up-inside)
 
-is-host-label-requires : tie.Need-is-host-label-requires Inv-loop μ-loop
-is-host-label-requires c κs = search needs
+is-label-requires : tie.Need-is-label-requires Inv-loop μ-loop
+is-label-requires c κs = search needs
 
 returns-2 : tie.Need-returns-2 Inv-loop μ-loop
 returns-2 c n g e = let left = c .before .before .before .before .before .loop .inv n g e in search (needs, labels-stop, not-true)
@@ -59,11 +59,11 @@ are-host-labels-spec =
     loop-holds
     up-requires
     returns
-    add-is-host-label
-    sub-is-host-label
-    part-is-host-label-start
-    part-is-host-label-end
-    is-host-label-requires
+    add-is-label
+    sub-is-label
+    part-is-label-start
+    part-is-label-end
+    is-label-requires
     returns-2
     loop-less
     loop-again)

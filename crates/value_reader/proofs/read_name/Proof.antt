@@ -13,8 +13,8 @@ trim-start-requires c κs = search needs
 returns : tie.Need-returns
 returns c = search (needs, name-missing)
 
-is-domain-name-requires : tie.Need-is-domain-name-requires
-is-domain-name-requires c κs = search needs
+are-labels-requires : tie.Need-are-labels-requires
+are-labels-requires c κs = search needs
 
 sub-from : tie.Need-sub-from
 sub-from c = search (needs, name-shorter)
@@ -32,7 +32,7 @@ read-name-spec =
     trim-end-requires
     trim-start-requires
     returns
-    is-domain-name-requires
+    are-labels-requires
     sub-from
     returns-2
     returns-3)
