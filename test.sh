@@ -6,7 +6,7 @@ set -euo pipefail
 cd "$(dirname "$0")"
 
 # rt starts so many checks and waits for all of them: twice the processors keep these busy.
-export RT_JOBS="${RT_JOBS:-4}"
+export RT_JOBS="${RT_JOBS:-$((2 * $(nproc)))}"
 
 second_program() {
     SPLINEPEARL_LIBS="$PWD/target/staticlib" cargo run --quiet --offline --locked --release --manifest-path compare/Cargo.toml "$@"

@@ -1,5 +1,5 @@
-//! A second CAA (RFC 8659) checker, written from the requirements and the RFC alone, so that its
-//! answers can be compared with those of another implementation.
+//! A second CAA (RFC 8659) checker, written from the requirements, the RFC and the
+//! readings of docs/DECISIONS.md, so that its answers can be compared with those of another implementation.
 //!
 //! Four calls: [`judge()`] says whether an issuer may sign a request, [`permitted_issuers`] says who
 //! may, [`write_line`] and [`read_line`] turn a record's CAA data into a line and back. All take raw

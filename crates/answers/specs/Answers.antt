@@ -1,6 +1,5 @@
 -- The answers of the calls, packed: the number that the requirements give, and its values in the fields.
 use Prim.Native.Nat.{ℕ}
-use mathlib.Core.List.{List, [], _∷_}
 use lib.ListN.{getD}
 use Rattle.packed.specs.Packed.{packed}
 use Rattle.rule.specs.declared.Judgement.{Judgement}

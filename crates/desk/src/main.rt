@@ -72,11 +72,11 @@ fn main() {
     let mut book = [0u8; BOOK_ROOM];
     let requested = read_file(b"request.bin", &mut request).length;
     let named = read_file(b"issuer.txt", &mut issuer).length;
-    let answers = read_file(b"book.bin", &mut book);
-    let booked = answers.length;
+    let records = read_file(b"book.bin", &mut book);
+    let booked = records.length;
     let mut line = [0u8; LINE_OCTETS];
     let n = desk_line::put_desk_line(
-        answers.found,
+        records.found,
         &request[..requested],
         &issuer[..named],
         &book[..booked],

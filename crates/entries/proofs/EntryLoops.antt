@@ -1,7 +1,7 @@
 -- The entries of kept names, counted and put one by one.
 use Prim.Native.Nat.{ℕ, suc, _+_, _*_, _-_, _≤_, _<_, _^_, min}
 use native.Mathlib.Omega.{arith}
-use mathlib.Core.Path.{_≡_, refl, sym, ap, _∙_}
+use mathlib.Core.Path.{_≡_, refl, ap, _∙_}
 use mathlib.Core.List.{List, [], _++_, append-assoc, append-nil, map}
 use lib.ListN.{length, take, drop, set, length-append, length-map, length-set}
 use mir.Syntax.{w64}

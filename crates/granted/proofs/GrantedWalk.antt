@@ -4,7 +4,6 @@ use native.Mathlib.Omega.{arith}
 use mathlib.Core.Path.{_≡_, sym, ap, _∙_}
 use mathlib.Core.Bool.{Bool, true, false, not}
 use mathlib.Core.List.{List, [], _∷_, _++_}
-use mathlib.Core.Option.{some}
 use lib.ListN.{length}
 use mir.Syntax.{w64}
 use mir.Val.{Fits}
@@ -14,8 +13,7 @@ use Rattle.octets.specs.Lists.{any, select}
 use Rattle.octets.specs.Octets.{same, lowered}
 use Rattle.record.specs.Property.{property}
 use Rattle.record.proofs.PropertyLaws.{property-is-its-parts}
-use Rattle.rule.specs.RelevantSet.{CaaRecord}
-use Rattle.rule.specs.Authorizations.{grantee, consSome, grantees}
+use Rattle.rule.specs.Authorizations.{consSome, grantees}
 use Rattle.granted.proofs.Joining.{joined, joined-distinct}
 use Rattle.record_walk.specs.declared.Walk.{Walk}
 use Rattle.record_walk.specs.declared.Seen.{Seen as SeenAt}

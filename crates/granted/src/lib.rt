@@ -1,6 +1,5 @@
 // The issuers that the records of an owner grant.
 use grantee_reader::GranteeRead;
-use limits::MAX_RECORDS;
 use name_list::Names;
 use name_list::Span;
 use record_walk::Step;
@@ -13,10 +12,7 @@ ghost use Rattle.granted.specs.Places.{grantedBy};
 pub fn granted_by(book: &[u8], owner: &[u8], wild: bool) -> Names
     ensures { λ r. ⌜ namesIn (now (book .entry)) r ≡ grantedBy (now (book .entry)) (now (owner .entry)) wild ⌝ }
 {
-    let mut names = Names {
-        count: 0,
-        spans: [Span { from: 0, to: 0 }; MAX_RECORDS],
-    };
+    let mut names = Names::EMPTY;
     let mut w = Walk { at: 0, number: 0 };
     loop {
         let Step::Seen(c) = w.next(book, owner) else {

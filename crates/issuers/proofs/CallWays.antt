@@ -13,7 +13,7 @@ use Rattle.octets.proofs.ListLaws.{All-imp}
 use Rattle.buffer.specs.Buffer.{filled}
 use Rattle.rule.specs.declared.PermittedIssuers.{PermittedIssuers}
 use Rattle.rule.specs.declared.PermittedIssuers.the-variants.{Anyone, Listed, Refused}
-use Rattle.rule.specs.IssuerLists.{listed, issuers, entries}
+use Rattle.rule.specs.IssuerLists.{listed, issuers}
 use Rattle.rule.specs.Calls.{authorizations, Listing, roomRefusal, listIssuers}
 use Rattle.rule.proofs.PermittedLaws.{permitted-issuers}
 use Rattle.name_list.specs.Places.{namesIn}

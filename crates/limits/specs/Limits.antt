@@ -1,4 +1,4 @@
--- Every limit of the requirements, once. A change of a limit is a change of one line here.
+-- Every limit of the requirements, once.
 use Prim.Native.Nat.{ℕ}
 
 -- RFC 1035 section 2.3.4: the octets of a label, and of a name in wire form with its closing zero

@@ -1,5 +1,4 @@
 -- The limits as the requirements print them. Each statement is proved under its name in proofs/.
-use Prim.Native.Nat.{ℕ}
 use mathlib.Core.Path.{_≡_}
 use Rattle.limits.specs.Limits.{maxLabelOctets, maxNameOctets, maxIssuerOctets, maxRequestOctets, maxNames, maxBookOctets, maxRecords, maxDataOctets, maxLineOctets, maxTagOctets}
 

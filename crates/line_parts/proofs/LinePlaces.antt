@@ -9,7 +9,8 @@ use mathlib.Core.Option.{Option, none, some}
 use lib.ListN.{length, take, drop, length-drop}
 use lib.Seq.{length-take-le}
 use Rattle.octets.specs.Decimal.{decimalOctet}
-use Rattle.presentation.specs.Read.{field, isLineTag, lineValue, propertyOf, fromFields, readLine}
+use Rattle.octets.specs.Reader.{ifRead}
+use Rattle.presentation.specs.Read.{field, isLineTag, lineValue, propertyOf, readLine}
 use Rattle.decimal_text.specs.declared.OctetRead.{OctetRead}
 use Rattle.decimal_text.specs.declared.OctetRead.the-variants.{Good as GoodOctet, Fault as NoOctet}
 use Rattle.decimal_text.specs.Places.{decimalIn}
@@ -22,11 +23,11 @@ use Rattle.line_fields.proofs.FieldPlaces.{FieldTo, field-parts, field-there, f
 use Rattle.line_parts.specs.declared.LineAt.{LineAt}
 use Rattle.line_parts.specs.declared.LineRead.{LineRead}
 use Rattle.line_parts.specs.declared.LineRead.the-variants.{Good, Fault}
-use Rattle.line_parts.specs.Places.{linePlaces, withField, lineAt}
+use Rattle.line_parts.specs.Places.{linePlaces, lineAt}
 
 module _ (s : List ℕ) where
   -- no flags, no line
-  no-flags : (o : Option (List ℕ × List ℕ)) (s₁ : List ℕ) → withField o (λ t s₂. linePlaces s none s₁ t s₂) ≡ Fault
+  no-flags : (o : Option (List ℕ × List ℕ)) (s₁ : List ℕ) → ifRead Fault o (λ t s₂. linePlaces s none s₁ t s₂) ≡ Fault
   no-flags none s₁ = refl
   no-flags (some r) s₁ = refl
 
@@ -118,13 +119,13 @@ module _ (s : List ℕ) where
 
         second :
             (f s₁ : List ℕ) → field s ≡ some (f, s₁) → (q : Option (List ℕ × List ℕ)) → field s₁ ≡ q →
-            withField q (λ t s₂. linePlaces s (decimalOctet f) s₁ t s₂) ≡ Good l → LineTo l
+            ifRead Fault q (λ t s₂. linePlaces s (decimalOctet f) s₁ t s₂) ≡ Good l → LineTo l
         second f s₁ h₁ none h₂ k = let z : _≡_ {A = ℕ} 0 1 = cc in absurd (omega arith)
         second f s₁ h₁ (some r) h₂ k = flagged f s₁ (r .0) (r .1) h₁ h₂ (decimalOctet f) refl k
 
         first :
             (q : Option (List ℕ × List ℕ)) → field s ≡ q →
-            withField q (λ f s₁. withField (field s₁) (λ t s₂. linePlaces s (decimalOctet f) s₁ t s₂)) ≡ Good l → LineTo l
+            ifRead Fault q (λ f s₁. ifRead Fault (field s₁) (λ t s₂. linePlaces s (decimalOctet f) s₁ t s₂)) ≡ Good l → LineTo l
         first none h k = let z : _≡_ {A = ℕ} 0 1 = cc in absurd (omega arith)
         first (some r) h k = second (r .0) (r .1) h (field (r .1)) refl k
 
@@ -145,13 +146,13 @@ module _ (s : List ℕ) where
         flagged (some n) s₁ t s₂ k = tagged s₁ t s₂ n (isLineTag t) (lineValue s₂) refl k
 
         second :
-            (f s₁ : List ℕ) (q : Option (List ℕ × List ℕ)) → withField q (λ t s₂. linePlaces s (decimalOctet f) s₁ t s₂) ≡ Fault →
-            fromFields q (λ t s₂. propertyOf (decimalOctet f) t (lineValue s₂)) ≡ none
+            (f s₁ : List ℕ) (q : Option (List ℕ × List ℕ)) → ifRead Fault q (λ t s₂. linePlaces s (decimalOctet f) s₁ t s₂) ≡ Fault →
+            ifRead none q (λ t s₂. propertyOf (decimalOctet f) t (lineValue s₂)) ≡ none
         second f s₁ none k = refl
         second f s₁ (some r) k = flagged (decimalOctet f) s₁ (r .0) (r .1) k
 
         first :
-            (q : Option (List ℕ × List ℕ)) → withField q (λ f s₁. withField (field s₁) (λ t s₂. linePlaces s (decimalOctet f) s₁ t s₂)) ≡ Fault →
-            fromFields q (λ f s₁. fromFields (field s₁) (λ t s₂. propertyOf (decimalOctet f) t (lineValue s₂))) ≡ none
+            (q : Option (List ℕ × List ℕ)) → ifRead Fault q (λ f s₁. ifRead Fault (field s₁) (λ t s₂. linePlaces s (decimalOctet f) s₁ t s₂)) ≡ Fault →
+            ifRead none q (λ f s₁. ifRead none (field s₁) (λ t s₂. propertyOf (decimalOctet f) t (lineValue s₂))) ≡ none
         first none k = refl
         first (some r) k = second (r .0) (r .1) (field (r .1)) k

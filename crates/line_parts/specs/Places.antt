@@ -7,7 +7,7 @@ use lib.Dec.{eqb}
 use lib.ListN.{length}
 use Rattle.octets.specs.Lists.{ends}
 use Rattle.octets.specs.Decimal.{decimalOctet}
-use Rattle.text.specs.Places.{placeOf}
+use Rattle.octets.specs.Reader.{ifRead, placeOf}
 use Rattle.presentation.specs.Written.{quote}
 use Rattle.presentation.specs.Read.{field, isLineTag}
 use Rattle.line_unit.specs.declared.Style.the-variants.{Quoted, Bare}
@@ -22,12 +22,8 @@ linePlaces s none s₁ t s₂ = NoLine
 linePlaces s (some f) s₁ t s₂ =
     cond (isLineTag t) (GoodLine (record { flags = f; tag = placeOf s s₁; end = placeOf s s₁ + length t; value = placeOf s s₂ })) NoLine
 
-abbrev pub withField : Option (List ℕ × List ℕ) → (List ℕ → List ℕ → LineRead) → LineRead
-withField none k = NoLine
-withField (some r) k = k (r .0) (r .1)
-
 unfoldable pub lineAt : List ℕ → LineRead
-lineAt s = withField (field s) (λ f s₁. withField (field s₁) (λ t s₂. linePlaces s (decimalOctet f) s₁ t s₂))
+lineAt s = ifRead NoLine (field s) (λ f s₁. ifRead NoLine (field s₁) (λ t s₂. linePlaces s (decimalOctet f) s₁ t s₂))
 
 -- where the units of a value stand
 unfoldable pub valueAt : List ℕ → ValueRead

@@ -3,15 +3,14 @@ use Prim.Native.Nat.{ℕ, zero, suc, _+_, _-_, _≤_, _<_}
 use native.Mathlib.Omega.{arith}
 use mathlib.Core.Path.{_≡_, refl, sym, ap, _∙_}
 use mathlib.Core.Bool.{Bool}
-use mathlib.Core.List.{List, [], _∷_, _++_, map, append-assoc}
+use mathlib.Core.List.{List, [], _∷_, _++_, append-assoc}
 use mathlib.Core.Option.{Option, none, some, Option·none-ne-some}
-use lib.ListN.{length, drop, length-append, length-drop, length-map, drop-of-length-le}
+use lib.ListN.{length, drop, length-append, length-drop, drop-of-length-le}
 use lib.Seq.{drop-at, drop-drop}
-use Rattle.octets.specs.Lists.{flatten}
 use Rattle.octets.specs.Items.{Items, whole, broken, over, follow, before, items}
 use Rattle.presentation.specs.Read.{Unit, plain, quoted, numbered, valueOf, unit, values, unescaped}
 use Rattle.presentation.specs.Grammar.{wireUnit}
-use Rattle.presentation.proofs.Units.{unit-reads, unescaped-units}
+use Rattle.presentation.proofs.Units.{unit-reads}
 use Rattle.line_unit.specs.declared.Style.{Style}
 use Rattle.line_unit.specs.declared.UnitAt.{UnitAt}
 use Rattle.line_unit.specs.declared.UnitRead.{UnitRead}

@@ -18,6 +18,13 @@ pub struct Names {
     pub spans: [Span; MAX_RECORDS],
 }
 
+impl Names {
+    pub const EMPTY: Names = Names {
+        count: 0,
+        spans: [Span { from: 0, to: 0 }; MAX_RECORDS],
+    };
+}
+
 // The octets of a text; none where it doesn't stand in s.
 pub fn part(s: &[u8], at: Span) -> &[u8]
     ensures { λ r. ⌜ now r ≡ part (now (s .entry)) at ⌝ }
@@ -81,10 +88,7 @@ pub fn holds(book: &[u8], names: Names, name: &[u8]) -> bool
 pub fn common(book: &[u8], names: Names, others: Names) -> Names
     ensures { λ r. ⌜ namesIn (now (book .entry)) r ≡ select (λ m. any (same (lowered m)) (namesIn (now (book .entry)) others)) (namesIn (now (book .entry)) names) ⌝ }
 {
-    let mut kept = Names {
-        count: 0,
-        spans: [Span { from: 0, to: 0 }; MAX_RECORDS],
-    };
+    let mut kept = Names::EMPTY;
     let mut i: usize = 0;
     while i < MAX_RECORDS {
         if names.count <= i {

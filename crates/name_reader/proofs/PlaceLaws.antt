@@ -3,9 +3,9 @@ use Prim.Native.Nat.{ℕ, _≤_, _<_, _+_, _-_}
 use native.Mathlib.Omega.{arith}
 use mathlib.Core.Path.{_≡_, refl, sym, ap, _∙_}
 use mathlib.Core.Logic.{_↔_}
-use mathlib.Core.List.{List, _∷_, _++_}
+use mathlib.Core.List.{List, _++_}
 use mathlib.Core.Option.{Option, none, some}
-use lib.ListN.{length, drop, take, getD, length-append, length-drop}
+use lib.ListN.{length, drop, take, length-append, length-drop}
 use lib.Seq.{drop-drop, drop-append-seam, take-at}
 use Rattle.octets.proofs.ReaderLaws.{fault-told}
 use Rattle.name_reader.specs.declared.NameEnd.{NameEnd}

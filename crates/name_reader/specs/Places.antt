@@ -1,18 +1,19 @@
 -- Definitions by place, for code that walks a slice: each is a value definition at what is left of the slice from a place on.
-use Prim.Native.Nat.{ℕ, _+_, _-_}
-use mathlib.Core.Bool.{Bool, cond, _||_}
+use Prim.Native.Nat.{ℕ, _+_}
+use mathlib.Core.Bool.{cond, _||_}
 use mathlib.Core.List.{List, [], _∷_}
 use mathlib.Core.Option.{Option, none, some}
 use lib.Dec.{eqb, ltb}
 use lib.ListN.{length, drop}
+use Rattle.octets.specs.Reader.{placeOf}
 use Rattle.name_reader.specs.declared.NameEnd.{NameEnd}
 use Rattle.name_reader.specs.declared.NameEnd.the-variants.{At, Fault}
 use Rattle.name.specs.Names.{Name, name}
 
--- where what is left of s begins
+-- where a name ends: where what is left of s begins
 abbrev pub endOf : List ℕ → Option (Name × List ℕ) → NameEnd
 endOf s none = Fault
-endOf s (some r) = At (length s - length (r .1))
+endOf s (some r) = At (placeOf s (r .1))
 
 -- where the name that begins at `at` ends
 unfoldable pub nameEnd : List ℕ → ℕ → NameEnd

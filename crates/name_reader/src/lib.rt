@@ -38,7 +38,7 @@ pub struct Climb {
 }
 
 impl Climb {
-    // One label less; at the closing zero or past the end, the same place.
+    // One label less; where no label can be taken off, the same place.
     pub fn up(self, name: &[u8]) -> Climb
         ensures { λ r. ⌜ r .at ≡ parentPlace (now (name .entry)) (self .at) ⌝ }
     {

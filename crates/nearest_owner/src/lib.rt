@@ -1,4 +1,5 @@
 // The climb: the nearest name, from a name up, that owns a CAA record.
+use limits::MAX_NAME_OCTETS;
 use limits::MAX_RECORDS;
 use name_reader::Climb;
 use record_reader::RecordRead;
@@ -9,6 +10,9 @@ ghost use lib.ListN.{length, drop};
 ghost use Rattle.octets.specs.Octets.{equalIgnoringCase};
 ghost use Rattle.relevant.specs.Places.{nearestPlace};
 ghost use Rattle.nearest_owner.specs.OwningEnds.{Owning};
+
+// How many lengths an owner can have: no name is longer than 255 octets.
+const LENGTHS: usize = MAX_NAME_OCTETS + 1;
 
 // Whether a name ends with the octets x, letter case ignored.
 fn ends_with(name: &[u8], x: &[u8]) -> bool
@@ -22,11 +26,11 @@ fn ends_with(name: &[u8], x: &[u8]) -> bool
 }
 
 // For each length, whether so many last octets of a name own a CAA record: one walk over the book, however many labels
-// the name has. The climb asks only where a label begins. No owner is longer than 255 octets.
-fn owning_ends(book: &[u8], name: &[u8]) -> [bool; 256]
+// the name has. The climb asks only where a label begins.
+fn owning_ends(book: &[u8], name: &[u8]) -> [bool; LENGTHS]
     ensures { λ r. ⌜ Owning (now (book .entry)) (now (name .entry)) r ⌝ }
 {
-    let mut owning = [false; 256];
+    let mut owning = [false; LENGTHS];
     let mut at: usize = 0;
     let mut number: usize = 0;
     while number < MAX_RECORDS {
@@ -64,7 +68,7 @@ pub fn nearest(book: &[u8], name: &[u8]) -> Near
         }
         c = up;
         let n = name.len() - at;
-        if 256 <= n {
+        if LENGTHS <= n {
             continue;
         }
         if owning[n] {

@@ -1,8 +1,8 @@
--- Elements selected by a test that all pass, that none passes, or by two tests in turn; and a test of a list with one more behind.
+-- Elements selected by a test that all pass, that none passes, or by two tests in turn; and whether some element passes, by those selected and with one more behind.
 use mathlib.Core.Path.{_≡_, refl, ap}
-use mathlib.Core.Bool.{Bool, true, false, _&&_, _||_}
+use mathlib.Core.Bool.{Bool, true, false, not, _&&_, _||_}
 use mathlib.Core.List.{List, [], _∷_, _++_}
-use Rattle.octets.specs.Lists.{any, consIf, select, All, all-nil, all-cons}
+use Rattle.octets.specs.Lists.{any, consIf, select, isEmpty, All, all-nil, all-cons}
 
 module _ {A : Type 0} where
   -- where all pass, all are selected; where none does, none
@@ -27,6 +27,14 @@ module _ {A : Type 0} where
           (t : Bool) → select q (select p xs) ≡ select (λ x. p x && q x) xs →
           select q (consIf t x (select p xs)) ≡ consIf (t && q x) x (select (λ x. p x && q x) xs)
       go true rest = ap (consIf (q x) x) rest
+      go false rest = rest
+
+  pub any-selected : (p : A → Bool) (xs : List A) → any p xs ≡ not (isEmpty (select p xs))
+  any-selected p [] = refl
+  any-selected p (x ∷ xs) = go (p x) (any-selected p xs)
+    where
+      go : (t : Bool) → any p xs ≡ not (isEmpty (select p xs)) → t || any p xs ≡ not (isEmpty (consIf t x (select p xs)))
+      go true rest = refl
       go false rest = rest
 
   pub any-behind : (p : A → Bool) (xs : List A) (y : A) → any p (xs ++ (y ∷ [])) ≡ p y || any p xs

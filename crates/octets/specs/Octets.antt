@@ -1,6 +1,6 @@
 -- Octets are numbers below 256. Their classes (RFC 5234 appendix B.1), letter case, and when two texts are the same.
 use Prim.Native.Nat.{ℕ, _+_, _<_}
-use Prim.Native.Char.{Char, code}
+use Prim.Native.Char.{code}
 use Prim.Native.String.{String}
 use Prim.Native.String
 use mathlib.Core.Bool.{Bool, true, false, cond, _&&_, _||_}

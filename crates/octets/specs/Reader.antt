@@ -1,5 +1,5 @@
 -- Readers: each takes a value off the front of some octets and hands on the rest, or finds a fault.
-use Prim.Native.Nat.{ℕ, zero, suc, _+_, _*_, _/_, _%_}
+use Prim.Native.Nat.{ℕ, zero, suc, _+_, _-_, _*_, _/_, _%_}
 use mathlib.Core.Bool.{Bool, cond}
 use mathlib.Core.List.{List, [], _∷_, _++_}
 use mathlib.Core.Option.{Option, none, some}
@@ -22,9 +22,14 @@ module _ {A : Type 0} where
   given t a = cond t (pure a) fault
 
 module _ {A B : Type 0} where
+  -- what f makes of the value that was read and of the rest; b where there was a fault
+  abbrev pub ifRead : B → Option (A × List ℕ) → (A → List ℕ → B) → B
+  ifRead b none f = b
+  ifRead b (some r) f = f (r .0) (r .1)
+
+module _ {A B : Type 0} where
   abbrev pub andThen : Option (A × List ℕ) → (A → Reader B) → Option (B × List ℕ)
-  andThen none f = none
-  andThen (some r) f = f (r .0) (r .1)
+  andThen o f = ifRead none o f
 
   -- first p, then f on what p found: what `do` stands for
   abbrev pub _>>=_ : Reader A → (A → Reader B) → Reader B
@@ -46,6 +51,10 @@ remainder s = some (s, [])
 abbrev pub valueFrom : ℕ → List ℕ → ℕ
 valueFrom n [] = n
 valueFrom n (x ∷ s) = valueFrom (n * 256 + x) s
+
+-- where what is left of s begins
+abbrev pub placeOf : List ℕ → List ℕ → ℕ
+placeOf s rest = length s - length rest
 
 -- a number of k octets
 unfoldable pub number : ℕ → Reader ℕ

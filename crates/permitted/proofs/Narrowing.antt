@@ -2,7 +2,7 @@
 use Prim.Native.Nat.{ℕ}
 use mathlib.Core.Path.{_≡_, refl, sym, ap, _∙_, fun-ext}
 use mathlib.Core.Logic.{inl, inr}
-use mathlib.Core.Bool.{Bool, true, false, _&&_, and-self}
+use mathlib.Core.Bool.{Bool, true, _&&_, and-self}
 use mathlib.Core.List.{List, [], _∷_}
 use Rattle.octets.specs.Lists.{all, any, select, All, all-nil, all-cons}
 use Rattle.octets.specs.Octets.{same, lowered}

@@ -1,5 +1,4 @@
 // The issuers that may sign for all names of a request.
-use limits::MAX_RECORDS;
 use name_list::Names;
 use name_list::Span;
 use narrowing::SoFar;
@@ -26,19 +25,15 @@ pub struct Permitted {
 pub fn issuers_of(request: &[u8], book: &[u8]) -> Permitted
     ensures { λ r. ⌜ foundIn (now (book .entry)) r ≡ findIssuers (now (request .entry)) (now (book .entry)) ⌝ }
 {
-    let empty = Names {
-        count: 0,
-        spans: [Span { from: 0, to: 0 }; MAX_RECORDS],
-    };
     if let Check::Refused(r) = input_checks::check_request_and_book(request, book) {
         return Permitted {
             answer: Answer::Refused(r),
-            names: empty,
+            names: Names::EMPTY,
         };
     }
     let mut so_far = SoFar {
         restricted: false,
-        names: empty,
+        names: Names::EMPTY,
         owner: Span { from: 0, to: 0 },
         wild: false,
     };
@@ -48,7 +43,7 @@ pub fn issuers_of(request: &[u8], book: &[u8]) -> Permitted
         let RequestedRead::Good(n) = request_reader::requested_name(request, at) else {
             return Permitted {
                 answer: Answer::Listed,
-                names: empty,
+                names: Names::EMPTY,
             };
         };
         let base = n.base;
@@ -66,7 +61,7 @@ pub fn issuers_of(request: &[u8], book: &[u8]) -> Permitted
             Restriction::Forbidden => {
                 return Permitted {
                     answer: Answer::Listed,
-                    names: empty,
+                    names: Names::EMPTY,
                 };
             }
             Restriction::Governed(g) => {

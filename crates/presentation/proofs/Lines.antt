@@ -16,7 +16,8 @@ use Rattle.octets.specs.Decimal.{decimalFrom, decimalOctet}
 use Rattle.octets.proofs.ListLaws.{all-true, All-imp, All-head}
 use Rattle.octets.proofs.Runs.{Blankless, not-blank}
 use Rattle.record.specs.Property.{Property}
-use Rattle.presentation.specs.Read.{field, lineValue, isLineTag, propertyOf, fromFields, readLine}
+use Rattle.octets.specs.Reader.{ifRead}
+use Rattle.presentation.specs.Read.{field, lineValue, isLineTag, propertyOf, readLine}
 use Rattle.presentation.specs.Grammar.{someBlanks, FlagsField, TagField, ValueField, LineOf}
 use Rattle.presentation.specs.Theorems.{Line-is-the-grammar}
 use Rattle.presentation.proofs.Fields.{field-apart}
@@ -72,7 +73,7 @@ unblank (x ∷ t) long clean rest = All-head clean
 -- The fields together.
 
 fields-some :
-    (o : Option (List ℕ × List ℕ)) (k : List ℕ → List ℕ → Option Property) (p : Property) → fromFields o k ≡ some p →
+    (o : Option (List ℕ × List ℕ)) (k : List ℕ → List ℕ → Option Property) (p : Property) → ifRead none o k ≡ some p →
     (f rest : List ℕ) × (o ≡ some (f, rest)) × (k f rest ≡ some p)
 fields-some none k p h = absurd (Option·none-ne-some _ h)
 fields-some (some r) k p h = (r .0, r .1, refl, h)

@@ -1,10 +1,10 @@
 -- Which octets stand for themselves in a value, what units stand for, and how a line is written, octet for octet.
-use Prim.Native.Nat.{ℕ, _+_, _/_, _%_, _≤_, _<_}
+use Prim.Native.Nat.{ℕ, _/_, _%_, _≤_, _<_}
 use native.Mathlib.Omega.{arith}
 use mathlib.Core.Path.{_≡_, refl}
-use mathlib.Core.Logic.{_↔_, _≢_, _⊎_, inl, inr}
+use mathlib.Core.Logic.{_⊎_, inl, inr}
 use mathlib.Core.Bool.{Bool, true, false, _&&_, _||_, not, and-eq-true-iff, and-false}
-use mathlib.Core.List.{List, [], _∷_, append-assoc}
+use mathlib.Core.List.{[], _∷_, append-assoc}
 use lib.Dec.{leb, eqb}
 use borrow.Author.Tests.{leb-true, le-leb, lt-leb, eqb-false, ne-eqb, not-true}
 use Rattle.octets.specs.Lists.{all-nil, all-cons}

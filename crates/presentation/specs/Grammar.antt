@@ -1,6 +1,5 @@
 -- The requirements' "Read" as productions: which lines stand for which data.
-use Prim.Native.Nat.{ℕ, _≤_, _<_}
-use Prim.Native.Char.{code}
+use Prim.Native.Nat.{ℕ, _≤_}
 use mathlib.Core.Path.{_≡_}
 use mathlib.Core.Logic.{_⊎_, _≢_}
 use mathlib.Core.Bool.{Bool, true, false}

@@ -1,7 +1,7 @@
 -- A line read as CAA data.
 use Prim.Native.Nat.{ℕ}
 use Prim.Native.Char.{code}
-use mathlib.Core.Bool.{Bool, true, false, cond, not, _&&_, _||_}
+use mathlib.Core.Bool.{Bool, cond, not, _&&_, _||_}
 use mathlib.Core.List.{List, [], _∷_, map, dropLast}
 use mathlib.Core.Option.{Option, none, some}
 use lib.Dec.{eqb, leb}
@@ -9,7 +9,7 @@ use lib.ListN.{length}
 use Rattle.limits.specs.Limits.{maxTagOctets}
 use Rattle.octets.specs.Lists.{all, isEmpty, ends}
 use Rattle.octets.specs.Octets.{between, isDigit, isLetterOrDigit, isBlank, trimStart}
-use Rattle.octets.specs.Reader.{Reader, pure, fault, given, _>>=_, octet}
+use Rattle.octets.specs.Reader.{ifRead, Reader, given, _>>=_, octet}
 use Rattle.octets.specs.Items.{Items, whole, broken, over, items}
 use Rattle.octets.specs.Decimal.{decimalFrom, decimalOctet}
 use Rattle.record.specs.Property.{Property}
@@ -84,10 +84,6 @@ propertyOf none t v = none
 propertyOf (some f) t none = none
 propertyOf (some f) t (some v) = cond (isLineTag t) (some (record { flags = f; tag = t; value = v })) none
 
-abbrev pub fromFields : Option (List ℕ × List ℕ) → (List ℕ → List ℕ → Option Property) → Option Property
-fromFields none k = none
-fromFields (some r) k = k (r .0) (r .1)
-
 -- flags, blanks, tag as it stands, blanks, value
 unfoldable pub readLine : List ℕ → Option Property
-readLine s = fromFields (field s) (λ f s₁. fromFields (field s₁) (λ t s₂. propertyOf (decimalOctet f) t (lineValue s₂)))
+readLine s = ifRead none (field s) (λ f s₁. ifRead none (field s₁) (λ t s₂. propertyOf (decimalOctet f) t (lineValue s₂)))

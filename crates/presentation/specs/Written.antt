@@ -1,7 +1,7 @@
 -- CAA data written as a line (RFC 8659 section 4.1.1; the requirements' "A record as a line").
 use Prim.Native.Nat.{ℕ, _/_, _%_}
 use Prim.Native.Char.{code}
-use mathlib.Core.Bool.{Bool, cond, _||_}
+use mathlib.Core.Bool.{cond, _||_}
 use mathlib.Core.List.{List, [], _∷_, _++_, map}
 use lib.Dec.{eqb}
 use Rattle.octets.specs.Lists.{flatten}

@@ -1,12 +1,12 @@
 -- CAA data (RFC 8659 section 4.1): one property, with its flags, tag and value.
 use Prim.Native.Nat.{ℕ, _/_, _%_}
 use mathlib.Core.Bool.{Bool, cond}
-use mathlib.Core.List.{List, [], _∷_, _++_}
+use mathlib.Core.List.{List, _∷_, _++_}
 use mathlib.Core.Option.{Option, none, some}
 use lib.Dec.{leb, eqb}
 use lib.ListN.{length}
 use Rattle.octets.specs.Octets.{text, equalIgnoringCase}
-use Rattle.octets.specs.Reader.{Reader, pure, fault, given, _>>=_, octet, octets, remainder}
+use Rattle.octets.specs.Reader.{Reader, given, _>>=_, octet, octets, remainder}
 use Rattle.record.specs.declared.PropertyTag.{PropertyTag}
 use Rattle.record.specs.declared.PropertyTag.the-variants.{Issue, IssueWild, Iodef, Unknown}
 

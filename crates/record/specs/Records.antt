@@ -1,7 +1,7 @@
 -- Resource records (RFC 1035 section 3.2.1) without compression, and the records to decide by (the requirements' "book").
 use Prim.Native.Nat.{ℕ}
 use mathlib.Core.Bool.{Bool, true, false, cond, not, _&&_, _||_}
-use mathlib.Core.List.{List, [], _++_}
+use mathlib.Core.List.{List, _++_}
 use mathlib.Core.Option.{Option, none, some}
 use lib.Dec.{eqb, ltb}
 use lib.ListN.{length}
@@ -11,7 +11,7 @@ use Rattle.refusal.specs.declared.Refusal.the-variants.{BookTooLong, BadRecord,
 use Rattle.octets.specs.Reader.{Reader, given, _>>=_, octets, number, inOctets}
 use Rattle.octets.specs.Items.{Items, wholeItems, itemFault, items}
 use Rattle.name.specs.Names.{Name, wire, name}
-use Rattle.record.specs.Property.{Property, property}
+use Rattle.record.specs.Property.{property}
 
 pub record Record : Type 0 where
   pub owner : Name

@@ -2,7 +2,7 @@
 use Prim.Native.Nat.{ℕ, _+_, _≤_, _<_, _^_}
 use mathlib.Core.Path.{_≡_}
 use mathlib.Core.Logic.{_↔_, _≢_}
-use mathlib.Core.Bool.{Bool, true}
+use mathlib.Core.Bool.{true}
 use mathlib.Core.List.{List, [], _∷_, _++_, map}
 use mathlib.Core.Option.{none, some}
 use lib.ListN.{length}
@@ -17,7 +17,6 @@ use Rattle.octets.specs.Theorems.{Reads}
 use Rattle.octets.specs.Reader.{inOctets}
 use Rattle.name.specs.Names.{wire}
 use Rattle.name.specs.Theorems.{GoodName}
-use Rattle.record.specs.declared.PropertyTag.{PropertyTag}
 use Rattle.record.specs.declared.PropertyTag.the-variants.{Issue, IssueWild, Iodef, Unknown}
 use Rattle.record.specs.Property.{Property, wireProperty, property, isCritical, tagOf}
 use Rattle.record.specs.Records.{Record, wireRecord, resourceRecord, records, bookRefusal}

@@ -3,6 +3,7 @@ use Prim.Native.Nat.{ℕ, _+_, _-_}
 use mathlib.Core.List.{List}
 use mathlib.Core.Option.{Option, none, some}
 use lib.ListN.{length, drop}
+use Rattle.octets.specs.Reader.{placeOf}
 use Rattle.name.specs.Names.{wire}
 use Rattle.record.specs.Records.{Record, resourceRecord}
 use Rattle.record_reader.specs.declared.RecordRead.{RecordRead}
@@ -16,8 +17,8 @@ recordPlaces s at (some r) =
       fixed = at + length (wire (r .0 .owner));
       rtype = r .0 .type;
       class = r .0 .class;
-      rdata = length s - length (r .1) - length (r .0 .rdata);
-      next = length s - length (r .1);
+      rdata = placeOf s (r .1) - length (r .0 .rdata);
+      next = placeOf s (r .1);
     })
 
 -- the record that begins at `at`

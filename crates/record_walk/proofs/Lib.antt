@@ -1,4 +1,3 @@
-pub mod RecordBounds
 pub mod WalkSteps
 pub mod WalkLaws
 pub mod SetWalk

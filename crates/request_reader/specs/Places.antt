@@ -3,6 +3,7 @@ use Prim.Native.Nat.{ℕ, _-_}
 use mathlib.Core.List.{List}
 use mathlib.Core.Option.{Option, none, some}
 use lib.ListN.{length, drop}
+use Rattle.octets.specs.Reader.{placeOf}
 use Rattle.name.specs.Names.{Name, wire}
 use Rattle.request_reader.specs.declared.RequestedRead.{RequestedRead}
 use Rattle.request_reader.specs.declared.RequestedRead.the-variants.{Good, Fault}
@@ -12,7 +13,7 @@ use Rattle.request.specs.Request.{isWildcard, base, requestedName}
 abbrev pub placesOf : List ℕ → Option (Name × List ℕ) → RequestedRead
 placesOf s none = Fault
 placesOf s (some r) =
-    Good (record { wildcard = isWildcard (r .0); base = length s - length (r .1) - length (wire (base (r .0))); next = length s - length (r .1) })
+    Good (record { wildcard = isWildcard (r .0); base = placeOf s (r .1) - length (wire (base (r .0))); next = placeOf s (r .1) })
 
 -- the requested name that begins at `at`
 unfoldable pub requestedAt : List ℕ → ℕ → RequestedRead

@@ -22,7 +22,7 @@ use Rattle.restriction.specs.Places.{restrictionBy, restrictionFrom, res
 use Rattle.restriction.specs.Theorems.{Restriction-by-place, Forbidden-by-place}
 use Rattle.restriction.proofs.OneName.{issuers-granted}
 use Rattle.restriction.proofs.OwnerPart.{owner-part}
-use Rattle.restriction.proofs.Passing.{any-selected}
+use Rattle.octets.proofs.SelectTests.{any-selected}
 
 module _ (request book : List ℕ) (owner : Span) (wildcard : Bool) (rs : List CaaRecord) (there : setOf book (part request owner) ≡ rs) where
   by-set : restrictedTo request book (restrictionBy owner wildcard rs) ≡ issuers (unlessForbidden (select isUnknownCritical rs) (governedBy (governing wildcard rs)) ∷ [])

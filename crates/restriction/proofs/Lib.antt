@@ -1,4 +1,3 @@
-mod Passing
 mod OwnerPart
 pub mod OneName
 pub mod ByPlace

@@ -20,7 +20,7 @@ use Rattle.name_list.specs.Places.{part}
 use Rattle.restriction.specs.declared.Restriction.{Restriction}
 use Rattle.restriction.specs.declared.Restriction.the-variants.{Open, Forbidden, Governed}
 use Rattle.restriction.specs.Places.{restrictionBy, restrictionAt}
-use Rattle.restriction.proofs.Passing.{any-selected}
+use Rattle.octets.proofs.SelectTests.{any-selected}
 
 -- whether some record passes, by the first one found
 module _ (p : CaaRecord → Bool) (rs : List CaaRecord) {u : Found} (e : u ≡ firstNumber (select p rs)) where

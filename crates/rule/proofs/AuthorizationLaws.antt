@@ -23,7 +23,7 @@ use Rattle.value.specs.Productions.{valueWithName}
 use Rattle.value.proofs.Values.{value-is-the-grammar}
 use Rattle.rule.specs.RelevantSet.{CaaRecord, Lookup, empty, found, relevantSet}
 use Rattle.rule.specs.Authorizations.{Authorization, unrestricted, forbidden, granted, isIssueTag, isIssueWildTag, isUnknownTag, propertyTag, isUnknownCritical, isIssue, isIssueWild, orElse, governing, holder, grantee, consSome, grantees, governedBy, unlessForbidden, decided, authorization, permits}
-use Rattle.rule.specs.Meaning.{tagged, UnknownCriticalRecord, Governs, Grants, Relevant, Unrestricted, GrantedTo, PermittedTo, ForbiddenBy, GovernedFrom, GoverningRecords}
+use Rattle.rule.specs.Meaning.{Tagged, UnknownCriticalRecord, Governs, Grants, Relevant, Unrestricted, GrantedTo, PermittedTo, ForbiddenBy, GovernedFrom, GoverningRecords}
 
 -- each test of a tag passes one tag only
 only :
@@ -47,10 +47,10 @@ unknown-critical r = (
 pub critical-selects : (rs : List CaaRecord) → Selects UnknownCriticalRecord rs (select isUnknownCritical rs)
 critical-selects rs = selected isUnknownCritical unknown-critical rs
 
-issue-selects : (rs : List CaaRecord) → Selects (tagged Issue) rs (select isIssue rs)
+issue-selects : (rs : List CaaRecord) → Selects (Tagged Issue) rs (select isIssue rs)
 issue-selects rs = selected isIssue (λ r. (only (propertyTag r) .0, λ e. rw e)) rs
 
-issuewild-selects : (rs : List CaaRecord) → Selects (tagged IssueWild) rs (select isIssueWild rs)
+issuewild-selects : (rs : List CaaRecord) → Selects (Tagged IssueWild) rs (select isIssueWild rs)
 issuewild-selects rs = selected isIssueWild (λ r. (only (propertyTag r) .1, λ e. rw e)) rs
 
 pub governing-selects : (wildcard : Bool) (rs : List CaaRecord) → Selects (Governs wildcard rs) rs (governing wildcard rs)

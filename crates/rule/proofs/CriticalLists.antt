@@ -2,9 +2,9 @@
 use Prim.Native.Nat.{ℕ}
 use native.Mathlib.Omega.{arith}
 use mathlib.Core.Path.{_≡_, refl, ap}
-use mathlib.Core.Bool.{Bool, true, false, _&&_, and-false}
+use mathlib.Core.Bool.{Bool, false, and-false}
 use mathlib.Core.List.{List, [], _∷_, map}
-use Rattle.octets.specs.Lists.{all, select, All, all-nil, all-cons, Any, any-here, any-there}
+use Rattle.octets.specs.Lists.{all, select, All, all-cons, Any, any-here, any-there}
 use Rattle.octets.proofs.SelectLaws.{selects-none}
 use Rattle.name.specs.Names.{Name}
 use Rattle.request.specs.Request.{isWildcard, requestedNames}

@@ -1,5 +1,5 @@
 -- The table of edges and the numbers of the answers, by computing.
-use mathlib.Core.Path.{_≡_, refl}
+use mathlib.Core.Path.{refl}
 use Rattle.limits.specs.Limits.{maxLabelOctets, maxIssuerOctets}
 use Rattle.octets.specs.Octets.{isDigit, isUpper, isLower, isLetterOrDigit, isBlank, lower, equalIgnoringCase}
 use Rattle.octets.specs.Label.{isLetterDigitHyphen, isLabel, isHostLabel}

@@ -1,10 +1,9 @@
 -- The rule of issue as statements about records, with nothing of how they are searched: what the theorems speak of.
 use Prim.Native.Nat.{ℕ, suc, _≤_, _<_}
 use mathlib.Core.Path.{_≡_}
-use mathlib.Core.Logic.{_≢_, _⊎_}
+use mathlib.Core.Logic.{_⊎_}
 use mathlib.Core.Bool.{Bool, true, false}
 use mathlib.Core.List.{List, [], _∷_, _++_, map}
-use mathlib.Core.Option.{some}
 use lib.ListN.{length, drop}
 use Rattle.octets.specs.Lists.{All, Any, First, Selects}
 use Rattle.octets.specs.Octets.{lowered}
@@ -12,11 +11,11 @@ use Rattle.name.specs.Names.{Name}
 use Rattle.request.specs.Request.{isWildcard, base}
 use Rattle.issuer.specs.Theorems.{WellFormed}
 use Rattle.record.specs.declared.PropertyTag.{PropertyTag}
-use Rattle.record.specs.declared.PropertyTag.the-variants.{Issue, IssueWild, Iodef, Unknown}
+use Rattle.record.specs.declared.PropertyTag.the-variants.{Issue, IssueWild, Unknown}
 use Rattle.record.specs.Property.{Property, wireProperty, isCritical, tagOf}
 use Rattle.record.specs.Records.{Record}
 use Rattle.value.specs.Productions.{valueWithName}
-use Rattle.rule.specs.RelevantSet.{CaaRecord, Lookup, empty, found, lookup, relevantSet}
+use Rattle.rule.specs.RelevantSet.{CaaRecord, empty, found, lookup, relevantSet}
 
 -- cs are the CAA records of rs, in their order, each with its number, where the first of rs has the number k
 pub data CaaRecordsOf : ℕ → List Record → List CaaRecord → Type 0 where
@@ -36,17 +35,17 @@ abbrev pub NearestAt : List CaaRecord → Name → ℕ → List CaaRecord → Ty
 NearestAt book x k rs =
     (k < length x) × (lookup book (drop k x) ≡ found rs) × ((j : ℕ) → j < k → lookup book (drop j x) ≡ empty)
 
-abbrev pub tagged : PropertyTag → CaaRecord → Type 0
-tagged t r = tagOf (r .property .tag) ≡ t
+abbrev pub Tagged : PropertyTag → CaaRecord → Type 0
+Tagged t r = tagOf (r .property .tag) ≡ t
 
 -- step 2: an unknown tag that is critical
 abbrev pub UnknownCriticalRecord : CaaRecord → Type 0
-UnknownCriticalRecord r = (isCritical (r .property) ≡ true) × tagged Unknown r
+UnknownCriticalRecord r = (isCritical (r .property) ≡ true) × Tagged Unknown r
 
 -- step 3: r is of the kind that governs X, or *.X, where rs is the relevant set
 abbrev pub Governs : Bool → List CaaRecord → CaaRecord → Type 0
-Governs false rs r = tagged Issue r
-Governs true rs r = tagged IssueWild r ⊎ (tagged Issue r × All (λ q. tagged IssueWild q → ⊥) rs)
+Governs false rs r = Tagged Issue r
+Governs true rs r = Tagged IssueWild r ⊎ (Tagged Issue r × All (λ q. Tagged IssueWild q → ⊥) rs)
 
 -- step 4: the value holds a well-formed name, and this is it in small letters
 abbrev pub Grants : List ℕ → CaaRecord → Type 0

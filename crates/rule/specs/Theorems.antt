@@ -3,7 +3,7 @@ use Prim.Native.Nat.{ℕ, _+_, _≤_, _<_}
 use mathlib.Core.Path.{_≡_}
 use mathlib.Core.Logic.{_↔_, _≢_, _⊎_}
 use mathlib.Core.List.{List, [], _∷_, _++_, map, List·Memᴰ}
-use mathlib.Core.Option.{none, some}
+use mathlib.Core.Option.{none}
 use lib.ListN.{length, take, drop}
 use Rattle.refusal.specs.declared.Refusal.{Refusal}
 use Rattle.refusal.specs.declared.Refusal.the-variants.{RequestTooLong, BadName, TooManyNames, BadIssuer, BookTooLong, BadRecord, TooManyRecords, NoRoom, BadLine, LineTooLong, BadData}
@@ -21,7 +21,7 @@ use Rattle.record.specs.Theorems.{GoodRecord, Row-5, Row-6, Row-7}
 use Rattle.rule.specs.declared.Judgement.{Judgement}
 use Rattle.rule.specs.declared.Judgement.the-variants.{Permitted, UnknownCritical, NotGranted, Refused}
 use Rattle.rule.specs.declared.PermittedIssuers.the-variants.{Anyone, Listed, Refused as ListRefused}
-use Rattle.rule.specs.RelevantSet.{CaaRecord, Lookup, empty, found, caaRecords, lookup, relevantSet}
+use Rattle.rule.specs.RelevantSet.{CaaRecord, empty, found, caaRecords, lookup, relevantSet}
 use Rattle.rule.specs.Authorizations.{Authorization, unrestricted, forbidden, granted, authorization}
 use Rattle.rule.specs.Verdicts.{denial, verdict}
 use Rattle.rule.specs.IssuerLists.{Issuers, anyone, listed, issuers, entries, readEntry}

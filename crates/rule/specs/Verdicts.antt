@@ -1,6 +1,6 @@
 -- The verdict on a request: step 5 of the rule of issue, with the requirements' numbers and places.
 use Prim.Native.Nat.{ℕ, suc}
-use mathlib.Core.Bool.{Bool, cond}
+use mathlib.Core.Bool.{cond}
 use mathlib.Core.List.{List, [], _∷_}
 use Rattle.rule.specs.declared.Judgement.{Judgement}
 use Rattle.rule.specs.declared.Judgement.the-variants.{Permitted, UnknownCritical, NotGranted}

@@ -1,5 +1,5 @@
 -- Definitions by place, for code that walks a slice: each is a value definition at what is left of the slice from a place on.
-use Prim.Native.Nat.{ℕ, _+_, _-_}
+use Prim.Native.Nat.{ℕ, _+_}
 use mathlib.Core.List.{List, [], _∷_}
 use lib.ListN.{length, drop}
 use Rattle.octets.specs.Pieces.{split}
@@ -11,7 +11,3 @@ firstPiece (p ∷ ps) = p
 -- where the piece that begins at `at` ends
 unfoldable pub pieceEnd : ℕ → List ℕ → ℕ → ℕ
 pieceEnd c s at = at + length (firstPiece (split c (drop at s)))
-
--- where what is left of s begins
-abbrev pub placeOf : List ℕ → List ℕ → ℕ
-placeOf s rest = length s - length rest

@@ -7,9 +7,9 @@ use mathlib.Core.List.{List, [], _∷_, _++_}
 use lib.ListN.{length, getD, take, drop, length-drop, drop-of-length-le}
 use lib.Seq.{take-suc, take-length, length-take-le}
 use Rattle.octets.specs.Lists.{all-nil, all-cons}
-use Rattle.octets.specs.Octets.{isBlank}
+use Rattle.octets.specs.Octets.{isBlank, trimStart}
 use Rattle.octets.proofs.Walks.{drop-step, rest-whole}
-use Rattle.value.specs.IssueValues.{trimStart, trimEnd}
+use Rattle.value.specs.IssueValues.{trimEnd}
 use Rattle.value.proofs.Blanks.{trimEnd-back, trimEnd-upTo}
 
 -- From the front.

@@ -1,7 +1,8 @@
 // Texts by the class of their octets: whether all are of one, and without the blanks at either end.
 ghost use mathlib.Core.Path.{_≡_};
 ghost use Rattle.octets.specs.Lists.{all};
-ghost use Rattle.value.specs.IssueValues.{trimStart, trimEnd, isParameterOctet};
+ghost use Rattle.octets.specs.Octets.{trimStart};
+ghost use Rattle.value.specs.IssueValues.{trimEnd, isParameterOctet};
 ghost use Rattle.text_classes.specs.Classes.{inClass};
 
 // Classes of octets that a label, a tag, a value or the blanks around them are made of.

@@ -4,10 +4,10 @@ use mathlib.Core.Path.{_≡_, refl, _∙_, ap}
 use mathlib.Core.Bool.{Bool, true, false, cond}
 use mathlib.Core.List.{List, [], _∷_, _++_, append-assoc}
 use Rattle.octets.specs.Lists.{all-nil, all-cons}
-use Rattle.octets.specs.Octets.{isBlank}
+use Rattle.octets.specs.Octets.{isBlank, trimStart}
 use Rattle.octets.proofs.Trims.{trimmed}
 use Rattle.octets.proofs.Runs.{Blank, Blankless}
-use Rattle.value.specs.IssueValues.{trimStart, unlessLastBlank, trimEnd, trim}
+use Rattle.value.specs.IssueValues.{unlessLastBlank, trimEnd, trim}
 
 -- What is taken off is blank.
 

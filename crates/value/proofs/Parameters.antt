@@ -7,13 +7,13 @@ use mathlib.Core.Logic.{_↔_, _≢_}
 use mathlib.Core.Bool.{true, false, _&&_, false≢true, and-eq-true-iff}
 use mathlib.Core.List.{List, [], _∷_, _++_, append-assoc}
 use Rattle.octets.specs.Lists.{all, all-cons}
-use Rattle.octets.specs.Octets.{isBlank, isLetterOrDigit, isUpper, isLower, isDigit}
+use Rattle.octets.specs.Octets.{isBlank, isLetterOrDigit, isUpper, isLower, isDigit, trimStart}
 use Rattle.octets.specs.Pieces.{split, join}
 use Rattle.octets.specs.Grammar.{_⊕_}
 use Rattle.octets.proofs.ListLaws.{told-apart, All-join, all-true, All-head, All-tail, All-imp}
 use Rattle.octets.proofs.PieceLaws.{pieces-join}
 use Rattle.octets.proofs.Runs.{Of, many-of, of-many, not-blank, Blank, Blankless}
-use Rattle.value.specs.IssueValues.{trimStart, trimEnd, trim, isParameterOctet, isParameterTag, isTagAndValue, isParameter}
+use Rattle.value.specs.IssueValues.{trimEnd, trim, isParameterOctet, isParameterTag, isTagAndValue, isParameter}
 use Rattle.value.specs.Productions.{blanks, tag, parameter}
 use Rattle.value.proofs.Classes.{Free}
 use Rattle.value.proofs.Blanks.{trimStart-takes, trimEnd-takes, trim-takes, trimEnd-leaves, trim-leaves, trim-within}

@@ -1,12 +1,11 @@
 -- Values of issue and issuewild properties (RFC 8659 section 4.2): which fit the grammar, and the issuer domain name they hold.
 use Prim.Native.Nat.{ℕ}
 use Prim.Native.Char.{code}
-use mathlib.Core.Bool.{Bool, true, false, cond, not, _&&_, _||_}
+use mathlib.Core.Bool.{Bool, false, cond, not, _&&_, _||_}
 use mathlib.Core.List.{List, [], _∷_}
 use lib.Dec.{eqb}
 use Rattle.octets.specs.Lists.{all, isEmpty}
-use Rattle.octets.specs.Octets.{between, isBlank, isLetterOrDigit}
-pub use Rattle.octets.specs.Octets.{trimStart}
+use Rattle.octets.specs.Octets.{between, isBlank, isLetterOrDigit, trimStart}
 use Rattle.octets.specs.Label.{isLabel}
 use Rattle.octets.specs.Pieces.{split, join}
 

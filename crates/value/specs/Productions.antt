@@ -2,7 +2,6 @@
 use Prim.Native.Nat.{ℕ}
 use Prim.Native.Char.{code}
 use mathlib.Core.Path.{_≡_}
-use mathlib.Core.Logic.{_⊎_}
 use mathlib.Core.List.{List, _++_}
 use Rattle.octets.specs.Octets.{isBlank, isLetterOrDigit}
 use Rattle.octets.specs.Grammar.{Production, one, lit, _⊕_, optional, many, label}

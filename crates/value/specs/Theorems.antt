@@ -4,7 +4,7 @@ use mathlib.Core.Path.{_≡_}
 use mathlib.Core.Logic.{_↔_, _≢_}
 use mathlib.Core.Bool.{true}
 use mathlib.Core.List.{List}
-use Rattle.value.specs.IssueValues.{IssueValue, malformed, nameless, named, issueValue, isParameterOctet}
+use Rattle.value.specs.IssueValues.{malformed, nameless, named, issueValue, isParameterOctet}
 use Rattle.value.specs.Productions.{valueWithoutName, valueWithName}
 
 -- the reading definition accepts exactly what the productions match, and the name that it yields is the only one

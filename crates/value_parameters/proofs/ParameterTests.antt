@@ -7,13 +7,13 @@ use mathlib.Core.Bool.{Bool, true, false, _&&_}
 use mathlib.Core.List.{List, [], _∷_}
 use lib.ListN.{length, take, drop}
 use Rattle.octets.specs.Lists.{all}
-use Rattle.octets.specs.Octets.{isBlank}
+use Rattle.octets.specs.Octets.{isBlank, trimStart}
 use Rattle.octets.specs.Pieces.{split}
 use Rattle.text.specs.Places.{pieceEnd}
 use Rattle.octets.proofs.ListLaws.{all-true, not-passed}
 use Rattle.octets.proofs.PieceLaws.{pieces-join}
 use Rattle.text_classes.specs.declared.Class.the-variants.{Blank, LetterOrDigit, ParameterOctet}
-use Rattle.value.specs.IssueValues.{trimStart, trimEnd, isParameterTag, isParameterOctet, isTagAndValue, isParameter, isBlankAlone, areParameters}
+use Rattle.value.specs.IssueValues.{trimEnd, isParameterTag, isParameterOctet, isTagAndValue, isParameter, isBlankAlone, areParameters}
 use Rattle.text_classes.specs.Classes.{inClass}
 use Rattle.value.proofs.Cuts.{split-one}
 use Rattle.octets.proofs.Walks.{rest-whole}

@@ -6,11 +6,11 @@ use mathlib.Core.Logic.{_≢_}
 use mathlib.Core.Bool.{Bool, true, false, cond}
 use mathlib.Core.List.{List, [], _∷_, _++_, append-nil, append-assoc, cons≢nil}
 use lib.ListN.{length, length-append}
-use Rattle.octets.specs.Octets.{isBlank}
+use Rattle.octets.specs.Octets.{isBlank, trimStart}
 use Rattle.dotted_labels.specs.DottedLabels.{areLabels}
 use Rattle.dotted_labels.proofs.AnyLength.{any-length}
 use Rattle.value_reader.specs.declared.ValueRead.the-variants.{Malformed, Nameless, Named}
-use Rattle.value.specs.IssueValues.{malformed, nameless, named, trimStart, trimEnd, trim, isDomainName, nameIn}
+use Rattle.value.specs.IssueValues.{malformed, nameless, named, trimEnd, trim, isDomainName, nameIn}
 use Rattle.value_reader.specs.Places.{namePlaces}
 use Rattle.value.proofs.Blanks.{trimStart-takes, trimEnd-takes}
 

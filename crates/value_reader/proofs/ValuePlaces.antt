@@ -2,15 +2,16 @@
 use Prim.Native.Nat.{ℕ, _+_, _-_, _≤_, _<_}
 use native.Mathlib.Omega.{arith}
 use mathlib.Core.Path.{_≡_, refl, sym, ap, subst, _∙_}
-use mathlib.Core.Logic.{_↔_, _≢_}
-use mathlib.Core.List.{List, [], _∷_, _++_}
+use mathlib.Core.Logic.{_↔_}
+use mathlib.Core.List.{List, _++_}
 use lib.ListN.{length, take, drop, length-append}
 use lib.Seq.{take-append-seam, drop-at}
+use Rattle.octets.specs.Octets.{trimStart}
 use Rattle.octets.proofs.WholeLists.{not-empty}
 use Rattle.value_reader.specs.declared.NameAt.{NameAt}
 use Rattle.value_reader.specs.declared.ValueRead.{ValueRead}
 use Rattle.value_reader.specs.declared.ValueRead.the-variants.{Malformed, Nameless, Named}
-use Rattle.value.specs.IssueValues.{IssueValue, malformed, nameless, named, trimStart, issueValue}
+use Rattle.value.specs.IssueValues.{IssueValue, malformed, nameless, named, issueValue}
 use Rattle.value_reader.specs.Places.{namePlaces, valueAt}
 use Rattle.value.proofs.Blanks.{trimStart-takes}
 use Rattle.value.proofs.Values.{name-in-front}

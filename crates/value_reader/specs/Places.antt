@@ -2,7 +2,8 @@
 use Prim.Native.Nat.{ℕ, _+_, _-_}
 use mathlib.Core.List.{List}
 use lib.ListN.{length}
-use Rattle.value.specs.IssueValues.{IssueValue, malformed, nameless, named, trimStart, issueValue}
+use Rattle.octets.specs.Octets.{trimStart}
+use Rattle.value.specs.IssueValues.{IssueValue, malformed, nameless, named, issueValue}
 use Rattle.value_reader.specs.declared.ValueRead.{ValueRead}
 use Rattle.value_reader.specs.declared.ValueRead.the-variants.{Malformed, Nameless, Named}
 

@@ -7,7 +7,6 @@ use Rattle.refusal.specs.declared.Refusal.{Refusal}
 use Rattle.octets.specs.Octets.{Octets}
 use Rattle.request.specs.Request.{requestedNames}
 use Rattle.record.specs.Records.{records}
-use Rattle.rule.specs.declared.Judgement.the-variants.{Refused}
 use Rattle.rule.specs.RelevantSet.{caaRecords}
 use Rattle.rule.specs.Verdicts.{verdict}
 use Rattle.rule.specs.Calls.{authorizations, firstRefusal, judgeChecks, refusedOr, judge}

@@ -1,4 +1,4 @@
--- first_critical and judge_within: a law for each way out, from what the searches of the relevant set found.
+-- first_critical and judge_name: a law for each way out, from what the searches of the relevant set found.
 use Prim.Native.Nat.{ℕ}
 use mathlib.Core.Path.{_≡_, sym, ap, _∙_}
 use mathlib.Core.Bool.{Bool, false}

@@ -27,7 +27,7 @@ fn first_critical(book: &[u8], critical: bool, owner: &[u8]) -> Found
 }
 
 // Judges one name X, in wire form, or *.X, where `critical` is told of the book once for all names.
-fn judge_within(
+fn judge_name(
     book: &[u8],
     critical: bool,
     name: &[u8],
@@ -63,7 +63,7 @@ pub fn judge(request: &[u8], issuer: &[u8], book: &[u8]) -> Judgement
         };
         let base = n.base;
         let next = n.next;
-        match judge_within(book, critical, &request[base..next], n.wildcard, issuer) {
+        match judge_name(book, critical, &request[base..next], n.wildcard, issuer) {
             NameVerdict::Permitted => {}
             NameVerdict::UnknownCritical(rr) => {
                 return Judgement::UnknownCritical(Denial {

@@ -4,7 +4,7 @@ use borrow.Author.Needs.{needs}
 use borrow.Author.Tests.{not-true, not-false}
 use Rattle.limits.specs.Limits.{maxRecords}
 use Rattle.record_reader.proofs.RecordPlaces.{record-inside}
-use Rattle.record_walk.proofs.RecordBounds.{data-before}
+use Rattle.record_reader.proofs.RecordBounds.{data-before}
 use Rattle.critical_records.proofs.CriticalWalk.{CriticalLeft, critical-start, none-critical, none-readable, no-caa-passed, critical-found, critical-passed}
 use Rattle.critical_records.proofs.any_unknown_critical.Statement.{statement}
 use Rattle.critical_records.proofs.any_unknown_critical.Tie as tie

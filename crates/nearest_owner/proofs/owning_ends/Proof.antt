@@ -3,7 +3,7 @@ use Prim.Native.Nat.{_-_}
 use borrow.Author.Needs.{needs}
 use borrow.Author.Tests.{not-true, not-false}
 use Rattle.limits.specs.Limits.{maxRecords}
-use Rattle.record_walk.proofs.RecordBounds.{owner-before, owner-inside}
+use Rattle.record_reader.proofs.RecordBounds.{owner-before, owner-inside}
 use Rattle.nearest_owner.proofs.EndWalk.{Noted, none-noted, all-noted, noted-readable, owner-short, other-noted, end-noted, owner-noted}
 use Rattle.nearest_owner.proofs.owning_ends.Statement.{statement}
 use Rattle.nearest_owner.proofs.owning_ends.Tie as tie

@@ -9,10 +9,10 @@ use Rattle.permitted.proofs.issuers_of.Statement.{statement}
 use Rattle.permitted.proofs.issuers_of.Tie as tie
 
 abbrev Inv-loop : tie.InvT-loop
-Inv-loop request book empty so-far₀ at₀ so-far at = Narrowing request book so-far at
+Inv-loop request book so-far₀ at₀ so-far at = Narrowing request book so-far at
 
 abbrev μ-loop : tie.MeasureT-loop
-μ-loop request book empty so-far₀ at₀ so-far at = length request - at
+μ-loop request book so-far₀ at₀ so-far at = length request - at
 
 check-request-and-book-requires : tie.Need-check-request-and-book-requires Inv-loop μ-loop
 check-request-and-book-requires c κs = search needs

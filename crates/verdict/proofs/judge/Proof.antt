@@ -45,17 +45,17 @@ enum-told-2 c = search needs
 returns-2 : tie.Need-returns-2 Inv-loop μ-loop
 returns-2 c = search (needs, no-bad-name)
 
-sub-judge-within : tie.Need-sub-judge-within Inv-loop μ-loop
-sub-judge-within c = search (needs, base-first)
+sub-judge-name : tie.Need-sub-judge-name Inv-loop μ-loop
+sub-judge-name c = search (needs, base-first)
 
-part-judge-within-start : tie.Need-part-judge-within-start Inv-loop μ-loop
-part-judge-within-start c = search (needs, base-first)
+part-judge-name-start : tie.Need-part-judge-name-start Inv-loop μ-loop
+part-judge-name-start c = search (needs, base-first)
 
-part-judge-within-end : tie.Need-part-judge-within-end Inv-loop μ-loop
-part-judge-within-end c = search (needs, next-inside)
+part-judge-name-end : tie.Need-part-judge-name-end Inv-loop μ-loop
+part-judge-name-end c = search (needs, next-inside)
 
-judge-within-requires : tie.Need-judge-within-requires Inv-loop μ-loop
-judge-within-requires c κs = search (needs, critical-known)
+judge-name-requires : tie.Need-judge-name-requires Inv-loop μ-loop
+judge-name-requires c κs = search (needs, critical-known)
 
 enum-told-3 : tie.Need-enum-told-3 Inv-loop μ-loop
 enum-told-3 c = search needs
@@ -101,10 +101,10 @@ judge-spec =
     enum-known-n
     enum-told-2
     returns-2
-    sub-judge-within
-    part-judge-within-start
-    part-judge-within-end
-    judge-within-requires
+    sub-judge-name
+    part-judge-name-start
+    part-judge-name-end
+    judge-name-requires
     enum-told-3
     enum-known-rr
     returns-3

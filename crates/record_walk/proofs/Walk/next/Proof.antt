@@ -5,7 +5,7 @@ use mathlib.Core.Logic.{⊎-elim}
 use borrow.Author.Needs.{needs}
 use Rattle.limits.specs.Limits.{maxRecords}
 use Rattle.record_walk.specs.Walks.{nextOwned}
-use Rattle.record_walk.proofs.RecordBounds.{owner-before, owner-inside}
+use Rattle.record_reader.proofs.RecordBounds.{owner-before, owner-inside}
 use Rattle.record_walk.proofs.NextWays.{records-over, unreadable, other-record, other-owner, owner-seen}
 use Rattle.record_walk.proofs.Walk.next.Statement.{statement}
 use Rattle.record_walk.proofs.Walk.next.Tie as tie

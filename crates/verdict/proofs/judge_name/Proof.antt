@@ -1,9 +1,9 @@
--- `judge_within` meets its contract.
+-- `judge_name` meets its contract.
 use borrow.Author.Needs.{needs}
 use Rattle.relevant.proofs.DecidedLaws.{near-inside}
 use Rattle.verdict.proofs.NameWays.{nowhere, critical-there, governing-there}
-use Rattle.verdict.proofs.judge_within.Statement.{statement}
-use Rattle.verdict.proofs.judge_within.Tie as tie
+use Rattle.verdict.proofs.judge_name.Statement.{statement}
+use Rattle.verdict.proofs.judge_name.Tie as tie
 
 nearest-requires : tie.Need-nearest-requires
 nearest-requires c κs = search needs
@@ -44,8 +44,8 @@ by-governing-requires c κs = search needs
 returns-3 : tie.Need-returns-3
 returns-3 c = search (needs, governing-there)
 
-pub judge-within-spec : {M : Type 1} → statement M
-judge-within-spec =
+pub judge-name-spec : {M : Type 1} → statement M
+judge-name-spec =
     tie.close
     (tie.spec
     nearest-requires
