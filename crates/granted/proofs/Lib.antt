@@ -1,2 +1,4 @@
 pub mod Joining
-pub mod GrantedWalk
+mod SeenGrants
+pub mod GrantedByPlace
+mod GrantedWalk

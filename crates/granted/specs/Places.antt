@@ -1,12 +1,51 @@
--- Definitions for code that keeps issuers as places: those that the records of an owner grant.
-use Prim.Native.Nat.{ℕ}
-use mathlib.Core.Bool.{Bool}
-use mathlib.Core.List.{List}
-use Rattle.octets.specs.Lists.{select}
+-- The issuers that the records of an owner grant, kept as places; Theorems.antt ties them to the rule.
+use Prim.Native.Nat.{ℕ, zero, suc, _+_}
+use mathlib.Core.Bool.{Bool, cond}
+use mathlib.Core.List.{List, [], _∷_, map}
+use Rattle.limits.specs.Limits.{maxRecords}
+use Rattle.octets.specs.Lists.{select, flatten}
 use Rattle.rule.specs.Authorizations.{grantees}
 use Rattle.rule.specs.IssuerLists.{distinct}
 use Rattle.relevant.specs.Places.{hasTag, setOf}
+use Rattle.record_walk.specs.Walks.{nextOwned, seenData}
+use Rattle.record_walk.specs.declared.Walk.{Walk}
+use Rattle.record_walk.specs.declared.Seen.{Seen as SeenAt}
+use Rattle.record_walk.specs.declared.Step.{Step}
+use Rattle.record_walk.specs.declared.Step.the-variants.{Seen, End}
+use Rattle.property_predicates.specs.DataTests.{dataHasTag}
+use Rattle.grantee_reader.specs.Places.{granteeAt}
+use Rattle.grantee_reader.specs.declared.GranteeRead.{GranteeRead}
+use Rattle.grantee_reader.specs.declared.GranteeRead.the-variants.{At, Nobody}
+use Rattle.name_list.specs.Places.{pushed, noNames, isAmong}
+use Rattle.name_list.specs.declared.Span.{Span}
+use Rattle.name_list.specs.declared.Names.{Names}
 
 -- the issuers that the issuewild records of an owner grant, or its issue records, each once
 unfoldable pub grantedBy : List ℕ → List ℕ → Bool → List (List ℕ)
 grantedBy book owner wild = distinct (grantees (select (hasTag wild) (setOf book owner)))
+
+-- the records of an owner that a walk sees, at most so many
+abbrev pub seenNext : Step → (Walk → List SeenAt) → List SeenAt
+seenNext End rest = []
+seenNext (Seen c) rest = c ∷ rest (c .walk)
+
+abbrev pub seenFrom : ℕ → List ℕ → List ℕ → Walk → List SeenAt
+seenFrom zero book owner w = []
+seenFrom (suc steps) book owner w = seenNext (nextOwned book owner w) (seenFrom steps book owner)
+
+-- where the issuer stands in the book that data grants which begins at `from`; none where it grants nobody, or has another tag
+abbrev pub grantFrom : ℕ → GranteeRead → List Span
+grantFrom from Nobody = []
+grantFrom from (At n) = record { from = from + n .from; to = from + n .to } ∷ []
+
+abbrev pub grantOf : List ℕ → Bool → SeenAt → List Span
+grantOf book wild c = cond (dataHasTag wild (seenData book c)) (grantFrom (c .rdata) (granteeAt (seenData book c))) []
+
+-- each pushed where its name first stands
+abbrev pub pushedOnce : List ℕ → Names → List Span → Names
+pushedOnce book ns [] = ns
+pushedOnce book ns (x ∷ xs) = pushedOnce book (cond (isAmong book ns x) ns (pushed ns x)) xs
+
+unfoldable pub grantedNames : List ℕ → List ℕ → Bool → Names
+grantedNames book owner wild =
+    pushedOnce book noNames (flatten (map (grantOf book wild) (seenFrom maxRecords book owner (record { at = 0; number = 0 }))))

@@ -5,12 +5,11 @@ use name_list::Span;
 use record_walk::Step;
 use record_walk::Walk;
 ghost use mathlib.Core.Path.{_≡_};
-ghost use Rattle.name_list.specs.Places.{namesIn};
-ghost use Rattle.granted.specs.Places.{grantedBy};
+ghost use Rattle.granted.specs.Places.{grantedNames};
 
 // The issuers that the issuewild records of an owner grant, or its issue records: each once, where it is first granted.
 pub fn granted_by(book: &[u8], owner: &[u8], wild: bool) -> Names
-    ensures { λ r. ⌜ namesIn (now (book .entry)) r ≡ grantedBy (now (book .entry)) (now (owner .entry)) wild ⌝ }
+    ensures { λ r. ⌜ r ≡ grantedNames (now (book .entry)) (now (owner .entry)) wild ⌝ }
 {
     let mut names = Names::EMPTY;
     let mut w = Walk { at: 0, number: 0 };

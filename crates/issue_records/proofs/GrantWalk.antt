@@ -13,9 +13,8 @@ use Rattle.record_walk.specs.declared.Walk.{Walk}
 use Rattle.record_walk.specs.declared.Seen.{Seen as SeenAt}
 use Rattle.record_walk.specs.declared.Step.{Step}
 use Rattle.record_walk.specs.declared.Step.the-variants.{Seen, End}
-use Rattle.record_walk.specs.Walks.{nextOwned}
+use Rattle.record_walk.specs.Walks.{nextOwned, seenData}
 use Rattle.record_walk.proofs.WalkSteps.{remaining}
-use Rattle.record_walk.proofs.WalkLaws.{dataOf}
 use Rattle.record_walk.proofs.SetWalk.{Left, set-over, Passed, set-passed, set-taken}
 use Rattle.property_predicates.specs.DataTests.{dataHasTag, grantsTo}
 use Rattle.property_predicates.proofs.TestLaws.{tells-tag, tells-grant}
@@ -36,7 +35,7 @@ module _ (issuer : List ℕ) (wild : Bool) where
   untagged-passed = set-passed (grantsAny issuer) (hasTag wild) (dataHasTag wild) (tells-tag wild)
 
   module _ (book x : List ℕ) (w : Walk) (left : GrantsLeft book x w) (o : Step) (f : o ≡ nextOwned book x w) (c : SeenAt) (g : o ≡ Seen c) where
-    module _ (t b : Bool) (test : t ≡ dataHasTag wild (dataOf book c)) (e : t ≡ true) (h : b ≡ grantsTo (dataOf book c) issuer) where
+    module _ (t b : Bool) (test : t ≡ dataHasTag wild (seenData book c)) (e : t ≡ true) (h : b ≡ grantsTo (seenData book c) issuer) where
       tested : grantsAny issuer (select (hasTag wild) (setOf book x)) ≡ b || grantsAny issuer (select (hasTag wild) (remaining book x (c .walk)))
       tested =
           let (cr, s, first) = set-taken (grantsAny issuer) (hasTag wild) (dataHasTag wild) (tells-tag wild) book x w left o f c g t test e in

@@ -1,3 +1,4 @@
 pub mod KeptNames
 pub mod NestedParts
 pub mod NameLoops
+pub mod CommonNames

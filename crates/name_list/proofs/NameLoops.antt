@@ -1,18 +1,19 @@
 -- The ways out of the loops over kept names: whether a name is among them, and which of them are among others too.
 use Prim.Native.Nat.{ℕ, _+_, _≤_, _<_, min}
 use native.Mathlib.Omega.{arith}
-use mathlib.Core.Path.{_≡_, _∙_}
-use mathlib.Core.Bool.{Bool, true, false}
-use mathlib.Core.List.{List, _++_, append-assoc, append-nil}
-use lib.ListN.{length, drop, getD, replicate, length-replicate}
+use mathlib.Core.Path.{_≡_, refl, sym, ap, _∙_}
+use mathlib.Core.Bool.{Bool, true, false, cond}
+use mathlib.Core.List.{List, _∷_}
+use lib.ListN.{length, take, drop, getD, replicate, length-take, drop-of-length-le}
+use lib.Seq.{getD-take}
 use Rattle.limits.specs.Limits.{maxRecords}
-use Rattle.octets.specs.Lists.{any, consIf, select}
+use Rattle.octets.specs.Lists.{any}
 use Rattle.octets.specs.Octets.{same, lowered, equalIgnoringCase}
-use Rattle.octets.proofs.SmallLetters.{lowered-twice}
-use Rattle.name_list.specs.Places.{namesIn, pushed}
+use Rattle.octets.proofs.Walks.{drop-step}
+use Rattle.name_list.specs.Places.{namesIn, pushed, isAmong, pushedCommon, commonNames}
 use Rattle.name_list.specs.declared.Span.{Span}
 use Rattle.name_list.specs.declared.Names.{Names}
-use Rattle.name_list.proofs.KeptNames.{nameAt, names-done, names-next, names-none, pushed-full, pushed-count, pushed-names}
+use Rattle.name_list.proofs.KeptNames.{nameAt, names-done, names-next}
 
 -- a text in small letters is among them
 abbrev pub among : List ℕ → Names → List ℕ → Bool
@@ -35,44 +36,44 @@ module _ (book name : List ℕ) (ns : Names) (i : ℕ) (held : Held book name ns
     unfolding equalIgnoringCase
     held-next g = held ∙ rw (names-next book ns full i h k, ← e, ← f, g)
 
--- those of the names that are among others too: kept of the first i
-pub record Kept (book : List ℕ) (others names kept : Names) (i : ℕ) : Type 0 where
-  pub full : length (names .spans) ≡ maxRecords
-  pub kept-full : length (kept .spans) ≡ maxRecords
-  pub few : kept .count ≤ i
-  pub so-far : namesIn book kept ++ select (among book others) (drop i (namesIn book names)) ≡ select (among book others) (namesIn book names)
+-- the names left from the i-th on are still to be kept
+abbrev pub Kept : List ℕ → Names → Names → Names → ℕ → Type 0
+Kept book others names kept i =
+    (length (names .spans) ≡ maxRecords)
+    × (commonNames book names others ≡ pushedCommon book others kept (drop i (take (names .count) (names .spans))))
 
 pub kept-none :
     (book : List ℕ) (others names : Names) → length (names .spans) ≡ maxRecords →
     Kept book others names (record { count = 0; spans = replicate maxRecords (record { from = 0; to = 0 }) }) 0
-kept-none book others names full =
-    record { full = full; kept-full = length-replicate {A = Span} maxRecords (record { from = 0; to = 0 }); few = omega arith; so-far = rw names-none }
+unfolding commonNames
+kept-none book others names full = (full, refl)
 
 module _ (book : List ℕ) (others names kept : Names) (i : ℕ) (inv : Kept book others names kept i) where
-  pub kept-done : min (names .count) maxRecords ≤ i → namesIn book kept ≡ select (among book others) (namesIn book names)
-  kept-done h = rw (← inv .so-far, names-done book names (inv .full) i h, append-nil)
+  pub kept-done : min (names .count) maxRecords ≤ i → kept ≡ commonNames book names others
+  kept-done h =
+      sym (inv .1 ∙ rw (drop-of-length-le (take (names .count) (names .spans)) {i = i} (rw (length-take (names .count) (names .spans), inv .0) h)))
 
   module _ (h : i < names .count) (k : i < maxRecords) (p : List ℕ) (b : Bool) (e : p ≡ nameAt book names i) (f : b ≡ among book others p)
       (after : Names) where
-    next :
-        select (among book others) (drop i (namesIn book names))
-        ≡ consIf b (lowered p) (select (among book others) (drop (i + 1) (namesIn book names)))
-    next = rw (names-next book names (inv .full) i h k, ← e, lowered-twice p, ← f)
+    abbrev at : Span
+    at = getD (names .spans) i (record { from = 0; to = 0 })
+
+    next : drop i (take (names .count) (names .spans)) ≡ at ∷ drop (i + 1) (take (names .count) (names .spans))
+    next =
+        drop-step (record { from = 0; to = 0 }) (take (names .count) (names .spans)) i (i + 1)
+        (rw (length-take (names .count) (names .spans), inv .0) (omega arith)) refl
+        ∙ rw (getD-take (names .count) (names .spans) i (record { from = 0; to = 0 }) h)
+
+    abbrev left : List Span
+    left = drop (i + 1) (take (names .count) (names .spans))
+
+    step : commonNames book names others ≡ pushedCommon book others (cond b (pushed kept at) kept) left
+    step =
+        let told : isAmong book others at ≡ b = ap (among book others) (sym e) ∙ sym f in
+        inv .1 ∙ ap (pushedCommon book others kept) next ∙ ap (λ t. pushedCommon book others (cond t (pushed kept at) kept) left) told
 
     pub kept-passed : b ≡ false → after ≡ kept → Kept book others names after (i + 1)
-    kept-passed g q = rw q (record {
-      full = inv .full;
-      kept-full = inv .kept-full;
-      few = omega (arith, inv .few);
-      so-far = rw (next, g) at (inv .so-far);
-    })
+    kept-passed g q = (inv .0, step ∙ rw (q, g))
 
-    pub kept-one :
-        b ≡ true → (r : Names) → r ≡ pushed kept (getD (names .spans) i (record { from = 0; to = 0 })) → after ≡ r →
-        Kept book others names after (i + 1)
-    kept-one g r o q = let at : Span = getD (names .spans) i (record { from = 0; to = 0 }) in rw (q, o) (record {
-      full = inv .full;
-      kept-full = pushed-full kept at (inv .kept-full);
-      few = omega (arith, inv .few, pushed-count kept at (inv .kept-full));
-      so-far = rw (pushed-names kept at (inv .kept-full) book (omega (arith, inv .few)), ← e, append-assoc) (rw (next, g) at (inv .so-far));
-    })
+    pub kept-one : b ≡ true → (r : Names) → r ≡ pushed kept at → after ≡ r → Kept book others names after (i + 1)
+    kept-one g r o q = (inv .0, step ∙ rw (q, o, g))

@@ -1,11 +1,12 @@
 -- Definitions for code that keeps names as places: the texts that a place and a list of places stand for.
 use Prim.Native.Nat.{ℕ, suc, _-_}
-use mathlib.Core.Bool.{cond}
-use mathlib.Core.List.{List, [], map}
+use mathlib.Core.Bool.{Bool, cond}
+use mathlib.Core.List.{List, [], _∷_, map}
 use lib.Dec.{leb, ltb}
-use lib.ListN.{length, take, drop, set}
+use lib.ListN.{length, take, drop, set, replicate}
 use Rattle.limits.specs.Limits.{maxRecords}
-use Rattle.octets.specs.Octets.{lowered}
+use Rattle.octets.specs.Lists.{any}
+use Rattle.octets.specs.Octets.{same, lowered}
 use Rattle.name_list.specs.declared.Span.{Span}
 use Rattle.name_list.specs.declared.Names.{Names}
 
@@ -20,3 +21,19 @@ namesIn book ns = map (λ x. lowered (part book x)) (take (ns .count) (ns .spans
 -- one more behind them, where there is a place for it
 unfoldable pub pushed : Names → Span → Names
 pushed ns x = cond (ltb (ns .count) maxRecords) (record { count = suc (ns .count); spans = set (ns .spans) (ns .count) x }) ns
+
+-- none yet
+abbrev pub noNames : Names
+noNames = record { count = 0; spans = replicate maxRecords (record { from = 0; to = 0 }) }
+
+-- the text at a place is among the names, letter case ignored
+abbrev pub isAmong : List ℕ → Names → Span → Bool
+isAmong book ns x = any (same (lowered (part book x))) (namesIn book ns)
+
+-- those of the places whose texts are among others too, one behind the other
+abbrev pub pushedCommon : List ℕ → Names → Names → List Span → Names
+pushedCommon book others ns [] = ns
+pushedCommon book others ns (x ∷ xs) = pushedCommon book others (cond (isAmong book others x) (pushed ns x) ns) xs
+
+unfoldable pub commonNames : List ℕ → Names → Names → Names
+commonNames book ns others = pushedCommon book others noNames (take (ns .count) (ns .spans))

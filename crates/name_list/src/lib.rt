@@ -2,9 +2,9 @@
 use limits::MAX_RECORDS;
 ghost use mathlib.Core.Path.{_≡_};
 ghost use lib.ListN.{length};
-ghost use Rattle.octets.specs.Lists.{any, select};
+ghost use Rattle.octets.specs.Lists.{any};
 ghost use Rattle.octets.specs.Octets.{same, lowered};
-ghost use Rattle.name_list.specs.Places.{part, namesIn, pushed};
+ghost use Rattle.name_list.specs.Places.{part, namesIn, pushed, commonNames};
 
 // A text in a slice: where it begins and ends.
 pub struct Span {
@@ -86,7 +86,7 @@ pub fn holds(book: &[u8], names: Names, name: &[u8]) -> bool
 
 // Those of the names that are among others too.
 pub fn common(book: &[u8], names: Names, others: Names) -> Names
-    ensures { λ r. ⌜ namesIn (now (book .entry)) r ≡ select (λ m. any (same (lowered m)) (namesIn (now (book .entry)) others)) (namesIn (now (book .entry)) names) ⌝ }
+    ensures { λ r. ⌜ r ≡ commonNames (now (book .entry)) names others ⌝ }
 {
     let mut kept = Names::EMPTY;
     let mut i: usize = 0;

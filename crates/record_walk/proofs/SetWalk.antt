@@ -12,9 +12,9 @@ use Rattle.record_walk.specs.declared.Walk.{Walk}
 use Rattle.record_walk.specs.declared.Seen.{Seen as SeenAt}
 use Rattle.record_walk.specs.declared.Step.{Step}
 use Rattle.record_walk.specs.declared.Step.the-variants.{Seen, End}
-use Rattle.record_walk.specs.Walks.{nextOwned}
+use Rattle.record_walk.specs.Walks.{nextOwned, seenData}
 use Rattle.record_walk.proofs.WalkSteps.{remaining, whole-set}
-use Rattle.record_walk.proofs.WalkLaws.{dataOf, Sees, walk-ends, seen-there}
+use Rattle.record_walk.proofs.WalkLaws.{Sees, walk-ends, seen-there}
 
 module _ {A : Type 0} (answer : List CaaRecord → A) (p : CaaRecord → Bool) where
   -- those that the walk has passed do not change the answer
@@ -33,7 +33,7 @@ module _ {A : Type 0} (answer : List CaaRecord → A) (p : CaaRecord → Bool) w
     abbrev pub Tested : (List ℕ → List ℕ → Walk → SeenAt → Bool → Type 0) → Type 0
     Tested Follows =
         (book x : List ℕ) (w : Walk) → Left book x w → (o : Step) → o ≡ nextOwned book x w → (c : SeenAt) → o ≡ Seen c →
-        (t : Bool) → t ≡ q (dataOf book c) → Follows book x w c t
+        (t : Bool) → t ≡ q (seenData book c) → Follows book x w c t
 
     abbrev pub Passed : Type 0
     Passed = Tested (λ book x w c t. t ≡ false → Left book x (c .walk))

@@ -19,19 +19,15 @@ use Rattle.record_walk.specs.declared.Walk.{Walk}
 use Rattle.record_walk.specs.declared.Seen.{Seen as SeenAt}
 use Rattle.record_walk.specs.declared.Step.{Step}
 use Rattle.record_walk.specs.declared.Step.the-variants.{Seen, End}
-use Rattle.record_walk.specs.Walks.{nextOwned}
+use Rattle.record_walk.specs.Walks.{nextOwned, seenData}
 use Rattle.record_walk.proofs.WalkSteps.{remaining, isOwned, walk-over, walk-broken, next-step, remaining-on, remaining-here}
-
--- the data of the record that was seen
-abbrev pub dataOf : List ℕ → SeenAt → List ℕ
-dataOf book c = take (c .walk .at - c .rdata) (drop (c .rdata) book)
 
 module _ (book x : List ℕ) where
   -- the record cr comes first of those left, and c tells of it
   pub record Sees (cs : List CaaRecord) (c : SeenAt) (cr : CaaRecord) : Type 0 where
     pub left : cs ≡ cr ∷ remaining book x (c .walk)
     pub number : c .rr .0 ≡ cr .number
-    pub holds : property (take (c .walk .at - c .rdata) (drop (c .rdata) book)) ≡ some (cr .property)
+    pub holds : property (seenData book c) ≡ some (cr .property)
     pub order : c .rdata ≤ c .walk .at
     pub inside : c .walk .at ≤ length book
 

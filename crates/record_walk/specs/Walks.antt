@@ -2,13 +2,14 @@
 use Prim.Native.Nat.{ℕ, suc, _+_, _-_}
 use mathlib.Core.Bool.{cond, _&&_}
 use mathlib.Core.List.{List, [], _∷_}
-use lib.ListN.{length, drop}
+use lib.ListN.{length, take, drop}
 use Rattle.limits.specs.Limits.{maxRecords}
 use Rattle.octets.specs.Octets.{equalIgnoringCase}
 use Rattle.name.specs.Names.{wire}
 use Rattle.record.specs.Records.{Record, wireRecord, isCaa}
 use Rattle.relevant.specs.Places.{readable}
 use Rattle.record_walk.specs.declared.Walk.{Walk}
+use Rattle.record_walk.specs.declared.Seen.{Seen as SeenAt}
 use Rattle.record_walk.specs.declared.Step.{Step}
 use Rattle.record_walk.specs.declared.Step.the-variants.{Seen, End}
 
@@ -26,3 +27,7 @@ nextAmong x at k (r ∷ rs) =
 
 unfoldable pub nextOwned : List ℕ → List ℕ → Walk → Step
 nextOwned book x w = nextAmong x (w .at) (w .number) (readable (maxRecords - w .number) (drop (w .at) book))
+
+-- the data of the record that was seen
+abbrev pub seenData : List ℕ → SeenAt → List ℕ
+seenData book c = take (c .walk .at - c .rdata) (drop (c .rdata) book)

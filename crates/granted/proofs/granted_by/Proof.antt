@@ -1,10 +1,11 @@
--- `granted_by` meets its contract. The loop's invariant: the names so far, joined by those that the records left grant, are those granted.
+-- `granted_by` meets its contract. The loop's invariant: what the records left grant, pushed behind the names so far, is the answer.
 use lib.ListN.{length}
 use borrow.Author.Needs.{needs}
 use Rattle.limits.specs.Limits.{maxRecords}
 use Rattle.record_walk.proofs.WalkSteps.{remaining}
 use Rattle.record_walk.proofs.WalkLaws.{seen-order, seen-inside, fewer-left}
-use Rattle.granted.proofs.GrantedWalk.{Collected, none-collected, all-collected, first-fits, end-fits, new, known, nobody, untagged}
+use Rattle.granted.proofs.SeenGrants.{first-fits, end-fits}
+use Rattle.granted.proofs.GrantedWalk.{Collected, none-collected, all-collected, new, known, nobody, untagged}
 use Rattle.granted.proofs.granted_by.Statement.{statement}
 use Rattle.granted.proofs.granted_by.Tie as tie
 

@@ -1,4 +1,4 @@
--- `common` meets its contract. The loop's invariant: the names kept, and behind them those of the names left that are common, are the answer.
+-- `common` meets its contract. The loop's invariant: those of the names left that are common, pushed behind the names kept, are the answer.
 use Prim.Native.Nat.{_-_}
 use native.Mathlib.Omega.{arith}
 use mathlib.Core.Logic.{⊎-elim}
@@ -21,7 +21,7 @@ loop-holds c = kept-none _ _ _ (spans-full (c .before .args .t2) _ (c .before .g
 
 returns : tie.Need-returns Inv-loop μ-loop
 unfolding maxRecords
-returns c = kept-done _ _ _ _ _ (c .before .before .loop .inv) (omega arith)
+returns c = kept-done _ _ _ _ (c .before .before .loop .i) (c .before .before .loop .inv) (omega arith)
 
 mul-at : tie.Need-mul-at Inv-loop μ-loop
 mul-at c = search needs
@@ -51,7 +51,7 @@ loop-again c = ⊎-elim (λ w. search (needs, kept-one)) (λ w. search (needs, k
 
 returns-2 : tie.Need-returns-2 Inv-loop μ-loop
 unfolding maxRecords
-returns-2 c = kept-done _ _ _ _ _ (c .before .loop .inv) (omega arith)
+returns-2 c = kept-done _ _ _ _ (c .before .loop .i) (c .before .loop .inv) (omega arith)
 
 pub common-spec : {M : Type 1} → statement M
 common-spec =
