@@ -112,6 +112,23 @@ module _ (book x : List ℕ) (wild : Bool) where
           let (cr, s) = seen-there book x w (Seen c) f c refl in
           step w (Seen c) f c refl ns kept n (rest (c .walk) (omega (arith, number-grows book x w (Seen c) f c refl))) cr s _ refl
 
+pushed-once-full :
+    (book : List ℕ) (ns : Names) (ys : List Span) → length (ns .spans) ≡ maxRecords → length (pushedOnce book ns ys .spans) ≡ maxRecords
+pushed-once-full book ns [] full = full
+pushed-once-full book ns (y ∷ ys) full = go (isAmong book ns y) (λ ms. pushed-once-full book ms ys)
+  where
+    go :
+        (t : Bool) → ((ms : Names) → length (ms .spans) ≡ maxRecords → length (pushedOnce book ms ys .spans) ≡ maxRecords) →
+        length (pushedOnce book (cond t ns (pushed ns y)) ys .spans) ≡ maxRecords
+    go true rest = rest ns full
+    go false rest = rest (pushed ns y) (pushed-full ns y full)
+
+pub granted-full : (book x : List ℕ) (wild : Bool) → length (grantedNames book x wild .spans) ≡ maxRecords
+unfolding grantedNames
+granted-full book x wild =
+    pushed-once-full book noNames (toPush book x wild (seenFrom maxRecords book x (record { at = 0; number = 0 })))
+    (length-replicate {A = Span} maxRecords (record { from = 0; to = 0 }))
+
 pub granted-by-place : Granted-by-place
 unfolding grantedNames grantedBy namesIn
 granted-by-place book x wild =

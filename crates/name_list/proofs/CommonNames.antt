@@ -53,6 +53,21 @@ module _ (book : List ℕ) (others : Names) where
           ∙ rw (name-pushed ns x room book, lowered-twice (part book x), e) (append-assoc (namesIn book ns) (lowered (part book x) ∷ []) _)
       go false e rest = rest ns (room-passed ns x room) ∙ rw (lowered-twice (part book x), e)
 
+  kept-full : (ns : Names) (xs : List Span) → length (ns .spans) ≡ maxRecords → length (pushedCommon book others ns xs .spans) ≡ maxRecords
+  kept-full ns [] full = full
+  kept-full ns (x ∷ xs) full = go (isAmong book others x) (λ ms. kept-full ms xs)
+    where
+      go :
+          (t : Bool) → ((ms : Names) → length (ms .spans) ≡ maxRecords → length (pushedCommon book others ms xs .spans) ≡ maxRecords) →
+          length (pushedCommon book others (cond t (pushed ns x) ns) xs .spans) ≡ maxRecords
+      go true rest = rest (pushed ns x) (pushed-full ns x full)
+      go false rest = rest ns full
+
+pub common-full : (book : List ℕ) (ns others : Names) → length (commonNames book ns others .spans) ≡ maxRecords
+unfolding commonNames
+common-full book ns others =
+    kept-full book others noNames (take (ns .count) (ns .spans)) (length-replicate {A = Span} maxRecords (record { from = 0; to = 0 }))
+
 pub names-in-common : Names-in-common
 unfolding commonNames namesIn
 names-in-common book ns others full =

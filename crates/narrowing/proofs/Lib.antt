@@ -1,1 +1,2 @@
-pub mod NarrowWays
+mod NarrowWays
+pub mod ByPlace

@@ -1,14 +1,13 @@
 -- The issuers for the names so far, kept as places: which of the rule's values they stand for, and how one more name narrows them.
 use Prim.Native.Nat.{ℕ}
-use mathlib.Core.Path.{_≡_}
-use mathlib.Core.Bool.{Bool, cond, _&&_, Bool·beq}
+use mathlib.Core.Bool.{Bool, true, cond, _&&_, Bool·beq}
 use mathlib.Core.List.{List}
 use Rattle.octets.specs.Octets.{equalIgnoringCase}
 use Rattle.rule.specs.IssuerLists.{Issuers, anyone, listed}
-use Rattle.name_list.specs.Places.{part, namesIn}
-use Rattle.granted.specs.Places.{grantedBy}
+use Rattle.name_list.specs.Places.{part, namesIn, commonNames}
+use Rattle.name_list.specs.declared.Names.{Names}
+use Rattle.granted.specs.Places.{grantedNames}
 use Rattle.restriction.specs.declared.Governing.{Governing}
-use Rattle.narrowing.specs.Narrowing.{narrowed}
 use Rattle.narrowing.specs.declared.SoFar.{SoFar}
 
 -- who may sign for the names so far
@@ -19,13 +18,17 @@ issuersIn book s = cond (s .restricted) (listed (namesIn book (s .names))) anyon
 unfoldable pub governedAlike : List ℕ → SoFar → Governing → Bool
 governedAlike request s g = s .restricted && (Bool·beq (s .wild) (g .wild) && equalIgnoringCase (part request (s .owner)) (part request (g .owner)))
 
+-- those that the records grant
+abbrev pub grantedTo : List ℕ → List ℕ → Governing → Names
+grantedTo request book g = grantedNames book (part request (g .owner)) (g .wild)
+
 -- narrowed by the records that govern one more name, which now govern last; as before where these did so already
-pub record NarrowedBy (request book : List ℕ) (before : SoFar) (by : Governing) (after : SoFar) : Type 0 where
-  pub names :
-      issuersIn book after
-      ≡ cond
-      (governedAlike request before by)
-      (issuersIn book before)
-      (narrowed (issuersIn book before) (listed (grantedBy book (part request (by .owner)) (by .wild))))
-  pub owner : after .owner ≡ cond (governedAlike request before by) (before .owner) (by .owner)
-  pub wild : after .wild ≡ cond (governedAlike request before by) (before .wild) (by .wild)
+unfoldable pub narrowedTo : List ℕ → List ℕ → SoFar → Governing → SoFar
+narrowedTo request book s g =
+    cond (governedAlike request s g) s
+    (record {
+      restricted = true;
+      names = cond (s .restricted) (commonNames book (s .names) (grantedTo request book g)) (grantedTo request book g);
+      owner = g .owner;
+      wild = g .wild;
+    })

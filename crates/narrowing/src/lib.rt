@@ -2,7 +2,8 @@
 use name_list::Names;
 use name_list::Span;
 use restriction::Governing;
-ghost use Rattle.narrowing.specs.Places.{NarrowedBy};
+ghost use mathlib.Core.Path.{_≡_};
+ghost use Rattle.narrowing.specs.Places.{narrowedTo};
 
 // The issuers that may sign for the names so far: anyone, or, once a name was restricted, those that all restricted names
 // grant. With the records that governed the last of these.
@@ -15,7 +16,7 @@ pub struct SoFar {
 
 // Narrowed by one more name. Names that follow each other are often governed by the same records.
 pub fn narrow(request: &[u8], book: &[u8], before: SoFar, by: Governing) -> SoFar
-    ensures { λ r. ⌜ NarrowedBy (now (request .entry)) (now (book .entry)) before by r ⌝ }
+    ensures { λ r. ⌜ r ≡ narrowedTo (now (request .entry)) (now (book .entry)) before by ⌝ }
 {
     let owner = by.owner;
     let wild = by.wild;

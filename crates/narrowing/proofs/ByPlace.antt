@@ -1,0 +1,68 @@
+-- Places narrowed stand for issuers narrowed, and keep a place for each record.
+use Prim.Native.Nat.{ℕ}
+use mathlib.Core.Path.{_≡_, refl, ap, _∙_}
+use mathlib.Core.Bool.{Bool, true, false, cond}
+use mathlib.Core.List.{List}
+use lib.ListN.{length}
+use Rattle.limits.specs.Limits.{maxRecords}
+use Rattle.rule.specs.IssuerLists.{anyone, listed}
+use Rattle.name_list.specs.declared.Names.{Names}
+use Rattle.granted.specs.Places.{grantedBy}
+use Rattle.narrowing.specs.Narrowing.{narrowed}
+use Rattle.name_list.specs.Places.{part, namesIn, commonNames}
+use Rattle.name_list.proofs.CommonNames.{names-in-common, common-full}
+use Rattle.granted.proofs.GrantedByPlace.{granted-by-place, granted-full}
+use Rattle.restriction.specs.declared.Governing.{Governing}
+use Rattle.narrowing.specs.declared.SoFar.{SoFar}
+use Rattle.narrowing.specs.Places.{issuersIn, governedAlike, grantedTo, narrowedTo}
+use Rattle.narrowing.specs.Theorems.{NarrowedBy, Narrowed-by-place}
+
+module _ (request book : List ℕ) (s : SoFar) (g : Governing) (full : length (s .names .spans) ≡ maxRecords) where
+  -- by those that the records grant, alone or with the names so far
+  more :
+      listed (namesIn book (cond (s .restricted) (commonNames book (s .names) (grantedTo request book g)) (grantedTo request book g)))
+      ≡ narrowed (issuersIn book s) (listed (grantedBy book (part request (g .owner)) (g .wild)))
+  unfolding issuersIn
+  more = go (s .restricted)
+    where
+      granted : namesIn book (grantedTo request book g) ≡ grantedBy book (part request (g .owner)) (g .wild)
+      granted = granted-by-place book (part request (g .owner)) (g .wild)
+
+      go :
+          (t : Bool) →
+          listed (namesIn book (cond t (commonNames book (s .names) (grantedTo request book g)) (grantedTo request book g)))
+          ≡ narrowed (cond t (listed (namesIn book (s .names))) anyone) (listed (grantedBy book (part request (g .owner)) (g .wild)))
+      go true = ap listed (names-in-common book (s .names) (grantedTo request book g) full) ∙ rw granted
+      go false = ap listed granted
+
+  pub narrowed-full : length (narrowedTo request book s g .names .spans) ≡ maxRecords
+  unfolding narrowedTo
+  narrowed-full = go (governedAlike request s g) (s .restricted)
+    where
+      names : Bool → Names
+      names u = cond u (commonNames book (s .names) (grantedTo request book g)) (grantedTo request book g)
+
+      go :
+          (t u : Bool) →
+          length (cond t s (record { restricted = true; names = names u; owner = g .owner; wild = g .wild }) .names .spans) ≡ maxRecords
+      go true u = full
+      go false true = common-full book (s .names) (grantedTo request book g)
+      go false false = granted-full book (part request (g .owner)) (g .wild)
+
+pub narrowed-by-place : Narrowed-by-place
+unfolding narrowedTo issuersIn
+narrowed-by-place request book s g full = go (governedAlike request s g) refl
+  where
+    after : Bool → SoFar
+    after t =
+        cond t s
+        (record {
+          restricted = true;
+          names = cond (s .restricted) (commonNames book (s .names) (grantedTo request book g)) (grantedTo request book g);
+          owner = g .owner;
+          wild = g .wild;
+        })
+
+    go : (t : Bool) → governedAlike request s g ≡ t → NarrowedBy request book s g (after t)
+    go true e = record { names = rw e; owner = rw e; wild = rw e }
+    go false e = record { names = rw e (more request book s g full); owner = rw e; wild = rw e }
