@@ -1,16 +1,16 @@
 -- The names kept of the records that the walk sees are those that these records grant.
 use Prim.Native.Nat.{ℕ, zero, suc, _+_, _≤_}
 use native.Mathlib.Omega.{arith}
-use mathlib.Core.Path.{_≡_, refl, sym, ap, _∙_}
+use mathlib.Core.Path.{_≡_, refl, sym, _∙_}
 use mathlib.Core.Bool.{Bool, true, false, cond}
 use mathlib.Core.List.{List, [], _∷_, _++_, map}
-use mathlib.Core.Option.{Option, none, some}
+use mathlib.Core.Option.{none}
 use lib.ListN.{length, length-replicate}
 use Rattle.limits.specs.Limits.{maxRecords}
-use Rattle.octets.specs.Lists.{any, consIf, select, flatten}
-use Rattle.octets.specs.Octets.{same, lowered}
+use Rattle.octets.specs.Lists.{select, flatten}
+use Rattle.octets.specs.Octets.{lowered}
 use Rattle.rule.specs.RelevantSet.{CaaRecord}
-use Rattle.rule.specs.Authorizations.{grantee, consSome, grantees}
+use Rattle.rule.specs.Authorizations.{consSome, grantees}
 use Rattle.relevant.specs.Places.{setOf, hasTag}
 use Rattle.record_walk.specs.declared.Walk.{Walk}
 use Rattle.record_walk.specs.declared.Seen.{Seen as SeenAt}
@@ -22,8 +22,7 @@ use Rattle.record_walk.proofs.WalkLaws.{walk-ends, Sees, seen-there}
 use Rattle.record_walk.proofs.WalkNumbers.{number-grows, number-small}
 use Rattle.property_predicates.specs.DataTests.{dataHasTag}
 use Rattle.property_predicates.proofs.TestLaws.{tells-tag}
-use Rattle.value_reader.specs.declared.NameAt.{NameAt}
-use Rattle.grantee_reader.specs.Places.{granteeOfData, nameAt, granteeAt}
+use Rattle.grantee_reader.specs.Places.{granteeOfData, granteeAt}
 use Rattle.grantee_reader.specs.declared.GranteeRead.{GranteeRead}
 use Rattle.grantee_reader.specs.declared.GranteeRead.the-variants.{At, Nobody}
 use Rattle.grantee_reader.proofs.Grantees.{grantee-of-data, nobody-granted, somebody-granted}

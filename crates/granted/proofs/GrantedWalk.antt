@@ -3,7 +3,7 @@ use Prim.Native.Nat.{ℕ, _+_, _≤_}
 use native.Mathlib.Omega.{arith}
 use mathlib.Core.Path.{_≡_, refl, sym, ap, _∙_}
 use mathlib.Core.Bool.{Bool, true, false, cond, not}
-use mathlib.Core.List.{List, [], _∷_, _++_, map}
+use mathlib.Core.List.{List, _++_, map}
 use lib.ListN.{replicate}
 use borrow.Author.Tests.{not-true, not-false}
 use Rattle.limits.specs.Limits.{maxRecords}
@@ -22,7 +22,7 @@ use Rattle.grantee_reader.specs.declared.GranteeRead.the-variants.{At, Nobody}
 use Rattle.name_list.specs.declared.Span.{Span}
 use Rattle.name_list.specs.declared.Names.{Names}
 use Rattle.name_list.specs.Places.{part, namesIn, pushed, isAmong}
-use Rattle.granted.specs.Places.{seenFrom, grantFrom, grantOf, pushedOnce, grantedNames}
+use Rattle.granted.specs.Places.{seenFrom, grantOf, pushedOnce, grantedNames}
 use Rattle.granted.proofs.SeenGrants.{seen-end, seen-first}
 
 module _ (book x : List ℕ) (wild : Bool) where

@@ -19,7 +19,7 @@ use Rattle.rule.proofs.PermittedLaws.{permitted-issuers}
 use Rattle.name_list.specs.Places.{namesIn}
 use Rattle.permitted.specs.declared.Answer.the-variants.{Refused as IsRefused, Anyone as IsAnyone, Listed as IsListed}
 use Rattle.permitted.specs.declared.Permitted.{Permitted}
-use Rattle.permitted.specs.Found.{findIssuers, foundIn}
+use Rattle.permitted.specs.Places.{permittedBy}
 use Rattle.permitted.proofs.FoundLaws.{Permits, found-refused, found-anyone, found-listed}
 use Rattle.entries.specs.Entries.{entriesIn}
 use Rattle.entries.proofs.ShortNames.{entries-short}
@@ -31,7 +31,7 @@ pub halves :
 halves request book buffer e = (sym (ap (λ (l : Listing). l .answer) e), sym (ap (λ (l : Listing). l .buffer) e))
 
 -- p is the answer of issuers_of
-module _ (request book buffer : List ℕ) (p : Permitted) (e : foundIn book p ≡ findIssuers request book) where
+module _ (request book buffer : List ℕ) (p : Permitted) (e : p ≡ permittedBy request book) where
   pub call-refused : (r : Refusal) → p .answer ≡ IsRefused r → listIssuers request book buffer ≡ record { answer = Refused r; buffer = buffer }
   unfolding listIssuers
   call-refused r g = rw (found-refused request book p e r g (roomRefusal (issuers (authorizations request book)) buffer ∷ []))

@@ -1,19 +1,19 @@
 -- The names that two lists have in common, by the places pushed one by one.
-use Prim.Native.Nat.{ℕ, suc, _+_, _≤_, _<_}
+use Prim.Native.Nat.{ℕ, suc, _+_, _≤_}
 use native.Mathlib.Omega.{arith}
-use mathlib.Core.Path.{_≡_, refl, sym, ap, _∙_}
+use mathlib.Core.Path.{_≡_, refl, sym, _∙_}
 use mathlib.Core.Bool.{Bool, true, false, cond}
 use mathlib.Core.List.{List, [], _∷_, _++_, map, append-assoc, append-nil}
 use lib.ListN.{length, take, length-take, length-replicate}
 use Rattle.limits.specs.Limits.{maxRecords}
-use Rattle.octets.specs.Lists.{any, consIf, select}
+use Rattle.octets.specs.Lists.{any, select}
 use Rattle.octets.specs.Octets.{same, lowered}
 use Rattle.octets.proofs.SmallLetters.{lowered-twice}
 use Rattle.name_list.specs.Places.{part, namesIn, pushed, noNames, isAmong, pushedCommon, commonNames}
 use Rattle.name_list.specs.Theorems.{Names-in-common}
 use Rattle.name_list.specs.declared.Span.{Span}
 use Rattle.name_list.specs.declared.Names.{Names}
-use Rattle.name_list.proofs.KeptNames.{names-none, pushed-full, pushed-count, pushed-names}
+use Rattle.name_list.proofs.KeptNames.{pushed-full, pushed-count, pushed-names}
 
 -- there is a place for each of so many names more
 pub record Room (ns : Names) (k : ℕ) : Type 0 where

@@ -35,20 +35,6 @@ module _ (request book : List ℕ) (s : SoFar) (g : Governing) (full : length (s
       go true = ap listed (names-in-common book (s .names) (grantedTo request book g) full) ∙ rw granted
       go false = ap listed granted
 
-  pub narrowed-full : length (narrowedTo request book s g .names .spans) ≡ maxRecords
-  unfolding narrowedTo
-  narrowed-full = go (governedAlike request s g) (s .restricted)
-    where
-      names : Bool → Names
-      names u = cond u (commonNames book (s .names) (grantedTo request book g)) (grantedTo request book g)
-
-      go :
-          (t u : Bool) →
-          length (cond t s (record { restricted = true; names = names u; owner = g .owner; wild = g .wild }) .names .spans) ≡ maxRecords
-      go true u = full
-      go false true = common-full book (s .names) (grantedTo request book g)
-      go false false = granted-full book (part request (g .owner)) (g .wild)
-
 pub narrowed-by-place : Narrowed-by-place
 unfolding narrowedTo issuersIn
 narrowed-by-place request book s g full = go (governedAlike request s g) refl
@@ -66,3 +52,18 @@ narrowed-by-place request book s g full = go (governedAlike request s g) refl
     go : (t : Bool) → governedAlike request s g ≡ t → NarrowedBy request book s g (after t)
     go true e = record { names = rw e; owner = rw e; wild = rw e }
     go false e = record { names = rw e (more request book s g full); owner = rw e; wild = rw e }
+
+module _ (request book : List ℕ) (s : SoFar) (g : Governing) (full : length (s .names .spans) ≡ maxRecords) where
+  pub narrowed-full : length (narrowedTo request book s g .names .spans) ≡ maxRecords
+  unfolding narrowedTo
+  narrowed-full = go (governedAlike request s g) (s .restricted)
+    where
+      names : Bool → Names
+      names u = cond u (commonNames book (s .names) (grantedTo request book g)) (grantedTo request book g)
+
+      go :
+          (t u : Bool) →
+          length (cond t s (record { restricted = true; names = names u; owner = g .owner; wild = g .wild }) .names .spans) ≡ maxRecords
+      go true u = full
+      go false true = common-full book (s .names) (grantedTo request book g)
+      go false false = granted-full book (part request (g .owner)) (g .wild)

@@ -1,49 +1,20 @@
--- What is found, by the checks of the request and of the book: for each way out of issuers_of, and what a caller may take from it.
+-- What a caller may take from who was found to be permitted.
 use Prim.Native.Nat.{ℕ}
 use native.Mathlib.Omega.{arith}
-use mathlib.Core.Path.{_≡_, refl}
+use mathlib.Core.Path.{_≡_, refl, ap, _∙_}
 use mathlib.Core.List.{List, [], _∷_}
 use mathlib.Core.Option.{Option, none, some}
-use Rattle.octets.specs.Lists.{All}
-use Rattle.octets.proofs.ListLaws.{All-head, All-tail}
 use Rattle.refusal.specs.declared.Refusal.{Refusal}
-use Rattle.refusal.specs.declared.Check.{Check}
-use Rattle.refusal.specs.declared.Check.the-variants.{Accepted, Refused as CheckRefused}
-use Rattle.refusal.specs.Checks.{checked}
-use Rattle.refusal.proofs.Checked as checks
 use Rattle.request.specs.Request.{requestRefusal}
 use Rattle.record.specs.Records.{bookRefusal}
 use Rattle.rule.specs.IssuerLists.{Issuers, anyone, listed, issuers}
 use Rattle.rule.specs.Calls.{authorizations, firstRefusal}
-use Rattle.input_checks.proofs.CheckLaws.{none-refuses}
 use Rattle.name_list.specs.Places.{namesIn}
 use Rattle.permitted.specs.declared.Answer.the-variants.{Refused, Anyone, Listed}
 use Rattle.permitted.specs.declared.Permitted.{Permitted}
+use Rattle.permitted.specs.Places.{permittedBy}
+use Rattle.permitted.proofs.ByPlace.{permitted-by-place}
 use Rattle.permitted.specs.Found.{refused, permitted, permittedUnless, findIssuers, foundIn}
-
-module _ (request book : List ℕ) where
-  pub both-accepted :
-      requestRefusal request ≡ none → bookRefusal book ≡ none → {i : Issuers} → i ≡ issuers (authorizations request book) →
-      permitted i ≡ findIssuers request book
-  unfolding findIssuers
-  both-accepted r b e = rw (r, b, e)
-
-  module _ (c : Check) (f : c ≡ checked (firstRefusal (requestRefusal request ∷ bookRefusal book ∷ []))) where
-    pub input-refused : (r : Refusal) → c ≡ CheckRefused r → refused r ≡ findIssuers request book
-    unfolding findIssuers
-    input-refused r g = rw (checks.refused (firstRefusal (requestRefusal request ∷ bookRefusal book ∷ [])) f r g)
-
-    module _ (g : c ≡ Accepted) where
-      none-refused : All (λ o. o ≡ none) (requestRefusal request ∷ bookRefusal book ∷ [])
-      none-refused =
-          none-refuses (requestRefusal request ∷ bookRefusal book ∷ [])
-          (checks.accepted (firstRefusal (requestRefusal request ∷ bookRefusal book ∷ [])) f g)
-
-      pub request-accepted : requestRefusal request ≡ none
-      request-accepted = All-head none-refused
-
-      pub book-accepted : bookRefusal book ≡ none
-      book-accepted = All-head (All-tail none-refused)
 
 -- both are accepted, and these may sign
 pub record Permits (request book : List ℕ) (i : Issuers) : Type 0 where
@@ -52,12 +23,15 @@ pub record Permits (request book : List ℕ) (i : Issuers) : Type 0 where
   pub answer : issuers (authorizations request book) ≡ i
 
 -- p is the answer of issuers_of
-module _ (request book : List ℕ) (p : Permitted) (e : foundIn book p ≡ findIssuers request book) where
+module _ (request book : List ℕ) (p : Permitted) (told : p ≡ permittedBy request book) where
+  found : foundIn book p ≡ findIssuers request book
+  found = ap (foundIn book) told ∙ permitted-by-place request book
+
   pub found-refused :
       (r : Refusal) → p .answer ≡ Refused r → (more : List (Option Refusal)) →
       firstRefusal (requestRefusal request ∷ bookRefusal book ∷ more) ≡ some r
   unfolding findIssuers
-  found-refused r g more = go (requestRefusal request) (bookRefusal book) (rw g at e)
+  found-refused r g more = go (requestRefusal request) (bookRefusal book) (rw g at found)
     where
       go :
           (c d : Option Refusal) → refused r ≡ permittedUnless (firstRefusal (c ∷ d ∷ [])) (issuers (authorizations request book)) →
@@ -78,7 +52,7 @@ module _ (request book : List ℕ) (p : Permitted) (e : foundIn book p ≡ findI
       go (some q) d r b h = let z : _≡_ {A = ℕ} 0 1 = cc in absurd (omega arith)
 
   pub found-anyone : p .answer ≡ Anyone → Permits request book anyone
-  found-anyone g = permits anyone (rw g at e)
+  found-anyone g = permits anyone (rw g at found)
 
   pub found-listed : p .answer ≡ Listed → Permits request book (listed (namesIn book (p .names)))
-  found-listed g = permits (listed (namesIn book (p .names))) (rw g at e)
+  found-listed g = permits (listed (namesIn book (p .names))) (rw g at found)

@@ -1,11 +1,11 @@
--- The walk of issuers_of over the names of an accepted request: the names left narrow the issuers so far to the answer.
+-- The names of an accepted request, one after the other: those left narrow the issuers so far to the answer.
 use Prim.Native.Nat.{ℕ, _≤_, _<_}
 use mathlib.Core.Path.{_≡_, refl, sym, ap, _∙_}
-use mathlib.Core.Bool.{Bool, true, false, not, false≢true}
+use mathlib.Core.Bool.{Bool, true, false, cond, false≢true}
 use mathlib.Core.List.{List, [], _∷_, map}
 use mathlib.Core.Option.{none}
-use lib.ListN.{length}
-use borrow.Author.Tests.{not-true, not-false}
+use lib.ListN.{length, length-replicate}
+use Rattle.limits.specs.Limits.{maxRecords}
 use Rattle.name.specs.Names.{Name, wire}
 use Rattle.name.specs.Theorems.{GoodName}
 use Rattle.request_reader.specs.declared.Requested.{Requested}
@@ -30,14 +30,15 @@ use Rattle.restriction.specs.declared.Governing.{Governing}
 use Rattle.restriction.specs.declared.Restriction.{Restriction}
 use Rattle.restriction.specs.declared.Restriction.the-variants.{Open, Forbidden, Governed}
 use Rattle.narrowing.specs.declared.SoFar.{SoFar}
-use Rattle.name_list.specs.declared.Names.{Names}
-use Rattle.name_list.specs.Places.{part, namesIn}
+use Rattle.name_list.specs.Places.{part, namesIn, noNames}
 use Rattle.restriction.specs.Places.{restrictionAt, restrictedTo}
 use Rattle.restriction.proofs.ByPlace.{restriction-by-place}
-use Rattle.narrowing.specs.Places.{issuersIn, NarrowedBy}
-use Rattle.permitted.specs.Found.{permitted, findIssuers}
+use Rattle.narrowing.specs.Places.{issuersIn, narrowedTo}
+use Rattle.narrowing.proofs.ByPlace.{narrowed-full, narrowed-by-place}
+use Rattle.permitted.specs.Found.{permitted, findIssuers, foundIn}
+use Rattle.permitted.specs.Places.{unnarrowed, finished, nobody}
+use Rattle.permitted.specs.declared.Answer.the-variants.{Anyone, Listed}
 use Rattle.permitted.proofs.LastGoverning.{Sound, narrows}
-use Rattle.permitted.proofs.FoundLaws.{both-accepted}
 use Rattle.name_list.proofs.KeptNames.{part-here, names-none}
 
 narrowed-by-anyone : (i : Issuers) → narrowed i anyone ≡ i
@@ -57,48 +58,53 @@ module _ (request book : List ℕ) where
   abbrev said : Name → Authorization
   said n = authorization (caaRecords (records book)) n
 
-  -- the loop's invariant: behind k names, those left give the answer
+  -- behind k names, those left give the answer
   pub record Narrowing (so-far : SoFar) (at : ℕ) : Type 0 where
     pub k : ℕ
     pub names : List Name
     pub left : NamesLeft request at k names
     pub answer : issuers (authorizations request book) ≡ narrowedBy (issuersIn book so-far) (map said names)
     pub sound : Sound request book so-far
+    pub full : length (so-far .names .spans) ≡ maxRecords
     pub good-request : requestRefusal request ≡ none
     pub good-book : bookRefusal book ≡ none
 
   pub names-start :
-      requestRefusal request ≡ none → bookRefusal book ≡ none → (so-far : SoFar) → so-far .restricted ≡ false → (at : ℕ) → at ≡ 0 → Narrowing so-far at
+      requestRefusal request ≡ none → bookRefusal book ≡ none → Narrowing unnarrowed 0
   unfolding authorizations issuersIn Sound
-  names-start r b so-far e at z = rw z (record {
+  names-start r b = record {
     k = 0;
     names = requestedNames request;
     left = all-names request r;
-    answer = rw e;
-    sound = λ t. absurd (false≢true (sym e ∙ t));
+    answer = refl;
+    sound = λ t. absurd (false≢true t);
+    full = length-replicate {A = Span} maxRecords (record { from = 0; to = 0 });
     good-request = r;
     good-book = b;
-  })
+  }
 
   module _ (so-far : SoFar) (at : ℕ) (w : Narrowing so-far at) where
     found : {i : Issuers} → i ≡ issuers (authorizations request book) → permitted i ≡ findIssuers request book
-    found = both-accepted request book (w .good-request) (w .good-book)
+    unfolding findIssuers
+    found e = rw (w .good-request, w .good-book, e)
 
     module _ (h : length request ≤ at) where
       all-narrowed : issuersIn book so-far ≡ issuers (authorizations request book)
       all-narrowed = sym (w .answer ∙ rw (names-end request (w .left) h) (narrowed-end (issuersIn book so-far)))
 
-      pub anyone-may : not (so-far .restricted) ≡ true → permitted anyone ≡ findIssuers request book
+      pub names-over : foundIn book (finished so-far) ≡ findIssuers request book
       unfolding issuersIn
-      anyone-may t = found (rw (not-true (so-far .restricted) t) at all-narrowed)
-
-      pub listed-may : not (so-far .restricted) ≡ false → permitted (listed (namesIn book (so-far .names))) ≡ findIssuers request book
-      unfolding issuersIn
-      listed-may t = found (rw (not-false (so-far .restricted) t) at all-narrowed)
+      names-over = go (so-far .restricted) (found all-narrowed)
+        where
+          go :
+              (t : Bool) → permitted (cond t (listed (namesIn book (so-far .names))) anyone) ≡ findIssuers request book →
+              foundIn book (record { answer = cond t Listed Anyone; names = so-far .names }) ≡ findIssuers request book
+          go true e = e
+          go false e = e
 
     module _ (h : at < length request) (o : RequestedRead) (f : o ≡ requestedAt request at) where
-      pub no-bad-name : o ≡ Fault → (ns : Names) → permitted (listed (namesIn book ns)) ≡ findIssuers request book
-      no-bad-name g ns = absurd (names-good request (w .left) h o f g)
+      pub no-bad-name : o ≡ Fault → ⊥
+      no-bad-name g = names-good request (w .left) h o f g
 
       module _ (r : Requested) (g : o ≡ Good r) where
         this : NextName request (w .k) (w .names) r
@@ -119,26 +125,29 @@ module _ (request book : List ℕ) where
               ∙ narrowed-more (issuersIn book so-far) (said (this .first)) (map said (this .others))
               ∙ ap (λ i. narrowedBy (narrowed (issuersIn book so-far) i) (map said (this .others))) (sym said-of-name)
 
-          onward : (after : SoFar) → issuersIn book after ≡ narrowed (issuersIn book so-far) (restrictedTo request book v) → Sound request book after → Narrowing after (r .next)
-          onward after e s = record {
+          onward :
+              (after : SoFar) → issuersIn book after ≡ narrowed (issuersIn book so-far) (restrictedTo request book v) → Sound request book after →
+              length (after .names .spans) ≡ maxRecords → Narrowing after (r .next)
+          onward after e s l = record {
             k = _;
             names = this .others;
             left = this .after;
             answer = rw e by-name;
             sound = s;
+            full = l;
             good-request = w .good-request;
             good-book = w .good-book;
           }
 
-          pub name-forbidden :
-              v ≡ Forbidden → (spans : List Span) → permitted (listed (namesIn book (record { count = 0; spans = spans }))) ≡ findIssuers request book
-          name-forbidden e spans =
-              rw (names-none book spans)
+          pub name-forbidden : v ≡ Forbidden → foundIn book nobody ≡ findIssuers request book
+          name-forbidden e =
+              rw (names-none book (noNames .spans))
               (found (sym (by-name ∙ rw (e, narrowed-to-nobody (issuersIn book so-far)) (narrowed-nobody (map said (this .others))))))
 
           pub name-open : v ≡ Open → Narrowing so-far (r .next)
-          name-open e = onward so-far (rw e (sym (narrowed-by-anyone (issuersIn book so-far)))) (w .sound)
+          name-open e = onward so-far (rw e (sym (narrowed-by-anyone (issuersIn book so-far)))) (w .sound) (w .full)
 
-          pub name-narrowed :
-              (by : Governing) → v ≡ Governed by → (after : SoFar) → NarrowedBy request book so-far by after → Narrowing after (r .next)
-          name-narrowed by e after n = let m = narrows request book so-far by after n (w .sound) in onward after (rw e (m .names)) (m .sound)
+          pub name-narrowed : (by : Governing) → v ≡ Governed by → Narrowing (narrowedTo request book so-far by) (r .next)
+          name-narrowed by e =
+              let m = narrows request book so-far by _ (narrowed-by-place request book so-far by (w .full)) (w .sound) in
+              onward (narrowedTo request book so-far by) (rw e (m .names)) (m .sound) (narrowed-full request book so-far by (w .full))

@@ -16,7 +16,8 @@ use Rattle.granted.specs.Places.{grantedBy}
 use Rattle.restriction.specs.declared.Governing.{Governing}
 use Rattle.narrowing.specs.declared.SoFar.{SoFar}
 use Rattle.narrowing.specs.Narrowing.{narrowed}
-use Rattle.narrowing.specs.Places.{issuersIn, governedAlike, NarrowedBy}
+use Rattle.narrowing.specs.Places.{issuersIn, governedAlike}
+use Rattle.narrowing.specs.Theorems.{NarrowedBy}
 use Rattle.permitted.proofs.Narrowing.{narrowed-again}
 
 -- the records that governed last grant each name that is listed

@@ -1,1 +1,3 @@
 pub mod Found
+pub mod Places
+pub mod Theorems

@@ -7,7 +7,7 @@ use refusal::Refusal;
 use request_reader::RequestedRead;
 use restriction::Restriction;
 ghost use mathlib.Core.Path.{_≡_};
-ghost use Rattle.permitted.specs.Found.{foundIn, findIssuers};
+ghost use Rattle.permitted.specs.Places.{permittedBy};
 
 // Who may sign: the names beside it where they are listed.
 pub enum Answer {
@@ -23,7 +23,7 @@ pub struct Permitted {
 
 // Request and book are checked; then the issuers are narrowed name by name.
 pub fn issuers_of(request: &[u8], book: &[u8]) -> Permitted
-    ensures { λ r. ⌜ foundIn (now (book .entry)) r ≡ findIssuers (now (request .entry)) (now (book .entry)) ⌝ }
+    ensures { λ r. ⌜ r ≡ permittedBy (now (request .entry)) (now (book .entry)) ⌝ }
 {
     if let Check::Refused(r) = input_checks::check_request_and_book(request, book) {
         return Permitted {

@@ -5,7 +5,7 @@ use mathlib.Core.Path.{_≡_, refl, sym, ap, subst, _∙_}
 use mathlib.Core.Bool.{Bool, true, false}
 use mathlib.Core.List.{List, [], _∷_}
 use mathlib.Core.Option.{some}
-use lib.ListN.{length, take, drop}
+use lib.ListN.{length}
 use Rattle.limits.specs.Limits.{maxRecords}
 use Rattle.record.specs.Property.{property}
 use Rattle.record.specs.Records.{Record}

@@ -1,15 +1,15 @@
--- `issuers_of` meets its contract. The loop's invariant: the names left from `at` on narrow the issuers so far to the answer.
+-- `issuers_of` meets its contract. The loop's invariant: the names left from `at` on, with the issuers so far, give the answer.
 use Prim.Native.Nat.{_-_}
 use lib.ListN.{length}
 use borrow.Author.Needs.{needs}
+use Rattle.limits.specs.Limits.{maxRecords}
 use Rattle.request_reader.proofs.RequestPlaces.{left-less}
-use Rattle.permitted.proofs.FoundLaws.{input-refused, request-accepted, book-accepted}
-use Rattle.permitted.proofs.IssuersWalk.{Narrowing, names-start, no-bad-name, name-forbidden, name-open, name-narrowed, anyone-may, listed-may}
+use Rattle.permitted.proofs.PermittedWalk.{Left, input-refused, inputs-accepted, bad-name, name-forbidden, name-open, name-narrowed, anyone-may, listed-may}
 use Rattle.permitted.proofs.issuers_of.Statement.{statement}
 use Rattle.permitted.proofs.issuers_of.Tie as tie
 
 abbrev Inv-loop : tie.InvT-loop
-Inv-loop request book so-far₀ at₀ so-far at = Narrowing request book so-far at
+Inv-loop request book so-far₀ at₀ so-far at = Left request book so-far at
 
 abbrev μ-loop : tie.MeasureT-loop
 μ-loop request book so-far₀ at₀ so-far at = length request - at
@@ -21,13 +21,15 @@ enum-known-r : tie.Need-enum-known-r Inv-loop μ-loop
 enum-known-r c = search needs
 
 returns : tie.Need-returns Inv-loop μ-loop
+unfolding maxRecords
 returns c = search (needs, input-refused)
 
 enum-told : tie.Need-enum-told Inv-loop μ-loop
 enum-told c = search needs
 
 loop-holds : tie.Need-loop-holds Inv-loop μ-loop
-loop-holds c = search (needs, names-start, request-accepted, book-accepted)
+unfolding maxRecords
+loop-holds c = search (needs, inputs-accepted)
 
 requested-name-requires : tie.Need-requested-name-requires Inv-loop μ-loop
 requested-name-requires c κs = search needs
@@ -39,7 +41,8 @@ enum-told-2 : tie.Need-enum-told-2 Inv-loop μ-loop
 enum-told-2 c = search needs
 
 returns-2 : tie.Need-returns-2 Inv-loop μ-loop
-returns-2 c = search (needs, no-bad-name)
+unfolding maxRecords
+returns-2 c = search (needs, bad-name)
 
 restriction-of-requires : tie.Need-restriction-of-requires Inv-loop μ-loop
 restriction-of-requires c κs = search needs
@@ -51,6 +54,7 @@ enum-told-4 : tie.Need-enum-told-4 Inv-loop μ-loop
 enum-told-4 c = search needs
 
 returns-3 : tie.Need-returns-3 Inv-loop μ-loop
+unfolding maxRecords
 returns-3 c = search (needs, name-forbidden)
 
 enum-known-g : tie.Need-enum-known-g Inv-loop μ-loop
