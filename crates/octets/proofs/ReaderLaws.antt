@@ -11,6 +11,7 @@ use lib.ListN.{length, take, drop, length-append, take-append-drop}
 use lib.Seq.{length-take-le, take-at, drop-at}
 use borrow.Author.Tests.{leb-true, le-leb}
 use Rattle.octets.specs.Reader.{Reader, pure, given, andThen, _>>=_, octet, octets}
+use Rattle.octets.specs.Theorems.{Remainder-whole}
 
 module _ {A : Type 0} where
   -- what can't have found anything has found nothing
@@ -63,3 +64,6 @@ octets-some n s a rest = (λ h. found (leb n (length s)) refl h, λ h. stands h.
 
     stands : s ≡ a ++ rest → length a ≡ n → octets n s ≡ some (a, rest)
     stands e l = rw (e, le-leb n (length (a ++ rest)) (rw length-append (omega arith)), take-at a rest n l, drop-at a rest n l) refl
+
+pub remainder-whole : Remainder-whole
+remainder-whole s = refl

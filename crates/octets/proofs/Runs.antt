@@ -1,4 +1,4 @@
--- Octets of one class: what *(one of a class) matches, blanks, and the classes that hold no blank.
+-- Octets of one class: what *(one of a class) matches, blanks, and the classes that hold no blank; what may be left out.
 use Prim.Native.Nat.{ℕ}
 use Prim.Native.Char.{code}
 use mathlib.Core.Path.{_≡_, refl}
@@ -10,6 +10,7 @@ use borrow.Author.Tests.{eqb-true}
 use Rattle.octets.specs.Lists.{All, all-nil, all-cons}
 use Rattle.octets.specs.Octets.{isBlank}
 use Rattle.octets.specs.Grammar.{one, many, many-none, many-more}
+use Rattle.octets.specs.Theorems.{Optional-form}
 use Rattle.octets.proofs.ListLaws.{told-apart, or-eq-true, not-passed}
 
 -- every octet is of the class
@@ -39,3 +40,6 @@ not-blank p space tab x passes = not-passed (isBlank x) (λ e. go (or-eq-true (e
     go : (eqb x (code " ") ≡ true) ⊎ (eqb x (code "\t") ≡ true) → ⊥
     go (inl e) = told-apart p (code " ") space x passes (eqb-true x (code " ") e)
     go (inr e) = told-apart p (code "\t") tab x passes (eqb-true x (code "\t") e)
+
+pub optional-form : Optional-form
+optional-form p s = (λ h. h, λ h. h)

@@ -15,11 +15,11 @@ use Rattle.octets.specs.Lists.{any, all, select, isEmpty, begins, ends, 
 use Rattle.octets.specs.Octets.{Octets, text, isDigit, isLetterOrDigit, isBlank, hyphen, trimStart, lower, lowered, equalIgnoringCase}
 use Rattle.octets.specs.Label.{isLetterDigitHyphen, isLabel, isHostLabel}
 use Rattle.octets.specs.Pieces.{split, join}
-use Rattle.octets.specs.Reader.{Reader, valueFrom, number, inOctets}
+use Rattle.octets.specs.Reader.{Reader, remainder, valueFrom, number, inOctets}
 use Rattle.octets.specs.Items.{Items, whole, broken, over, wholeItems, itemFault, items, BrokenAt, Beyond}
 use Rattle.octets.specs.Decimal.{decimalFrom, decimalOctet}
 use Rattle.octets.specs.WrittenDecimal.{decimal}
-use Rattle.octets.specs.Grammar.{label}
+use Rattle.octets.specs.Grammar.{Production, optional, label}
 
 -- octets are the numbers below 256, all of them: any slice of octets is such a list
 abbrev pub Octets-below-256 : Type 0
@@ -110,6 +110,14 @@ Pieces-join =
 -- in the order in which they stand
 abbrev pub Pieces-example : Type 0
 Pieces-example = split (code ".") (text "ca1.example.net") ≡ text "ca1" ∷ text "example" ∷ text "net" ∷ []
+
+-- all that is left is read, and nothing stays
+abbrev pub Remainder-whole : Type 0
+Remainder-whole = (s : List ℕ) → remainder s ≡ some (s, [])
+
+-- what may be left out matches the empty text, and whatever else the production matches
+abbrev pub Optional-form : Type 1
+Optional-form = (p : Production) (s : List ℕ) → optional p s ↔ ((s ≡ []) ⊎ p s)
 
 -- a number of k octets is read exactly where it is written
 abbrev pub Numbers-high-octet-first : Type 0

@@ -10,3 +10,4 @@ pub mod WrittenForm
 pub mod LineLength
 pub mod RoundTrip
 pub mod ReadBack
+pub mod Table

@@ -2,4 +2,5 @@ pub mod Written
 pub mod Read
 pub mod Calls
 pub mod Grammar
+pub mod LineEdges
 pub mod Theorems

@@ -19,6 +19,7 @@ use Rattle.presentation.specs.Written.{escaped, line}
 use Rattle.presentation.specs.Read.{plain, quoted, numbered, valueOf, isInQuotes, isBare, readLine}
 use Rattle.presentation.specs.Calls.{writeLine, parseLine}
 use Rattle.presentation.specs.Grammar.{LineOf, FlagsField, TagField}
+use Rattle.presentation.specs.LineEdges.{lineEdges}
 
 -- the same data with its tag in small letters
 abbrev pub smallTag : Property → Property
@@ -31,6 +32,10 @@ HasLine p = (p .flags < 256) × TagField (p .tag) × Octets (p .value)
 -- the reader accepts exactly the lines that the requirements describe, each for the one property that it stands for
 abbrev pub Line-is-the-grammar : Type 0
 Line-is-the-grammar = (s : List ℕ) (p : Property) → (readLine s ≡ some p) ↔ LineOf p s
+
+-- each line of the table is read as the requirements say
+abbrev pub Line-edges : Type 0
+Line-edges = map (λ r. readLine (r .0)) lineEdges ≡ map (λ r. r .1) lineEdges
 
 -- inside quotes 32 to 126 except 34, the quote, and 92, the backslash; bare 33 to 126 except these, 59, the semicolon, and 40 and 41,
 -- the brackets

@@ -51,7 +51,7 @@ resourceRecord = do
 unfoldable pub recordItems : List ℕ → Items Record
 recordItems b = items resourceRecord maxRecords b
 
--- the records, numbered from 0 by their order; of a refused book none
+-- the records, numbered from 0 by their order; where one is broken or they are too many, none
 unfoldable pub records : List ℕ → List Record
 records b = wholeItems (recordItems b)
 

@@ -21,7 +21,7 @@ use Rattle.request.specs.Theorems.{Wildcard-form, GoodRequested, Request
 
 pub wildcard-form : Wildcard-form
 unfolding isWildcard base
-wildcard-form = (λ x. (refl, refl), λ l x other. let e = plain l other in (e, rw e))
+wildcard-form = (λ x. (refl, refl), λ l x other. let e = plain l other in (e, rw e), refl, refl)
   where
     plain : (l : Label) → l ≢ text "*" → isAsterisk l ≡ false
     plain l other = not-passed (isAsterisk l) (λ e. other (same-equal l (text "*") .0 e))

@@ -40,7 +40,7 @@ requestedName = do
 unfoldable pub nameItems : List ℕ → Items Name
 nameItems s = items requestedName maxNames s
 
--- the names of a request, numbered from 0 by their order; of a refused one none
+-- the names of a request, numbered from 0 by their order; where one is broken or they are too many, none
 unfoldable pub requestedNames : List ℕ → List Name
 requestedNames s = wholeItems (nameItems s)
 

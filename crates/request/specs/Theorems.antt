@@ -18,11 +18,12 @@ use Rattle.name.specs.Names.{Label, Name, wire}
 use Rattle.name.specs.Theorems.{GoodName}
 use Rattle.request.specs.Request.{isWildcard, base, requestedName, requestedNames, requestRefusal}
 
--- a name is a wildcard of X exactly when it is an asterisk label before X; any other name is its own X
+-- a name is a wildcard of X exactly when it is an asterisk label before X; any other name, the root too, is its own X
 abbrev pub Wildcard-form : Type 0
 Wildcard-form =
     ((x : Name) → (isWildcard (text "*" ∷ x) ≡ true) × (base (text "*" ∷ x) ≡ x))
     × ((l : Label) (x : Name) → l ≢ text "*" → (isWildcard (l ∷ x) ≡ false) × (base (l ∷ x) ≡ l ∷ x))
+    × (isWildcard [] ≡ false) × (base [] ≡ [])
 
 -- a name that may be asked for: X or *.X, where X has one or more labels, each of 1 to 63 letters, digits and inner hyphens
 abbrev pub GoodRequested : Name → Type 0

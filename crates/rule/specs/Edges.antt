@@ -1,4 +1,5 @@
--- Both sides of each edge: the requirements' rows marked P, as one table under one claim, which is proved by computing.
+-- Both sides of each edge: the requirements' rows marked P, and rows for sets of several records, as one table under one claim, which is
+-- proved by computing.
 use Prim.Native.Nat.{ℕ}
 use Prim.Native.Char.{code}
 use Prim.Native.String.{String}
@@ -89,6 +90,30 @@ edges =
     -- the critical flag is worth 128, and the other seven mean nothing
     ∷ nameEdge (caa "example.com" 128 "tbs" "Unknown" ∷ []) "example.com" (forbidden 0)
     ∷ nameEdge (caa "example.com" 127 "tbs" "Unknown" ∷ []) "example.com" unrestricted
+    -- of two governing records the first is told, and both names are granted in their order; other records stand between, and count
+    ∷ nameEdge (caa "example.com" 0 "issue" "ca2.example.org" ∷ caa "example.com" 0 "issue" "ca1.example.net" ∷ []) "example.com"
+    (granted 0 (ca2 ∷ ca1 ∷ []))
+    ∷ nameEdge
+    (caa "example.org" 0 "issue" "ca2.example.org" ∷ caa "example.com" 0 "iodef" "mailto:a@example.com"
+    ∷ caa "example.com" 0 "issue" "ca1.example.net" ∷ caa "example.com" 0 "issuewild" ";" ∷ caa "example.com" 0 "issue" "ca2.example.org" ∷ [])
+    "www.example.com" (granted 2 (ca1 ∷ ca2 ∷ []))
+    ∷ nameEdge
+    (caa "example.com" 0 "issue" ";" ∷ caa "example.com" 0 "issuewild" "ca2.example.org" ∷ caa "example.com" 0 "issuewild" "ca1.example.net" ∷ [])
+    "*.example.com" (granted 1 (ca2 ∷ ca1 ∷ []))
+    -- one that grants nobody is told where it is the first, and takes nothing from the other
+    ∷ nameEdge (caa "example.com" 0 "issue" ";" ∷ caa "example.com" 0 "issue" "ca1.example.net" ∷ []) "example.com" (granted 0 (ca1 ∷ []))
+    ∷ nameEdge (caa "example.com" 0 "issue" "ca1.example.net" ∷ caa "example.com" 0 "issue" "%%%%%" ∷ []) "example.com" (granted 0 (ca1 ∷ []))
+    -- of two unknown critical records the first is told, for X and for *.X
+    ∷ nameEdge (caa "example.com" 128 "tbs" "Unknown" ∷ caa "example.com" 255 "other" "Unknown" ∷ []) "example.com" (forbidden 0)
+    ∷ nameEdge (caa "example.com" 127 "tbs" "Unknown" ∷ caa "example.com" 255 "other" "Unknown" ∷ caa "example.com" 128 "tbs" "Unknown" ∷ [])
+    "*.example.com" (forbidden 1)
+    -- an unknown critical record behind an issue record forbids all the same; a known critical one does not
+    ∷ nameEdge (caa "example.com" 0 "issue" "ca1.example.net" ∷ caa "example.com" 128 "tbs" "Unknown" ∷ []) "example.com" (forbidden 1)
+    ∷ nameEdge (caa "example.com" 0 "issue" "ca1.example.net" ∷ caa "example.com" 128 "tbs" "Unknown" ∷ []) "*.www.example.com" (forbidden 1)
+    ∷ nameEdge (caa "example.com" 128 "issue" "ca1.example.net" ∷ []) "example.com" (granted 0 (ca1 ∷ []))
+    -- and only in the relevant set
+    ∷ nameEdge (caa "example.com" 128 "tbs" "Unknown" ∷ caa "www.example.com" 0 "issue" "ca1.example.net" ∷ []) "www.example.com"
+    (granted 1 (ca1 ∷ []))
     -- a tail of a name is not the name
     ∷ nameEdge (issuing "ca1.example.net") "badexample.com" unrestricted
     ∷ flagsEdge "255" (some 255)

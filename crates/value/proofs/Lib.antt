@@ -5,3 +5,4 @@ pub mod DomainNames
 pub mod Parameters
 pub mod ParameterParts
 pub mod Values
+pub mod Table

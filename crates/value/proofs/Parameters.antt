@@ -4,7 +4,7 @@ use Prim.Native.Char.{code}
 use native.Mathlib.Omega.{arith}
 use mathlib.Core.Path.{_≡_, refl, ap, _∙_}
 use mathlib.Core.Logic.{_↔_, _≢_}
-use mathlib.Core.Bool.{true, false, _&&_, false≢true, and-eq-true-iff}
+use mathlib.Core.Bool.{Bool, true, false, _&&_, false≢true, and-eq-true-iff}
 use mathlib.Core.List.{List, [], _∷_, _++_, append-assoc}
 use Rattle.octets.specs.Lists.{all, all-cons}
 use Rattle.octets.specs.Octets.{isBlank, isLetterOrDigit, isUpper, isLower, isDigit, trimStart}
@@ -19,6 +19,15 @@ use Rattle.value.proofs.Classes.{Free}
 use Rattle.value.proofs.Blanks.{trimStart-takes, trimEnd-takes, trim-takes, trimEnd-leaves, trim-leaves, trim-within}
 use Rattle.value.proofs.Cuts.{split-more}
 
+-- the octets of a tag; no blank, no "=" and no ";" is one
+abbrev isTagOctet : ℕ → Bool
+isTagOctet = isLetterOrDigit
+
+tag-octets :
+    (isTagOctet (code " ") ≡ false) × (isTagOctet (code "\t") ≡ false) × (isTagOctet (code "=") ≡ false) × (isTagOctet (code ";") ≡ false)
+unfolding isLetterOrDigit isUpper isLower isDigit
+tag-octets = (refl, refl, refl, refl)
+
 -- A parameter by its parts.
 
 -- tag, blanks, "=", blanks, value
@@ -29,7 +38,7 @@ pub record Spelled (s : List ℕ) : Type 0 where
   pub after : List ℕ
   pub octets : List ℕ
   pub whole : s ≡ (first ∷ others) ++ (before ++ (code "=" ∷ (after ++ octets)))
-  pub tagged : Of isLetterOrDigit (first ∷ others)
+  pub tagged : Of isTagOctet (first ∷ others)
   pub blank-before : Blank before
   pub blank-after : Blank after
   pub valued : Of isParameterOctet octets
@@ -57,7 +66,7 @@ spelled m =
 tag-matches : (t : List ℕ) → isParameterTag t ≡ true → tag t
 unfolding isParameterTag
 tag-matches [] h = absurd (false≢true h)
-tag-matches (x ∷ t) h = let k = all-true isLetterOrDigit (x ∷ t) .0 h in (x ∷ [], t, refl, (x, refl, All-head k), of-many (All-tail k))
+tag-matches (x ∷ t) h = let k = all-true isTagOctet (x ∷ t) .0 h in (x ∷ [], t, refl, (x, refl, All-head k), of-many (All-tail k))
 
 -- from the test to the production
 tag-and-value : (s : List ℕ) → isTagAndValue (split (code "=") s) ≡ true → parameter s
@@ -95,22 +104,21 @@ value-behind t s = let made = pieces-join (code "=") s (split (code "=") s) .0 r
     go [] e ne = absurd (ne refl)
     go (v ∷ vs) e ne = rw e
 
-tag-passes : {x : ℕ} {t : List ℕ} → Of isLetterOrDigit (x ∷ t) → isParameterTag (x ∷ t) ≡ true
+tag-passes : {x : ℕ} {t : List ℕ} → Of isTagOctet (x ∷ t) → isParameterTag (x ∷ t) ≡ true
 unfolding isParameterTag
-tag-passes {x} {t} h = all-true isLetterOrDigit (x ∷ t) .1 h
+tag-passes {x} {t} h = all-true isTagOctet (x ∷ t) .1 h
 
-letter-not-blank : (x : ℕ) → isLetterOrDigit x ≡ true → isBlank x ≡ false
-unfolding isLetterOrDigit isUpper isLower isDigit
-letter-not-blank = not-blank isLetterOrDigit refl refl
+tag-not-blank : (x : ℕ) → isTagOctet x ≡ true → isBlank x ≡ false
+tag-not-blank = not-blank isTagOctet (tag-octets .0) (tag-octets .1)
 
 value-blankless : {v : List ℕ} → Of isParameterOctet v → Blankless v
 unfolding isParameterOctet
 value-blankless = All-imp (not-blank isParameterOctet refl refl)
 
-equals-apart : {t b : List ℕ} → Of isLetterOrDigit t → Blank b → Free (code "=") (t ++ b)
-unfolding isLetterOrDigit isUpper isLower isDigit isBlank
+equals-apart : {t b : List ℕ} → Of isTagOctet t → Blank b → Free (code "=") (t ++ b)
+unfolding isBlank
 equals-apart {t} {b} h k =
-    All-join (All-imp (told-apart isLetterOrDigit (code "=") refl) h) (All-imp (told-apart isBlank (code "=") refl) k)
+    All-join (All-imp (told-apart isTagOctet (code "=") (tag-octets .2)) h) (All-imp (told-apart isBlank (code "=") refl) k)
 
 equals-not-blank : isBlank (code "=") ≡ false
 unfolding isBlank
@@ -125,10 +133,10 @@ passes {a} {b} {s} front p back =
     let shape : s ++ b ≡ (x ∷ t ++ p .before) ++ (code "=" ∷ r) = rw (p .whole) (simp append-assoc) in
     rw (
       shape,
-      trim-within front x (letter-not-blank x (All-head (p .tagged))) (t ++ p .before) (code "=") equals-not-blank r,
+      trim-within front x (tag-not-blank x (All-head (p .tagged))) (t ++ p .before) (code "=") equals-not-blank r,
       split-more (code "=") (equals-apart (p .tagged) (p .blank-before)) (trimEnd r),
       value-behind (x ∷ t ++ p .before) (trimEnd r),
-      trimEnd-leaves (All-imp letter-not-blank (p .tagged)) (p .blank-before),
+      trimEnd-leaves (All-imp tag-not-blank (p .tagged)) (p .blank-before),
       tag-passes (p .tagged),
       trim-leaves (p .blank-after) (value-blankless (p .valued)) back,
     )
@@ -150,9 +158,9 @@ unfolding isBlank
 blank-free = All-imp (told-apart isBlank (code ";") refl)
 
 spelled-free : {s : List ℕ} → Spelled s → Free (code ";") s
-unfolding isLetterOrDigit isUpper isLower isDigit isParameterOctet
+unfolding isParameterOctet
 spelled-free p =
-    let tag-free = All-imp (told-apart isLetterOrDigit (code ";") refl) (p .tagged) in
+    let tag-free = All-imp (told-apart isTagOctet (code ";") (tag-octets .3)) (p .tagged) in
     let value-free = All-imp (told-apart isParameterOctet (code ";") refl) (p .valued) in
     let apart : code "=" ≢ code ";" = λ e. omega arith in
     rw (p .whole) (All-join tag-free (All-join (blank-free (p .blank-before)) (all-cons apart (All-join (blank-free (p .blank-after)) value-free))))

@@ -1,3 +1,4 @@
 pub mod IssueValues
 pub mod Productions
+pub mod ValueEdges
 pub mod Theorems
