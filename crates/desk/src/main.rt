@@ -1,7 +1,7 @@
 // The desk program: reads request.bin, issuer.txt and book.bin in the current folder, and writes the desk's line.
 //
-// Proved: from the octets that were read, the line is that of desk_text's definition. Assumed, since no contract can speak of the outside:
-// open and read hand over what stands in the files, and write puts the line out.
+// Proved: from the octets handed to it, put_desk_line makes the line of desk_text's definition, and no read passes its buffer. No contract can speak
+// of the outside: which file goes where is held by runs, and that open, read and write do what they say is assumed.
 use desk_text::LINE_OCTETS;
 use libc::STDOUT_FILENO;
 use limits::MAX_BOOK_OCTETS;
