@@ -1,1 +1,2 @@
 mod GoverningWays
+pub mod OneName

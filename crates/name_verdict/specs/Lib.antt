@@ -1,1 +1,2 @@
 pub mod NameVerdicts
+pub mod Theorems

@@ -2,6 +2,8 @@
 use Prim.Native.Nat.{ℕ}
 use mathlib.Core.Bool.{cond}
 use mathlib.Core.List.{List}
+use Rattle.rule.specs.declared.Judgement.{Judgement}
+use Rattle.rule.specs.declared.Judgement.the-variants.{Permitted as JudgedPermitted, UnknownCritical as JudgedCritical, NotGranted as JudgedNotGranted}
 use Rattle.rule.specs.Authorizations.{Authorization, unrestricted, forbidden, granted, permits}
 use Rattle.name_verdict.specs.declared.NameVerdict.{NameVerdict}
 use Rattle.name_verdict.specs.declared.NameVerdict.the-variants.{Permitted, UnknownCritical, NotGranted}
@@ -13,3 +15,9 @@ withheld (granted r ns) = NotGranted (record { 0 = r })
 
 abbrev pub verdictOf : List ℕ → Authorization → NameVerdict
 verdictOf issuer a = cond (permits issuer a) Permitted (withheld a)
+
+-- the answer that it gives for the name of number k, which judgementTold numbers
+abbrev pub judgementOf : ℕ → NameVerdict → Judgement
+judgementOf k Permitted = JudgedPermitted
+judgementOf k (UnknownCritical r) = JudgedCritical (record { name = record { 0 = k }; rr = r })
+judgementOf k (NotGranted r) = JudgedNotGranted (record { name = record { 0 = k }; rr = r })
