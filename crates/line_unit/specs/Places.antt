@@ -9,7 +9,7 @@ use Rattle.presentation.specs.Read.{Unit, valueOf, escape, unit, isInQuotes, is
 use Rattle.line_unit.specs.declared.Style.{Style}
 use Rattle.line_unit.specs.declared.Style.the-variants.{Quoted, Bare}
 use Rattle.line_unit.specs.declared.UnitRead.{UnitRead}
-use Rattle.line_unit.specs.declared.UnitRead.the-variants.{Good as GoodUnit, Fault as NoUnit}
+use Rattle.line_unit.specs.declared.UnitRead.the-variants.{Good as UnitThere, Fault as NoUnit}
 
 -- the octets that stand for themselves
 abbrev pub plainIn : Style → ℕ → Bool
@@ -18,7 +18,7 @@ plainIn Bare x = isBare x
 
 abbrev pub unitPlaces : List ℕ → Option (Unit × List ℕ) → UnitRead
 unitPlaces s none = NoUnit
-unitPlaces s (some r) = GoodUnit (record { octet = valueOf (r .0); next = placeOf s (r .1) })
+unitPlaces s (some r) = UnitThere (record { octet = valueOf (r .0); next = placeOf s (r .1) })
 
 -- the unit that begins at a place, and what stands behind its backslash
 unfoldable pub escapeAt : List ℕ → ℕ → UnitRead

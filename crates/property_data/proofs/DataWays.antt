@@ -17,16 +17,16 @@ use Rattle.presentation.proofs.Placed.{placed-there, placed-nowhere}
 use Rattle.line_unit.specs.declared.Style.{Style}
 use Rattle.line_unit.specs.Places.{plainIn}
 use Rattle.property_data.specs.declared.UnitCount.{UnitCount}
-use Rattle.property_data.specs.declared.UnitCount.the-variants.{Octets, Fault as NoCount}
+use Rattle.property_data.specs.declared.UnitCount.the-variants.{Units, Fault as NoCount}
 use Rattle.property_data.specs.Places.{countRead, unitCount, isUnits, octetsIn, unitOctets, dataOf, taggedProperty, writeData}
 
 -- What count_units has told.
-module _ (style : Style) (u : List ℕ) (k : UnitCount) (counted : k ≡ unitCount style u) (n : ℕ) (h : k ≡ Octets n) where
+module _ (style : Style) (u : List ℕ) (k : UnitCount) (counted : k ≡ unitCount style u) (n : ℕ) (h : k ≡ Units n) where
   all-read : unescaped (plainIn style) u ≡ some (unitOctets style u)
   unfolding unitCount
   all-read = go (unescaped (plainIn style) u) (sym counted ∙ h)
     where
-      go : (w : Option (List ℕ)) → countRead w ≡ Octets n → w ≡ some (octetsIn w)
+      go : (w : Option (List ℕ)) → countRead w ≡ Units n → w ≡ some (octetsIn w)
       go none c = let z : _≡_ {A = ℕ} 0 1 = cc in absurd (omega arith)
       go (some v) c = refl
 
@@ -34,7 +34,7 @@ module _ (style : Style) (u : List ℕ) (k : UnitCount) (counted : k ≡ unitCou
   unfolding unitCount
   counts = go (unescaped (plainIn style) u) (sym counted ∙ h)
     where
-      go : (w : Option (List ℕ)) → countRead w ≡ Octets n → length (octetsIn w) ≡ n
+      go : (w : Option (List ℕ)) → countRead w ≡ Units n → length (octetsIn w) ≡ n
       go none c = let z : _≡_ {A = ℕ} 0 1 = cc in absurd (omega arith)
       go (some v) c = cc
 
@@ -68,7 +68,7 @@ module _ (f : ℕ) (t : List ℕ) (style : Style) (u b : List ℕ) where
         go none e c = by-units none e
         go (some v) e c = let z : _≡_ {A = ℕ} 0 1 = cc in absurd (omega arith)
 
-    module _ (n : ℕ) (h : k ≡ Octets n) where
+    module _ (n : ℕ) (h : k ≡ Units n) where
       abbrev made : List ℕ
       made = dataOf f t (unitOctets style u)
 

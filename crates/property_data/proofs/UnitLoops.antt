@@ -21,14 +21,14 @@ use Rattle.line_unit.specs.declared.UnitRead.the-variants.{Good, Fault}
 use Rattle.line_unit.specs.Places.{plainIn, unitAt}
 use Rattle.line_unit.proofs.UnitWalk.{joined, joined-twice, unitsLeft, left-over, UnitTo, unit-there, unit-missing}
 use Rattle.property_data.specs.declared.UnitCount.{UnitCount}
-use Rattle.property_data.specs.declared.UnitCount.the-variants.{Octets, Fault as NoCount}
+use Rattle.property_data.specs.declared.UnitCount.the-variants.{Units, Fault as NoCount}
 use Rattle.property_data.specs.Places.{countRead, unitCount, isUnits, unitOctets}
 
 -- Counting them: n before the place.
 
 abbrev pub countLeft : ℕ → Option (List ℕ) → UnitCount
 countLeft n none = NoCount
-countLeft n (some v) = Octets (n + length v)
+countLeft n (some v) = Units (n + length v)
 
 pub record Counted (style : Style) (s : List ℕ) (at n : ℕ) : Type 0 where
   pub few : n ≤ at
@@ -44,8 +44,8 @@ count-start style s = record { few = omega arith; inside = omega arith; same = g
     go (some v) = rw zero-add
 
 module _ {style : Style} {s : List ℕ} {at n : ℕ} (w : Counted style s at n) where
-  pub count-end : length s ≤ at → Octets n ≡ unitCount style s
-  count-end h = sym (w .same ∙ rw (left-over style s at h) (ap Octets (omega arith)))
+  pub count-end : length s ≤ at → Units n ≡ unitCount style s
+  count-end h = sym (w .same ∙ rw (left-over style s at h) (ap Units (omega arith)))
 
   module _ (o : UnitRead) (h : at < length s) (told : o ≡ unitAt style s at) where
     pub count-fault : o ≡ Fault → NoCount ≡ unitCount style s
@@ -56,7 +56,7 @@ module _ {style : Style} {s : List ℕ} {at n : ℕ} (w : Counted style s at n) 
       where
         more : (q : Option (List ℕ)) → countLeft n (joined (p .octet ∷ []) q) ≡ countLeft (n + 1) q
         more none = refl
-        more (some v) = ap Octets (omega arith)
+        more (some v) = ap Units (omega arith)
 
         go : UnitTo style s at p → Counted style s (p .next) (n + 1)
         go k = record {

@@ -13,12 +13,12 @@ use Rattle.presentation.specs.Calls.{Output, readOf}
 use Rattle.line_unit.specs.declared.Style.{Style}
 use Rattle.line_unit.specs.Places.{plainIn}
 use Rattle.property_data.specs.declared.UnitCount.{UnitCount}
-use Rattle.property_data.specs.declared.UnitCount.the-variants.{Octets, Fault as NoCount}
+use Rattle.property_data.specs.declared.UnitCount.the-variants.{Units, Fault as NoCount}
 
 -- the octets that units stand for: how many, whether all of s is units, and themselves
 abbrev pub countRead : Option (List ℕ) → UnitCount
 countRead none = NoCount
-countRead (some v) = Octets (length v)
+countRead (some v) = Units (length v)
 
 unfoldable pub unitCount : Style → List ℕ → UnitCount
 unitCount style s = countRead (unescaped (plainIn style) s)

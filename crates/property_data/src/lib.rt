@@ -15,7 +15,7 @@ ghost use Rattle.property_data.specs.Places.{unitCount, isUnits, unitOct
 
 // How many octets a value stands for.
 enum UnitCount {
-    Octets(usize),
+    Units(usize),
     Fault,
 }
 
@@ -31,7 +31,7 @@ fn count_units(s: &[u8], style: Style) -> UnitCount
         at = u.next;
         n += 1;
     }
-    UnitCount::Octets(n)
+    UnitCount::Units(n)
 }
 
 // The octets that a value stands for.
@@ -84,7 +84,7 @@ pub fn write_data(flags: u8, tag: &[u8], units: &[u8], style: Style, buffer: &mu
     if MAX_TAG_OCTETS < tag.len() {
         return Made::Refused(Refusal::BadLine);
     }
-    let UnitCount::Octets(k) = count_units(units, style) else {
+    let UnitCount::Units(k) = count_units(units, style) else {
         return Made::Refused(Refusal::BadLine);
     };
     if MAX_DATA_OCTETS - 2 - tag.len() < k {

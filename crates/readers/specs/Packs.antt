@@ -5,13 +5,13 @@ use Rattle.packed.specs.Packed.{packed}
 use Rattle.name_reader.specs.declared.NameEnd.{NameEnd}
 use Rattle.name_reader.specs.declared.NameEnd.the-variants.{At, Fault}
 use Rattle.request_reader.specs.declared.RequestedRead.{RequestedRead}
-use Rattle.request_reader.specs.declared.RequestedRead.the-variants.{Good as GoodName, Fault as NameFault}
+use Rattle.request_reader.specs.declared.RequestedRead.the-variants.{Good as RequestedThere, Fault as RequestedFault}
 use Rattle.property_reader.specs.declared.PropertyRead.{PropertyRead}
-use Rattle.property_reader.specs.declared.PropertyRead.the-variants.{Good as GoodProperty, Fault as PropertyFault}
+use Rattle.property_reader.specs.declared.PropertyRead.the-variants.{Good as PropertyThere, Fault as PropertyFault}
 use Rattle.record.specs.declared.PropertyTag.{PropertyTag}
 use Rattle.record.specs.declared.PropertyTag.the-variants.{Issue, IssueWild, Iodef, Unknown}
 use Rattle.record_reader.specs.declared.RecordRead.{RecordRead}
-use Rattle.record_reader.specs.declared.RecordRead.the-variants.{Good as GoodRecord, Fault as RecordFault}
+use Rattle.record_reader.specs.declared.RecordRead.the-variants.{Good as RecordThere, Fault as RecordFault}
 use Rattle.value_reader.specs.declared.ValueRead.{ValueRead}
 use Rattle.value_reader.specs.declared.ValueRead.the-variants.{Malformed, Nameless, Named}
 
@@ -24,11 +24,11 @@ packedEnd (At e) = packed 1 e 0 0
 packedEnd Fault = 0
 
 abbrev pub packedRequested : RequestedRead → ℕ
-packedRequested (GoodName n) = packed (cond (n .wildcard) 2 1) (n .next) (n .base) 0
-packedRequested NameFault = 0
+packedRequested (RequestedThere n) = packed (cond (n .wildcard) 2 1) (n .next) (n .base) 0
+packedRequested RequestedFault = 0
 
 abbrev pub packedProperty : PropertyRead → ℕ
-packedProperty (GoodProperty p) = packed 1 (p .value) (p .flags) 0
+packedProperty (PropertyThere p) = packed 1 (p .value) (p .flags) 0
 packedProperty PropertyFault = 0
 
 abbrev pub packedTag : PropertyTag → ℕ
@@ -38,7 +38,7 @@ packedTag IssueWild = 2
 packedTag Iodef = 3
 
 abbrev pub packedRecord : RecordRead → ℕ
-packedRecord (GoodRecord r) = packed 1 (r .next) (r .fixed) (r .rdata)
+packedRecord (RecordThere r) = packed 1 (r .next) (r .fixed) (r .rdata)
 packedRecord RecordFault = 0
 
 abbrev pub packedValue : ValueRead → ℕ

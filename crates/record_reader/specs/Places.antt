@@ -7,13 +7,13 @@ use Rattle.octets.specs.Reader.{placeOf}
 use Rattle.name.specs.Names.{wire}
 use Rattle.record.specs.Records.{Record, resourceRecord}
 use Rattle.record_reader.specs.declared.RecordRead.{RecordRead}
-use Rattle.record_reader.specs.declared.RecordRead.the-variants.{Good as GoodRecordAt, Fault as RecordFault}
+use Rattle.record_reader.specs.declared.RecordRead.the-variants.{Good as RecordThere, Fault as RecordFault}
 
 -- the record ends where what is left begins, and so does its data
 abbrev pub recordPlaces : List ℕ → ℕ → Option (Record × List ℕ) → RecordRead
 recordPlaces s at none = RecordFault
 recordPlaces s at (some r) =
-    GoodRecordAt (record {
+    RecordThere (record {
       fixed = at + length (wire (r .0 .owner));
       rtype = r .0 .type;
       class = r .0 .class;
