@@ -4,3 +4,4 @@ pub mod NumberBounds
 pub mod JudgementUnpacks
 pub mod ListUnpacks
 pub mod LineUnpacks
+pub mod Table

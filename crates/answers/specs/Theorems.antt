@@ -3,11 +3,15 @@ use Prim.Native.Nat.{ℕ}
 use mathlib.Core.Path.{_≡_}
 use mathlib.Core.List.{List, [], _∷_}
 use Rattle.refusal.specs.declared.Refusal.{Refusal}
+use Rattle.refusal.specs.declared.Refusal.the-variants.{BadRecord}
 use Rattle.refusal.specs.Refusal.{number, place}
 use Rattle.packed.specs.Packed.{numberIn, fieldA, fieldB, fieldC}
 use Rattle.presentation.specs.declared.Made.the-variants.{Length, Refused as LineRefused}
 use Rattle.presentation.specs.Calls.{writeLine, parseLine}
 use Rattle.octets.specs.Octets.{Octets}
+use Rattle.rule.specs.declared.Judgement.the-variants.{NotGranted, Refused}
+use Rattle.rule.specs.declared.PermittedIssuers.the-variants.{Listed}
+use Rattle.rule.specs.Verdicts.{denial}
 use Rattle.rule.specs.Calls.{Told, judge, judgementTold, listIssuers, permittedIssuersTold}
 use Rattle.answers.specs.Answers.{valueOf, packedJudgement}
 use Rattle.answers.specs.ListAnswers.{packedIssuers}
@@ -50,3 +54,11 @@ Written-line-unpacks =
 
 abbrev pub Read-line-unpacks : Type 0
 Read-line-unpacks = (s buffer : List ℕ) → Unpacked (packedMade (parseLine s buffer .answer)) (madeTold (parseLine s buffer .answer))
+
+-- answers as one number: 21 for name 1 by record 3; refusal 6 at 4; a list of 2 in 32 octets; a line of 36 octets
+abbrev pub Packed-answers : Type 0
+Packed-answers =
+    (packedJudgement (NotGranted (denial 1 3)) ≡ 12884902165)
+    × (packedJudgement (Refused (BadRecord (record { 0 = 4 }))) ≡ 1030)
+    × (packedIssuers (Listed 2 32) ≡ 8589942815)
+    × (packedMade (Length 36) ≡ 9216)

@@ -1,2 +1,3 @@
 pub mod Dotted
 pub mod AnyCase
+pub mod Table

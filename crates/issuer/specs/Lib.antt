@@ -1,2 +1,3 @@
 pub mod Issuer
+pub mod IssuerEdges
 pub mod Theorems

@@ -4,7 +4,7 @@ use Prim.Native.Char.{code}
 use mathlib.Core.Path.{_≡_}
 use mathlib.Core.Logic.{_↔_, _≢_}
 use mathlib.Core.Bool.{true}
-use mathlib.Core.List.{List, []}
+use mathlib.Core.List.{List, [], map}
 use mathlib.Core.Option.{none, some}
 use lib.ListN.{length}
 use Rattle.limits.specs.Limits.{maxIssuerOctets}
@@ -14,6 +14,7 @@ use Rattle.octets.specs.Lists.{All}
 use Rattle.octets.specs.Octets.{lowered}
 use Rattle.octets.specs.Pieces.{join}
 use Rattle.octets.specs.Theorems.{Host-label}
+use Rattle.issuer.specs.IssuerEdges.{issuerEdges}
 use Rattle.issuer.specs.Issuer.{isIssuer, issuerRefusal}
 
 -- one or more good labels joined by single dots, 1 to 253 octets
@@ -37,3 +38,7 @@ abbrev pub Issuer-refusals : Type 0
 Issuer-refusals =
     (d : List ℕ) → ((issuerRefusal d ≡ some BadIssuer) ↔ Row-4 d) × ((issuerRefusal d ≡ none) ↔ WellFormed d)
     × ((r : Refusal) → issuerRefusal d ≡ some r → r ≡ BadIssuer)
+
+-- the table of issuer names
+abbrev pub Issuer-edges : Type 0
+Issuer-edges = map (λ e. isIssuer (e .0)) issuerEdges ≡ map (λ e. e .1) issuerEdges

@@ -1,8 +1,6 @@
 -- The verdict on one name is the rule's on that name alone.
-use Prim.Native.Nat.{ℕ}
 use mathlib.Core.Path.{_≡_, refl}
 use mathlib.Core.Bool.{Bool, true, false, cond}
-use mathlib.Core.List.{List}
 use Rattle.rule.specs.declared.Judgement.the-variants.{Permitted as JudgedPermitted}
 use Rattle.rule.specs.Authorizations.{Authorization, unrestricted, forbidden, granted, permits}
 use Rattle.rule.specs.Verdicts.{denied}

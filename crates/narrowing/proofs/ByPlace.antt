@@ -1,11 +1,15 @@
--- Places narrowed stand for issuers narrowed, and keep a place for each record.
+-- Places narrowed stand for issuers narrowed, and keep a place for each record; records governed alike grant alike.
 use Prim.Native.Nat.{ℕ}
 use mathlib.Core.Path.{_≡_, refl, ap, _∙_}
-use mathlib.Core.Bool.{Bool, true, false, cond}
+use mathlib.Core.Bool.{Bool, true, false, cond, Bool·beq, and-eq-true-iff}
 use mathlib.Core.List.{List}
 use lib.ListN.{length}
 use Rattle.limits.specs.Limits.{maxRecords}
+use Rattle.octets.specs.Octets.{lowered, equalIgnoringCase}
+use Rattle.octets.proofs.ListLaws.{beq-true}
+use Rattle.octets.proofs.Texts.{same-equal}
 use Rattle.rule.specs.IssuerLists.{anyone, listed}
+use Rattle.relevant.specs.Places.{setOf}
 use Rattle.name_list.specs.declared.Names.{Names}
 use Rattle.granted.specs.Places.{grantedBy}
 use Rattle.narrowing.specs.Narrowing.{narrowed}
@@ -15,7 +19,7 @@ use Rattle.granted.proofs.GrantedByPlace.{granted-by-place, granted-full}
 use Rattle.restriction.specs.declared.Governing.{Governing}
 use Rattle.narrowing.specs.declared.SoFar.{SoFar}
 use Rattle.narrowing.specs.Places.{issuersIn, governedAlike, grantedTo, narrowedTo}
-use Rattle.narrowing.specs.Theorems.{NarrowedBy, Narrowed-by-place}
+use Rattle.narrowing.specs.Theorems.{NarrowedBy, Narrowed-by-place, Governed-alike}
 
 module _ (request book : List ℕ) (s : SoFar) (g : Governing) (full : length (s .names .spans) ≡ maxRecords) where
   -- by those that the records grant, alone or with the names so far
@@ -67,3 +71,15 @@ module _ (request book : List ℕ) (s : SoFar) (g : Governing) (full : length (s
       go true u = full
       go false true = common-full book (s .names) (grantedTo request book g)
       go false false = granted-full book (part request (g .owner)) (g .wild)
+
+-- an owner counts in any letter case
+granted-same : (book x y : List ℕ) (wild : Bool) → equalIgnoringCase x y ≡ true → grantedBy book x wild ≡ grantedBy book y wild
+unfolding grantedBy setOf equalIgnoringCase
+granted-same book x y wild e = rw (same-equal (lowered x) (lowered y) .0 e)
+
+pub governed-alike : Governed-alike
+unfolding governedAlike
+governed-alike request book s g e =
+    let (restricted, same) = and-eq-true-iff (s .restricted) _ .0 e in
+    let (w, o) = and-eq-true-iff (Bool·beq (s .wild) (g .wild)) _ .0 same in
+    (restricted, rw (beq-true (s .wild) (g .wild) w) (granted-same book (part request (s .owner)) (part request (g .owner)) (g .wild) o))

@@ -1,7 +1,7 @@
 -- What the definitions of this crate mean. Each statement is proved under its name in proofs/.
 use Prim.Native.Nat.{ℕ}
 use mathlib.Core.Path.{_≡_}
-use mathlib.Core.Bool.{cond}
+use mathlib.Core.Bool.{true, cond}
 use mathlib.Core.List.{List}
 use lib.ListN.{length}
 use Rattle.limits.specs.Limits.{maxRecords}
@@ -28,3 +28,9 @@ pub record NarrowedBy (request book : List ℕ) (before : SoFar) (by : Governing
 abbrev pub Narrowed-by-place : Type 0
 Narrowed-by-place =
     (request book : List ℕ) (s : SoFar) (g : Governing) → length (s .names .spans) ≡ maxRecords → NarrowedBy request book s g (narrowedTo request book s g)
+
+-- records that are taken for those that governed last grant the same issuers, to a list that has been narrowed
+abbrev pub Governed-alike : Type 0
+Governed-alike =
+    (request book : List ℕ) (s : SoFar) (g : Governing) → governedAlike request s g ≡ true →
+    (s .restricted ≡ true) × (grantedBy book (part request (s .owner)) (s .wild) ≡ grantedBy book (part request (g .owner)) (g .wild))

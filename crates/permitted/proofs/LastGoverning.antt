@@ -1,12 +1,11 @@
 -- The records that governed last narrow no further. Names with the same governing records narrow alike, and once more changes nothing.
 use Prim.Native.Nat.{ℕ}
 use mathlib.Core.Path.{_≡_, refl, sym, ap, _∙_}
-use mathlib.Core.Bool.{Bool, true, false, cond, Bool·beq, and-eq-true-iff}
+use mathlib.Core.Bool.{Bool, true, false, cond}
 use mathlib.Core.List.{List}
 use Rattle.octets.specs.Lists.{select, All}
-use Rattle.octets.specs.Octets.{lowered, equalIgnoringCase}
-use Rattle.octets.proofs.ListLaws.{beq-true, All-imp}
-use Rattle.octets.proofs.Texts.{same-equal}
+use Rattle.octets.specs.Octets.{lowered}
+use Rattle.octets.proofs.ListLaws.{All-imp}
 use Rattle.rule.specs.IssuerLists.{listed}
 use Rattle.rule.proofs.DistinctLaws.{distinct-all}
 use Rattle.rule.proofs.GranteeLaws.{grantees-small}
@@ -18,6 +17,7 @@ use Rattle.narrowing.specs.declared.SoFar.{SoFar}
 use Rattle.narrowing.specs.Narrowing.{narrowed}
 use Rattle.narrowing.specs.Places.{issuersIn, governedAlike}
 use Rattle.narrowing.specs.Theorems.{NarrowedBy}
+use Rattle.narrowing.proofs.ByPlace.{governed-alike}
 use Rattle.permitted.proofs.Narrowing.{narrowed-again}
 
 -- the records that governed last grant each name that is listed
@@ -26,11 +26,6 @@ Sound request book s =
     s .restricted ≡ true → narrowed (issuersIn book s) (listed (grantedBy book (part request (s .owner)) (s .wild))) ≡ issuersIn book s
 
 module _ (book : List ℕ) where
-  -- an owner counts in any case
-  granted-same : (x y : List ℕ) (wild : Bool) → equalIgnoringCase x y ≡ true → grantedBy book x wild ≡ grantedBy book y wild
-  unfolding grantedBy setOf equalIgnoringCase
-  granted-same x y wild e = rw (same-equal (lowered x) (lowered y) .0 e)
-
   granted-small : (x : List ℕ) (wild : Bool) → All (λ n. lowered n ≡ n) (grantedBy book x wild)
   unfolding grantedBy
   granted-small x wild = distinct-all (All-imp (λ n h. h .1) (grantees-small (select (hasTag wild) (setOf book x))))
@@ -42,24 +37,18 @@ module _ (request book : List ℕ) (before : SoFar) (by : Governing) (after : So
     pub sound : Sound request book after
 
   pub narrows : NarrowedBy request book before by after → Sound request book before → Narrows
-  unfolding Sound governedAlike
+  unfolding Sound
   narrows n sound = go (governedAlike request before by) refl (n .names) (n .owner) (n .wild)
     where
-      alike :
-          Bool·beq (before .wild) (by .wild) ≡ true → equalIgnoringCase (part request (before .owner)) (part request (by .owner)) ≡ true →
-          grantedBy book (part request (before .owner)) (before .wild) ≡ grantedBy book (part request (by .owner)) (by .wild)
-      alike w o = rw (beq-true (before .wild) (by .wild) w) (granted-same book (part request (before .owner)) (part request (by .owner)) (by .wild) o)
-
       go :
           (t : Bool) → governedAlike request before by ≡ t →
           issuersIn book after
           ≡ cond t (issuersIn book before) (narrowed (issuersIn book before) (listed (grantedBy book (part request (by .owner)) (by .wild)))) →
           after .owner ≡ cond t (before .owner) (by .owner) → after .wild ≡ cond t (before .wild) (by .wild) → Narrows
       go true e names owner wild =
-          let (restricted, same) = and-eq-true-iff (before .restricted) _ .0 e in
-          let (w, o) = and-eq-true-iff (Bool·beq (before .wild) (by .wild)) _ .0 same in
+          let (restricted, alike) = governed-alike request book before by e in
           record {
-            names = names ∙ sym (sound restricted) ∙ ap (λ ns. narrowed (issuersIn book before) (listed ns)) (alike w o);
+            names = names ∙ sym (sound restricted) ∙ ap (λ ns. narrowed (issuersIn book before) (listed ns)) alike;
             sound = λ k. rw (names, owner, wild) (sound restricted);
           }
       go false e names owner wild = record {

@@ -3,4 +3,5 @@ pub mod Read
 pub mod Calls
 pub mod Grammar
 pub mod LineEdges
+pub mod LineCalls
 pub mod Theorems

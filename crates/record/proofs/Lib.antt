@@ -1,3 +1,4 @@
 pub mod PropertyLaws
 pub mod RecordLaws
 pub mod Book
+pub mod Table

@@ -1,3 +1,4 @@
 pub mod Property
 pub mod Records
+pub mod BookEdges
 pub mod Theorems

@@ -19,6 +19,7 @@ use Rattle.name.specs.Names.{wire}
 use Rattle.name.specs.Theorems.{GoodName}
 use Rattle.record.specs.declared.PropertyTag.the-variants.{Issue, IssueWild, Iodef, Unknown}
 use Rattle.record.specs.Property.{Property, wireProperty, property, isCritical, tagOf}
+use Rattle.record.specs.BookEdges.{bookEdges}
 use Rattle.record.specs.Records.{Record, wireRecord, resourceRecord, records, bookRefusal}
 
 -- flags, the length of the tag, tag and value
@@ -100,3 +101,7 @@ Book-refusals =
     × ((k : ℕ) → (bookRefusal b ≡ some (BadRecord (record { 0 = k }))) ↔ ((length b ≤ maxBookOctets) × Row-6 b k))
     × ((bookRefusal b ≡ some TooManyRecords) ↔ ((length b ≤ maxBookOctets) × Row-7 b))
     × ((r : Refusal) → bookRefusal b ≡ some r → (5 ≤ number r) × (number r ≤ 7))
+
+-- the table of books
+abbrev pub Book-edges : Type 0
+Book-edges = map (λ e. bookRefusal (e .0)) bookEdges ≡ map (λ e. e .1) bookEdges

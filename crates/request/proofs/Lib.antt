@@ -1,2 +1,3 @@
 pub mod RequestedNames
 pub mod Requests
+pub mod Table

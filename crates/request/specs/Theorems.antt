@@ -16,6 +16,7 @@ use Rattle.octets.specs.Items.{BrokenAt, Beyond}
 use Rattle.octets.specs.Theorems.{Host-label, Reads}
 use Rattle.name.specs.Names.{Label, Name, wire}
 use Rattle.name.specs.Theorems.{GoodName}
+use Rattle.request.specs.RequestEdges.{requestEdges}
 use Rattle.request.specs.Request.{isWildcard, base, requestedName, requestedNames, requestRefusal}
 
 -- a name is a wildcard of X exactly when it is an asterisk label before X; any other name, the root too, is its own X
@@ -57,3 +58,7 @@ Request-refusals =
     × ((k : ℕ) → (requestRefusal s ≡ some (BadName (record { 0 = k }))) ↔ ((length s ≤ maxRequestOctets) × Row-2 s k))
     × ((requestRefusal s ≡ some TooManyNames) ↔ ((length s ≤ maxRequestOctets) × Row-3 s))
     × ((r : Refusal) → requestRefusal s ≡ some r → number r ≤ 3)
+
+-- the table of requests
+abbrev pub Request-edges : Type 0
+Request-edges = map (λ e. requestRefusal (e .0)) requestEdges ≡ map (λ e. e .1) requestEdges

@@ -1,19 +1,22 @@
--- The table of edges and the numbers of the answers, by computing.
+-- The tables of edges and of calls, and the numbers of the answers, by computing.
 use mathlib.Core.Path.{refl}
-use Rattle.limits.specs.Limits.{maxLabelOctets, maxIssuerOctets}
+use Rattle.limits.specs.Limits.{maxLabelOctets, maxIssuerOctets, maxNameOctets, maxRequestOctets, maxNames, maxBookOctets, maxRecords}
+use Rattle.octets.specs.Reader.{number}
+use Rattle.name.specs.Names.{name}
 use Rattle.octets.specs.Octets.{isDigit, isUpper, isLower, isLetterOrDigit, isBlank, lower, equalIgnoringCase}
 use Rattle.octets.specs.Label.{isLetterDigitHyphen, isLabel, isHostLabel}
 use Rattle.octets.specs.Decimal.{decimalOctet}
-use Rattle.request.specs.Request.{isWildcard, base}
-use Rattle.issuer.specs.Issuer.{isIssuer}
+use Rattle.request.specs.Request.{isWildcard, base, isRequestable, requestedName, nameItems, requestedNames, requestRefusal}
+use Rattle.issuer.specs.Issuer.{isIssuer, issuerRefusal}
 use Rattle.record.specs.Property.{readProperty, property, isCritical, tagOf}
-use Rattle.record.specs.Records.{isCaa}
+use Rattle.record.specs.Records.{isCaa, isLaidOut, resourceRecord, recordItems, records, bookRefusal}
 use Rattle.value.specs.IssueValues.{isDomainName, isParameterOctet, isParameterTag, isParameter, areParameters, issueValue}
 use Rattle.rule.specs.RelevantSet.{lookup, relevantSet}
 use Rattle.rule.specs.Authorizations.{isUnknownCritical, governing, grantee, authorization}
 use Rattle.rule.specs.Verdicts.{verdict}
-use Rattle.rule.specs.Calls.{judgementTold, permittedIssuersTold}
+use Rattle.rule.specs.Calls.{judgementTold, permittedIssuersTold, authorizations, judge, listIssuers}
 use Rattle.rule.specs.Edges.{Edges-agree, Whole-case}
+use Rattle.rule.specs.CallEdges.{Calls-agree, Lists-agree}
 use Rattle.rule.specs.Theorems.{Answers-told, List-told}
 
 pub edges-agree : Edges-agree
@@ -29,6 +32,22 @@ unfolding maxLabelOctets maxIssuerOctets isDigit isUpper isLower isLetterOrDigit
     isDomainName isParameterOctet isParameterTag isParameter areParameters issueValue lookup relevantSet
     isUnknownCritical governing grantee authorization verdict
 whole-case = (refl, refl, refl, refl)
+
+pub calls-agree : Calls-agree
+unfolding maxLabelOctets maxIssuerOctets maxNameOctets maxRequestOctets maxNames maxBookOctets maxRecords isDigit isUpper isLower
+    isLetterOrDigit isBlank lower equalIgnoringCase isLetterDigitHyphen isLabel isHostLabel isWildcard base isIssuer readProperty property
+    isCritical tagOf isCaa isDomainName isParameterOctet isParameterTag isParameter areParameters issueValue lookup relevantSet
+    isUnknownCritical governing grantee authorization verdict name isRequestable requestedName nameItems requestedNames requestRefusal
+    issuerRefusal isLaidOut resourceRecord recordItems records bookRefusal number authorizations judge
+calls-agree = refl
+
+pub lists-agree : Lists-agree
+unfolding maxLabelOctets maxIssuerOctets maxNameOctets maxRequestOctets maxNames maxBookOctets maxRecords isDigit isUpper isLower
+    isLetterOrDigit isBlank lower equalIgnoringCase isLetterDigitHyphen isLabel isHostLabel isWildcard base isIssuer readProperty property
+    isCritical tagOf isCaa isDomainName isParameterOctet isParameterTag isParameter areParameters issueValue lookup relevantSet
+    isUnknownCritical governing grantee authorization verdict name isRequestable requestedName nameItems requestedNames requestRefusal
+    issuerRefusal isLaidOut resourceRecord recordItems records bookRefusal number authorizations listIssuers
+lists-agree = (refl, refl, refl, refl, refl, refl, refl, refl, refl)
 
 pub answers-told : Answers-told
 unfolding judgementTold permittedIssuersTold

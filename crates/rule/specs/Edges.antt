@@ -37,6 +37,14 @@ abbrev pub caa : String → ℕ → String → String → Record
 caa owner flags tag value =
     record { owner = dotted owner; type = 257; class = 1; ttl = 3600; rdata = wireProperty (record { flags = flags; tag = text tag; value = text value }) }
 
+-- a record of another type or class, whose data would be an unknown critical property; and a CAA record of the root, which grants nobody
+abbrev pub other : String → ℕ → ℕ → Record
+other owner type class =
+    record { owner = dotted owner; type = type; class = class; ttl = 3600; rdata = wireProperty (record { flags = 128; tag = text "tbs"; value = text "x" }) }
+
+abbrev pub rootIssuing : Record
+rootIssuing = record { owner = []; type = 257; class = 1; ttl = 3600; rdata = wireProperty (record { flags = 0; tag = text "issue"; value = text ";" }) }
+
 abbrev pub valueEdge : String → IssueValue → Edge
 valueEdge s v = record { ruled = of-value (issueValue (text s)); stated = of-value v }
 
@@ -116,6 +124,29 @@ edges =
     (granted 1 (ca1 ∷ []))
     -- a tail of a name is not the name
     ∷ nameEdge (issuing "ca1.example.net") "badexample.com" unrestricted
+    -- for *.X the issue records govern where there is no issuewild record
+    ∷ nameEdge (issuing "ca1.example.net") "*.example.com" (granted 0 (ca1 ∷ []))
+    ∷ nameEdge (issuing ";") "*.www.example.com" (granted 0 [])
+    ∷ nameEdge (caa "example.com" 0 "iodef" "mailto:a@example.com" ∷ issuing ";") "*.example.com" (granted 1 [])
+    -- what is not of type 257 and class 1 is passed over, and counts in the numbers
+    ∷ nameEdge (other "example.com" 1 1 ∷ other "example.com" 257 3 ∷ caa "example.com" 0 "issue" "ca1.example.net" ∷ []) "example.com"
+    (granted 2 (ca1 ∷ []))
+    ∷ nameEdge (other "example.com" 1 1 ∷ caa "example.com" 128 "tbs" "Unknown" ∷ []) "example.com" (forbidden 1)
+    ∷ nameEdge (other "www.example.com" 257 3 ∷ other "www.example.com" 16 1 ∷ issuing "ca1.example.net") "www.example.com" (granted 2 (ca1 ∷ []))
+    ∷ nameEdge (other "example.com" 257 3 ∷ []) "example.com" unrestricted
+    -- the climb goes on label by label, and never to the root
+    ∷ nameEdge (issuing "ca1.example.net") "a.b.c.example.com" (granted 0 (ca1 ∷ []))
+    ∷ nameEdge (caa "com" 0 "issue" "ca1.example.net" ∷ []) "www.example.com" (granted 0 (ca1 ∷ []))
+    ∷ nameEdge (rootIssuing ∷ []) "www.example.com" unrestricted
+    -- an asterisk in an owner is only a label
+    ∷ nameEdge (caa "*.example.com" 0 "issue" ";" ∷ issuing "ca1.example.net") "*.example.com" (granted 1 (ca1 ∷ []))
+    ∷ nameEdge (caa "*.example.com" 0 "issue" ";" ∷ []) "www.example.com" unrestricted
+    -- letter case of owners, names, tags and issuers is ignored
+    ∷ nameEdge (caa "EXAMPLE.com" 0 "IssuE" "ca1.example.net" ∷ []) "Www.eXample.COM" (granted 0 (ca1 ∷ []))
+    ∷ nameEdge (caa "example.com" 0 "ISSUEWILD" "CA2.example.ORG" ∷ []) "*.example.com" (granted 0 (ca2 ∷ []))
+    -- known tags that are critical mean no more than others
+    ∷ nameEdge (caa "example.com" 128 "IODEF" "mailto:a@example.com" ∷ []) "example.com" unrestricted
+    ∷ nameEdge (caa "example.com" 255 "issuewild" "ca2.example.org" ∷ []) "example.com" unrestricted
     ∷ flagsEdge "255" (some 255)
     ∷ flagsEdge "256" none
     ∷ []

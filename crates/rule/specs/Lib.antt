@@ -6,3 +6,4 @@ pub mod Calls
 pub mod Meaning
 pub mod Theorems
 pub mod Edges
+pub mod CallEdges
