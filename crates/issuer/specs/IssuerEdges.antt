@@ -2,18 +2,14 @@
 use Prim.Native.Nat.{ℕ}
 use Prim.Native.Char.{code}
 use mathlib.Core.Bool.{Bool, true, false}
-use mathlib.Core.List.{List, [], _∷_}
+use mathlib.Core.List.{List, [], _∷_, map}
 use lib.ListN.{replicate}
 use Rattle.octets.specs.Octets.{text}
 use Rattle.octets.specs.Pieces.{join}
 
 -- labels of so many letters each, joined by dots
-abbrev pub labels : List ℕ → List (List ℕ)
-labels [] = []
-labels (n ∷ ns) = replicate n (code "a") ∷ labels ns
-
-abbrev pub dotted : List ℕ → List ℕ
-dotted ns = join (code ".") (labels ns)
+abbrev pub ofLengths : List ℕ → List ℕ
+ofLengths ns = join (code ".") (map (λ n. replicate n (code "a")) ns)
 
 abbrev pub issuerEdges : List (List ℕ × Bool)
 issuerEdges =
@@ -35,8 +31,8 @@ issuerEdges =
     ∷ (text " n", false)
     ∷ (text "n\n", false)
     -- labels of 63 and 64 octets, names of 253 and 254
-    ∷ (dotted (63 ∷ []), true)
-    ∷ (dotted (64 ∷ []), false)
-    ∷ (dotted (63 ∷ 63 ∷ 63 ∷ 61 ∷ []), true)
-    ∷ (dotted (63 ∷ 63 ∷ 63 ∷ 62 ∷ []), false)
+    ∷ (ofLengths (63 ∷ []), true)
+    ∷ (ofLengths (64 ∷ []), false)
+    ∷ (ofLengths (63 ∷ 63 ∷ 63 ∷ 61 ∷ []), true)
+    ∷ (ofLengths (63 ∷ 63 ∷ 63 ∷ 62 ∷ []), false)
     ∷ []

@@ -37,12 +37,6 @@ pub record CallEdge : Type 0 where
 abbrev pub callEdge : List ℕ → List ℕ → List ℕ → Judgement → CallEdge
 callEdge request issuer book j = record { answered = judge request issuer book; stated = j }
 
-abbrev pub badName : Judgement
-badName = Refused (BadName (record { 0 = 0 }))
-
-abbrev pub badRecord : Judgement
-badRecord = Refused (BadRecord (record { 0 = 0 }))
-
 abbrev pub callEdges : List CallEdge
 callEdges =
     -- the whole case; the issuer in any letter case; the lowest name that is not permitted; a tail of a name; no record
@@ -55,9 +49,9 @@ callEdges =
     ∷ callEdge both ca1 (bookOf (caa "example.com" 0 "issue" "ca1.example.net" ∷ caa "pay.example.com" 128 "tbs" "x" ∷ [])) (UnknownCritical (denial 1 1))
     ∷ callEdge both ca2 (bookOf (caa "example.com" 0 "issue" "ca1.example.net" ∷ caa "pay.example.com" 128 "tbs" "x" ∷ [])) (NotGranted (denial 0 0))
     -- the order of checks: request, issuer name, book
-    ∷ callEdge [] [] (64 ∷ []) badName
+    ∷ callEdge [] [] (64 ∷ []) (Refused (BadName (record { 0 = 0 })))
     ∷ callEdge www [] (64 ∷ []) (Refused BadIssuer)
-    ∷ callEdge www (text "n") (64 ∷ []) badRecord
+    ∷ callEdge www (text "n") (64 ∷ []) (Refused (BadRecord (record { 0 = 0 })))
     ∷ []
 
 abbrev pub Calls-agree : Type 0
@@ -76,25 +70,22 @@ orders =
     ∷ caa "bad.example.com" 128 "tbs" "Unknown"
     ∷ [])
 
--- a buffer of so many octets 95, and the call on it
-abbrev pub lent : ℕ → List ℕ
-lent n = replicate n 95
-
+-- the call on a buffer of so many octets 95
 abbrev pub listing : List String → List ℕ → ℕ → Listing
-listing ns book n = listIssuers (asking ns) book (lent n)
+listing ns book n = listIssuers (asking ns) book (replicate n 95)
 
 abbrev pub Lists-agree : Type 0
 Lists-agree =
     -- the whole case, with its counts and octets; the rest of the buffer stays; an octet short; anyone
-    (listing ("www.example.com" ∷ []) (bookOf wholeBook) 34 ≡ record { answer = Listed 2 32; buffer = (15 ∷ ca1) ++ ((15 ∷ ca2) ++ lent 2) })
+    (listing ("www.example.com" ∷ []) (bookOf wholeBook) 34 ≡ record { answer = Listed 2 32; buffer = (15 ∷ ca1) ++ ((15 ∷ ca2) ++ replicate 2 95) })
     × (listing ("www.example.com" ∷ "pay.example.com" ∷ []) (bookOf wholeBook) 16 ≡ record { answer = Listed 1 16; buffer = 15 ∷ ca2 })
-    × (listing ("www.example.com" ∷ []) (bookOf wholeBook) 31 ≡ record { answer = ListRefused (NoRoom 32); buffer = lent 31 })
-    × (listing ("example.org" ∷ []) (bookOf wholeBook) 3 ≡ record { answer = Anyone; buffer = lent 3 })
+    × (listing ("www.example.com" ∷ []) (bookOf wholeBook) 31 ≡ record { answer = ListRefused (NoRoom 32); buffer = replicate 31 95 })
+    × (listing ("example.org" ∷ []) (bookOf wholeBook) 3 ≡ record { answer = Anyone; buffer = replicate 3 95 })
     -- in the order of the restricted name with the lowest number
-    × (listing ("www.example.com" ∷ "pay.example.com" ∷ []) orders 33 ≡ record { answer = Listed 2 32; buffer = (15 ∷ ca2) ++ ((15 ∷ ca1) ++ lent 1) })
+    × (listing ("www.example.com" ∷ "pay.example.com" ∷ []) orders 33 ≡ record { answer = Listed 2 32; buffer = (15 ∷ ca2) ++ ((15 ∷ ca1) ++ replicate 1 95) })
     × (listing ("example.org" ∷ "pay.example.com" ∷ "www.example.com" ∷ []) orders 33
-    ≡ record { answer = Listed 2 32; buffer = (15 ∷ ca1) ++ ((15 ∷ ca2) ++ lent 1) })
+    ≡ record { answer = Listed 2 32; buffer = (15 ∷ ca1) ++ ((15 ∷ ca2) ++ replicate 1 95) })
     -- an unknown critical record of any name; the refusals of request and book
-    × (listing ("www.example.com" ∷ "*.bad.example.com" ∷ []) orders 3 ≡ record { answer = Listed 0 0; buffer = lent 3 })
-    × (listing [] (64 ∷ []) 3 ≡ record { answer = ListRefused (BadName (record { 0 = 0 })); buffer = lent 3 })
+    × (listing ("www.example.com" ∷ "*.bad.example.com" ∷ []) orders 3 ≡ record { answer = Listed 0 0; buffer = replicate 3 95 })
+    × (listing [] (64 ∷ []) 3 ≡ record { answer = ListRefused (BadName (record { 0 = 0 })); buffer = replicate 3 95 })
     × (listing ("www.example.com" ∷ []) (64 ∷ []) 0 ≡ record { answer = ListRefused (BadRecord (record { 0 = 0 })); buffer = [] })
