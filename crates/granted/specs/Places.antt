@@ -33,11 +33,12 @@ abbrev pub seenFrom : ℕ → List ℕ → List ℕ → Walk → List SeenAt
 seenFrom zero book owner w = []
 seenFrom (suc steps) book owner w = seenNext (nextOwned book owner w) (seenFrom steps book owner)
 
--- where the issuer stands in the book that data grants which begins at `from`; none where it grants nobody, or has another tag
+-- the place in the book of the issuer granted, by its place in data that begins at `from`; none where nobody is granted
 abbrev pub grantFrom : ℕ → GranteeRead → List Span
 grantFrom from Nobody = []
 grantFrom from (At n) = record { from = from + n .from; to = from + n .to } ∷ []
 
+-- the grant of a record that was seen; none where it has another tag
 abbrev pub grantOf : List ℕ → Bool → SeenAt → List Span
 grantOf book wild c = cond (dataHasTag wild (seenData book c)) (grantFrom (c .rdata) (granteeAt (seenData book c))) []
 

@@ -9,7 +9,7 @@ use Rattle.octets.specs.Octets.{same, lowered}
 use Rattle.name_list.specs.Places.{namesIn, commonNames}
 use Rattle.name_list.specs.declared.Names.{Names}
 
--- the names that two lists have in common are those of the first that are among the second, in their order
+-- the names that two lists have in common are those of the first that are among the second, in their order; every array of places has as many as a book may have records
 abbrev pub Names-in-common : Type 0
 Names-in-common =
     (book : List ℕ) (ns others : Names) → length (ns .spans) ≡ maxRecords →

@@ -8,11 +8,13 @@ use Rattle.rule.specs.Authorizations.{Authorization, unrestricted, forbidden, g
 use Rattle.name_verdict.specs.declared.NameVerdict.{NameVerdict}
 use Rattle.name_verdict.specs.declared.NameVerdict.the-variants.{Permitted, UnknownCritical, NotGranted}
 
+-- why a name is not permitted
 abbrev pub withheld : Authorization → NameVerdict
 withheld unrestricted = Permitted
 withheld (forbidden r) = UnknownCritical (record { 0 = r })
 withheld (granted r ns) = NotGranted (record { 0 = r })
 
+-- what is said of a name to this issuer
 abbrev pub verdictOf : List ℕ → Authorization → NameVerdict
 verdictOf issuer a = cond (permits issuer a) Permitted (withheld a)
 

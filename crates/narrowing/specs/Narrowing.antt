@@ -3,7 +3,6 @@ use Rattle.octets.specs.Lists.{any, select}
 use Rattle.octets.specs.Octets.{same, lowered}
 use Rattle.rule.specs.IssuerLists.{Issuers, anyone, listed}
 
--- the issuers so far, narrowed by those of one more name
 abbrev pub narrowed : Issuers → Issuers → Issuers
 narrowed anyone j = j
 narrowed (listed ms) anyone = listed ms

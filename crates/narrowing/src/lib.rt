@@ -6,7 +6,7 @@ ghost use mathlib.Core.Path.{_≡_};
 ghost use Rattle.narrowing.specs.Places.{narrowedTo};
 
 // The issuers that may sign for the names so far: anyone, or, once a name was restricted, those that all restricted names
-// grant. With the records that governed the last of these.
+// grant, as places in the book; and the records that governed the last of these, by their owner, a place in the request, and their tag.
 pub struct SoFar {
     pub restricted: bool,
     pub names: Names,

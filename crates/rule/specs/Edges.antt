@@ -1,4 +1,4 @@
--- Both sides of each edge: the requirements' rows marked P, and rows for sets of several records, as one table under one claim, which is
+-- Both sides of each edge: the requirements' rows marked P, and rows for the other sentences of the rule, as one table under one claim, which is
 -- proved by computing.
 use Prim.Native.Nat.{ℕ}
 use Prim.Native.Char.{code}

@@ -88,7 +88,7 @@ valueEdges =
     ∷ (text " n ; a = 1 ; b = 2 ", n)
     ∷ (text "\t \tca1.example.net\t \t;\t \taccount\t \t=\t \t230123\t \t;\t \tb\t \t=\t \t2\t \t", ca1)
     ∷ (text "n; a\n=1", malformed)
-    -- a parameter's tag: one or more letters and digits, and no hyphen in this build
+    -- a parameter's tag: one or more letters and digits, as the requirements have it, and no hyphen
     ∷ (text "n; 0=1", n)
     ∷ (text "n; aZ9=1", n)
     ∷ (text "ca1.example.net; a-b=1", malformed)
