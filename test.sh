@@ -5,8 +5,8 @@
 set -euo pipefail
 cd "$(dirname "$0")"
 
-# rt starts so many checks and waits for all of them: twice the processors keep these busy.
-export RT_JOBS="${RT_JOBS:-$((2 * $(nproc)))}"
+# rt starts so many checks and waits for all of them: four times the processors keep these busy.
+export RT_JOBS="${RT_JOBS:-$((4 * $(nproc)))}"
 
 second_program() {
     SPLINEPEARL_LIBS="$PWD/target/staticlib" cargo run --quiet --offline --locked --release --manifest-path compare/Cargo.toml "$@"
