@@ -4,7 +4,7 @@ use Prim.Native.Char.{code}
 use mathlib.Core.Path.{_≡_}
 use mathlib.Core.Logic.{_↔_}
 use mathlib.Core.Bool.{Bool, true, false}
-use mathlib.Core.List.{List, _∷_, _++_, map}
+use mathlib.Core.List.{List, [], _∷_, _++_, map}
 use Rattle.octets.specs.Lists.{select, begins}
 use Rattle.octets.specs.Octets.{text, isDigit}
 use Rattle.octets.specs.Decimal.{decimalFrom}
@@ -15,6 +15,8 @@ use Rattle.refusal.specs.declared.Refusal.{Refusal}
 use Rattle.refusal.specs.declared.Refusal.the-variants.{BadIssuer, BadRecord, TooManyRecords}
 use Rattle.rule.specs.declared.Judgement.{Judgement}
 use Rattle.rule.specs.declared.Judgement.the-variants.{Permitted, UnknownCritical, NotGranted, Refused}
+use Rattle.rule.specs.Edges.{ca1, ca2, wholeBook}
+use Rattle.rule.specs.CallEdges.{both, bookOf}
 use Rattle.rule.specs.Verdicts.{denial}
 use Rattle.rule.specs.Calls.{judge, judgementTold}
 use Rattle.desk_text.specs.Lines.{answerText, line, noBook, deskLine}
@@ -57,3 +59,13 @@ Line-examples =
     × (line (Refused BadIssuer) ≡ text "refused 4 at 0\n")
     × (line (Refused TooManyRecords) ≡ text "refused 7 at 256\n")
     × ((request issuer book : List ℕ) → deskLine false request issuer book ≡ text "no book\n")
+
+-- from what the files hold: the requirements' whole case, a request that is permitted, and one refusal for each file
+abbrev pub Desk-lines : Type 0
+Desk-lines =
+    (deskLine true both ca1 (bookOf wholeBook) ≡ text "verdict 21 name 1 record 3\n")
+    × (deskLine true both ca2 (bookOf wholeBook) ≡ text "verdict 0\n")
+    × (deskLine true [] ca1 (bookOf wholeBook) ≡ text "refused 2 at 0\n")
+    × (deskLine true both (ca1 ++ text "\n") (bookOf wholeBook) ≡ text "refused 4 at 0\n")
+    × (deskLine true both ca1 (bookOf wholeBook ++ (64 ∷ [])) ≡ text "refused 6 at 4\n")
+    × (deskLine false both ca1 (bookOf wholeBook) ≡ text "no book\n")
