@@ -17,13 +17,13 @@ rt ci 2>&1 | tee "$said" | sed '$d' || { tail -n 1 "$said"; exit 1; }
 
 cargo test --quiet --offline --locked --manifest-path compare/Cargo.toml
 second_program -- cases
-rt staticlib readers
+rt staticlib test_readers
 rt staticlib splinepearl
 second_program --features readers,judge,list,lines -- library
 bash examples/link.sh
 
 bash desk-runs/test.sh
 python3 tools/test_caa_files.py
-python3 crates/runs/make.py --check
+python3 crates/test_runs/make.py --check
 
 tail -n 1 "$said"

@@ -2,11 +2,11 @@
 //
 // Proved: from the octets handed to it, put_desk_line makes the line of desk_text's definition, and no read passes its buffer. No contract can speak
 // of the outside: which file goes where is held by runs, and that open, read and write do what they say is assumed.
-use desk_text::LINE_OCTETS;
+use spec_desk::LINE_OCTETS;
 use libc::STDOUT_FILENO;
-use limits::MAX_BOOK_OCTETS;
-use limits::MAX_ISSUER_OCTETS;
-use limits::MAX_REQUEST_OCTETS;
+use spec_limits::MAX_BOOK_OCTETS;
+use spec_limits::MAX_ISSUER_OCTETS;
+use spec_limits::MAX_REQUEST_OCTETS;
 ghost use Rattle.desk.specs.Files.{Taken};
 
 // One octet more than the limit, so that a file over it is refused and not cut.

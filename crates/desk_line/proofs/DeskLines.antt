@@ -5,12 +5,12 @@ use mathlib.Core.Path.{_≡_}
 use mathlib.Core.Bool.{Bool, true, false}
 use mathlib.Core.List.{List}
 use lib.ListN.{length}
-use Rattle.buffer.specs.Buffer.{Put, filled, filledLength}
-use Rattle.buffer.proofs.Filled.{put-room}
-use Rattle.octets.specs.Octets.{text}
-use Rattle.rule.specs.declared.Judgement.{Judgement}
-use Rattle.rule.specs.Calls.{judge}
-use Rattle.desk_text.specs.Lines.{line, deskLine}
+use Rattle.text_buffer.specs.Buffer.{Put, filled, filledLength}
+use Rattle.text_buffer.proofs.Filled.{put-room}
+use Rattle.spec_octets.specs.Octets.{text}
+use Rattle.spec_rule.specs.declared.Judgement.{Judgement}
+use Rattle.spec_rule.specs.Calls.{judge}
+use Rattle.spec_desk.specs.Lines.{line, deskLine}
 
 module _ (d x : List ℕ) (n : ℕ) where
   module _ (size : length d ≡ 65) where

@@ -1,7 +1,7 @@
 // The line of the desk program, from what its files hold.
-use desk_text::LINE_OCTETS;
-ghost use Rattle.buffer.specs.Buffer.{Put};
-ghost use Rattle.desk_text.specs.Lines.{deskLine};
+use spec_desk::LINE_OCTETS;
+ghost use Rattle.text_buffer.specs.Buffer.{Put};
+ghost use Rattle.spec_desk.specs.Lines.{deskLine};
 
 // The desk's line, at the front of the lent buffer, from the request, the issuer domain name and the book, where there is a book.
 pub fn put_desk_line(
@@ -14,7 +14,7 @@ pub fn put_desk_line(
     ensures { λ r. ⌜ Put (deskLine found (now (request .entry)) (now (issuer .entry)) (now (book .entry))) (now (out .entry)) (now (out .exit)) r ⌝ }
 {
     if !found {
-        return buffer::put_octets(b"no book\n", out);
+        return text_buffer::put_octets(b"no book\n", out);
     }
-    judgement_line::put_line(verdict::judge(request, issuer, book), out)
+    desk_judgement::put_line(judge_call::judge(request, issuer, book), out)
 }

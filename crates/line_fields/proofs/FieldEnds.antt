@@ -5,8 +5,8 @@ use mathlib.Core.Path.{_≡_, sym, _∙_}
 use mathlib.Core.Bool.{Bool, true, false}
 use mathlib.Core.List.{List}
 use lib.ListN.{length, getD, drop-of-length-le}
-use Rattle.octets.specs.Octets.{isBlank}
-use Rattle.octets.proofs.Walks.{drop-step}
+use Rattle.spec_octets.specs.Octets.{isBlank}
+use Rattle.spec_octets.proofs.Walks.{drop-step}
 use Rattle.line_fields.specs.Places.{fieldEnd}
 
 module _ (s : List ℕ) (at e : ℕ) (left : fieldEnd s at ≡ fieldEnd s e) where

@@ -7,12 +7,12 @@ use mathlib.Core.List.{List, [], _∷_, _++_, append-assoc}
 use mathlib.Core.Option.{Option, none, some}
 use lib.ListN.{length, take, drop, length-append, length-drop}
 use lib.Seq.{take-at, drop-at, drop-drop}
-use Rattle.octets.specs.Octets.{isBlank, trimStart}
-use Rattle.octets.proofs.ReaderLaws.{fault-told}
-use Rattle.value.proofs.Blanks.{trimStart-takes}
-use Rattle.octets.proofs.Walks.{rest-whole}
-use Rattle.presentation.specs.Read.{field}
-use Rattle.presentation.proofs.Fields.{field-apart}
+use Rattle.spec_octets.specs.Octets.{isBlank, trimStart}
+use Rattle.spec_octets.proofs.ReaderLaws.{fault-told}
+use Rattle.spec_value.proofs.Blanks.{trimStart-takes}
+use Rattle.spec_octets.proofs.Walks.{rest-whole}
+use Rattle.spec_line.specs.Read.{field}
+use Rattle.spec_line.proofs.Fields.{field-apart}
 use Rattle.line_fields.specs.declared.FieldAt.{FieldAt}
 use Rattle.line_fields.specs.declared.FieldRead.{FieldRead}
 use Rattle.line_fields.specs.declared.FieldRead.the-variants.{Good, Fault}

@@ -4,9 +4,9 @@ use mathlib.Core.Bool.{cond}
 use mathlib.Core.List.{List, [], _∷_}
 use mathlib.Core.Option.{Option, none, some}
 use lib.ListN.{length, drop}
-use Rattle.octets.specs.Octets.{isBlank}
-use Rattle.octets.specs.Reader.{placeOf}
-use Rattle.presentation.specs.Read.{field}
+use Rattle.spec_octets.specs.Octets.{isBlank}
+use Rattle.spec_octets.specs.Reader.{placeOf}
+use Rattle.spec_line.specs.Read.{field}
 use Rattle.line_fields.specs.declared.FieldRead.{FieldRead}
 use Rattle.line_fields.specs.declared.FieldRead.the-variants.{Good as GoodField, Fault as NoField}
 

@@ -8,7 +8,7 @@ fn field_end(s: &[u8], at: usize) -> usize
 {
     let mut e: usize = at;
     while e < s.len() {
-        if ascii::is_blank(s[e]) {
+        if text_ascii::is_blank(s[e]) {
             return e;
         }
         e += 1;

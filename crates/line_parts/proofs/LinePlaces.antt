@@ -8,13 +8,13 @@ use mathlib.Core.List.{List}
 use mathlib.Core.Option.{Option, none, some}
 use lib.ListN.{length, take, drop, length-drop}
 use lib.Seq.{length-take-le}
-use Rattle.octets.specs.Decimal.{decimalOctet}
-use Rattle.octets.specs.Reader.{ifRead}
-use Rattle.presentation.specs.Read.{field, isLineTag, lineValue, propertyOf, readLine}
-use Rattle.decimal_text.specs.declared.OctetRead.{OctetRead}
-use Rattle.decimal_text.specs.declared.OctetRead.the-variants.{Good as GoodOctet, Fault as NoOctet}
-use Rattle.decimal_text.specs.Places.{decimalIn}
-use Rattle.decimal_text.proofs.DecimalWalk.{octet-there, octet-missing}
+use Rattle.spec_octets.specs.Decimal.{decimalOctet}
+use Rattle.spec_octets.specs.Reader.{ifRead}
+use Rattle.spec_line.specs.Read.{field, isLineTag, lineValue, propertyOf, readLine}
+use Rattle.text_decimal.specs.declared.OctetRead.{OctetRead}
+use Rattle.text_decimal.specs.declared.OctetRead.the-variants.{Good as GoodOctet, Fault as NoOctet}
+use Rattle.text_decimal.specs.Places.{decimalIn}
+use Rattle.text_decimal.proofs.DecimalWalk.{octet-there, octet-missing}
 use Rattle.line_fields.specs.declared.FieldAt.{FieldAt}
 use Rattle.line_fields.specs.declared.FieldRead.{FieldRead}
 use Rattle.line_fields.specs.declared.FieldRead.the-variants.{Good as GoodField, Fault as NoField}

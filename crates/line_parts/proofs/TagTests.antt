@@ -6,10 +6,10 @@ use mathlib.Core.Bool.{Bool, false, and-false}
 use mathlib.Core.List.{List, [], _∷_}
 use lib.ListN.{length}
 use borrow.Author.Tests.{le-leb, lt-leb}
-use Rattle.limits.specs.Limits.{maxTagOctets}
-use Rattle.octets.specs.Lists.{all}
-use Rattle.octets.specs.Octets.{isLetterOrDigit}
-use Rattle.presentation.specs.Read.{isLineTag}
+use Rattle.spec_limits.specs.Limits.{maxTagOctets}
+use Rattle.spec_octets.specs.Lists.{all}
+use Rattle.spec_octets.specs.Octets.{isLetterOrDigit}
+use Rattle.spec_line.specs.Read.{isLineTag}
 
 pub empty-no-tag : (t : List ℕ) → length t ≡ 0 → false ≡ isLineTag t
 unfolding isLineTag

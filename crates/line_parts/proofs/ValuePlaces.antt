@@ -10,10 +10,10 @@ use lib.Dec.{eqb}
 use lib.ListN.{length, take, drop, getD}
 use lib.Seq.{take-length}
 use borrow.Author.Tests.{eq-eqb, ne-eqb}
-use Rattle.octets.specs.Lists.{ends}
-use Rattle.text.proofs.LabelTests.{ends-at}
-use Rattle.presentation.specs.Written.{quote}
-use Rattle.presentation.specs.Read.{unescaped, isInQuotes, isBare, lineValue}
+use Rattle.spec_octets.specs.Lists.{ends}
+use Rattle.text_compare.proofs.LabelTests.{ends-at}
+use Rattle.spec_line.specs.Written.{quote}
+use Rattle.spec_line.specs.Read.{unescaped, isInQuotes, isBare, lineValue}
 use Rattle.line_unit.specs.declared.Style.the-variants.{Quoted, Bare}
 use Rattle.line_unit.specs.Places.{plainIn}
 use Rattle.line_parts.specs.declared.ValueAt.{ValueAt}

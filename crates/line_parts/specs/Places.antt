@@ -5,11 +5,11 @@ use mathlib.Core.List.{List, [], _∷_}
 use mathlib.Core.Option.{Option, none, some}
 use lib.Dec.{eqb}
 use lib.ListN.{length}
-use Rattle.octets.specs.Lists.{ends}
-use Rattle.octets.specs.Decimal.{decimalOctet}
-use Rattle.octets.specs.Reader.{ifRead, placeOf}
-use Rattle.presentation.specs.Written.{quote}
-use Rattle.presentation.specs.Read.{field, isLineTag}
+use Rattle.spec_octets.specs.Lists.{ends}
+use Rattle.spec_octets.specs.Decimal.{decimalOctet}
+use Rattle.spec_octets.specs.Reader.{ifRead, placeOf}
+use Rattle.spec_line.specs.Written.{quote}
+use Rattle.spec_line.specs.Read.{field, isLineTag}
 use Rattle.line_unit.specs.declared.Style.the-variants.{Quoted, Bare}
 use Rattle.line_parts.specs.declared.LineRead.{LineRead}
 use Rattle.line_parts.specs.declared.LineRead.the-variants.{Good as GoodLine, Fault as NoLine}

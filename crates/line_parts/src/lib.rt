@@ -1,11 +1,11 @@
 // The parts of a line by their places: its flags and tag, and what stands for its value.
-use decimal_text::OctetRead;
-use limits::MAX_TAG_OCTETS;
+use text_decimal::OctetRead;
+use spec_limits::MAX_TAG_OCTETS;
 use line_fields::FieldRead;
 use line_unit::Style;
 use text_classes::Class;
 ghost use mathlib.Core.Path.{_≡_};
-ghost use Rattle.presentation.specs.Read.{isLineTag};
+ghost use Rattle.spec_line.specs.Read.{isLineTag};
 ghost use Rattle.line_parts.specs.Places.{lineAt, valueAt};
 
 // 1 to 255 letters and digits.
@@ -42,7 +42,7 @@ pub fn read_fields(s: &[u8]) -> LineRead
         return LineRead::Fault;
     };
     let e = f.end;
-    let OctetRead::Good(flags) = decimal_text::decimal_octet(&s[..e]) else {
+    let OctetRead::Good(flags) = text_decimal::decimal_octet(&s[..e]) else {
         return LineRead::Fault;
     };
     let tag = f.next;

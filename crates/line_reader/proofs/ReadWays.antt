@@ -7,14 +7,14 @@ use mathlib.Core.Option.{Option, none, some}
 use lib.Dec.{leb}
 use lib.ListN.{length, take, drop}
 use borrow.Author.Tests.{le-leb, lt-leb, leb-true}
-use Rattle.octets.proofs.Walks.{rest-whole}
-use Rattle.limits.specs.Limits.{maxLineOctets, maxTagOctets}
-use Rattle.refusal.specs.declared.Refusal.the-variants.{BadLine, LineTooLong}
-use Rattle.octets.specs.Lists.{all, isEmpty}
-use Rattle.octets.specs.Octets.{isLetterOrDigit}
-use Rattle.presentation.specs.declared.Made.{Made}
-use Rattle.presentation.specs.Read.{unescaped, lineValue, isLineTag, readLine, propertyOf}
-use Rattle.presentation.specs.Calls.{refused, readOf, parseLine}
+use Rattle.spec_octets.proofs.Walks.{rest-whole}
+use Rattle.spec_limits.specs.Limits.{maxLineOctets, maxTagOctets}
+use Rattle.spec_refusal.specs.declared.Refusal.the-variants.{BadLine, LineTooLong}
+use Rattle.spec_octets.specs.Lists.{all, isEmpty}
+use Rattle.spec_octets.specs.Octets.{isLetterOrDigit}
+use Rattle.spec_line.specs.declared.Made.{Made}
+use Rattle.spec_line.specs.Read.{unescaped, lineValue, isLineTag, readLine, propertyOf}
+use Rattle.spec_line.specs.Calls.{refused, readOf, parseLine}
 use Rattle.line_unit.specs.Places.{plainIn}
 use Rattle.line_parts.specs.declared.LineAt.{LineAt}
 use Rattle.line_parts.specs.declared.LineRead.{LineRead}
@@ -25,7 +25,7 @@ use Rattle.line_parts.specs.declared.ValueRead.the-variants.{Good as GoodValue,
 use Rattle.line_parts.specs.Places.{lineAt, valueAt}
 use Rattle.line_parts.proofs.LinePlaces.{LineTo, line-found, no-line}
 use Rattle.line_parts.proofs.ValuePlaces.{value-there, value-missing}
-use Rattle.property_data.specs.Places.{taggedProperty, writeData}
+use Rattle.line_data.specs.Places.{taggedProperty, writeData}
 
 module _ (s : List ℕ) where
   pub line-too-long : (b : List ℕ) → 16384 < length s → parseLine s b ≡ refused LineTooLong b

@@ -1,11 +1,11 @@
 // A line of text to its CAA data: the presentation format of RFC 8659 section 4.1.1.
-use limits::MAX_LINE_OCTETS;
+use spec_limits::MAX_LINE_OCTETS;
 use line_parts::LineRead;
 use line_parts::ValueRead;
-use presentation::Made;
-use refusal::Refusal;
+use spec_line::Made;
+use spec_refusal::Refusal;
 ghost use mathlib.Core.Path.{_≡_};
-ghost use Rattle.presentation.specs.Calls.{parseLine};
+ghost use Rattle.spec_line.specs.Calls.{parseLine};
 
 // A line to its CAA data, at the front of the lent buffer; nothing is written before the room is known to be enough.
 pub fn read_line(line: &[u8], buffer: &mut [u8]) -> Made
@@ -30,5 +30,5 @@ pub fn read_line(line: &[u8], buffer: &mut [u8]) -> Made
     let first = l.tag;
     let end = l.end;
     let tag = &line[first..end];
-    property_data::write_data(l.flags, tag, units, style, buffer)
+    line_data::write_data(l.flags, tag, units, style, buffer)
 }

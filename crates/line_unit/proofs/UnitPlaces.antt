@@ -9,15 +9,15 @@ use lib.Dec.{leb}
 use lib.ListN.{length, take, drop, getD, length-drop, drop-of-length-le}
 use lib.Seq.{drop-drop}
 use borrow.Author.Tests.{le-leb, lt-leb, ne-eqb}
-use Rattle.octets.specs.Octets.{isDigit}
-use Rattle.octets.specs.Decimal.{decimalFrom, decimalOctet}
-use Rattle.octets.proofs.Walks.{drop-step}
-use Rattle.presentation.specs.Written.{backslash}
-use Rattle.presentation.specs.Read.{Unit, numbered, valueOf, threeMore, isInQuotes, isBare}
-use Rattle.decimal_text.specs.declared.OctetRead.{OctetRead}
-use Rattle.decimal_text.specs.declared.OctetRead.the-variants.{Good as GoodOctet, Fault as NoOctet}
-use Rattle.decimal_text.specs.Places.{decimalIn}
-use Rattle.decimal_text.proofs.DecimalWalk.{octet-there, octet-missing}
+use Rattle.spec_octets.specs.Octets.{isDigit}
+use Rattle.spec_octets.specs.Decimal.{decimalFrom, decimalOctet}
+use Rattle.spec_octets.proofs.Walks.{drop-step}
+use Rattle.spec_line.specs.Written.{backslash}
+use Rattle.spec_line.specs.Read.{Unit, numbered, valueOf, threeMore, isInQuotes, isBare}
+use Rattle.text_decimal.specs.declared.OctetRead.{OctetRead}
+use Rattle.text_decimal.specs.declared.OctetRead.the-variants.{Good as GoodOctet, Fault as NoOctet}
+use Rattle.text_decimal.specs.Places.{decimalIn}
+use Rattle.text_decimal.proofs.DecimalWalk.{octet-there, octet-missing}
 use Rattle.line_unit.specs.declared.Style.{Style}
 use Rattle.line_unit.specs.declared.UnitRead.{UnitRead}
 use Rattle.line_unit.specs.declared.UnitRead.the-variants.{Good, Fault}

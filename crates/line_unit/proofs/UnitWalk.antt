@@ -7,10 +7,10 @@ use mathlib.Core.List.{List, [], _∷_, _++_, append-assoc}
 use mathlib.Core.Option.{Option, none, some, Option·none-ne-some}
 use lib.ListN.{length, drop, length-append, length-drop, drop-of-length-le}
 use lib.Seq.{drop-at, drop-drop}
-use Rattle.octets.specs.Items.{Items, whole, broken, over, follow, before, items}
-use Rattle.presentation.specs.Read.{Unit, plain, quoted, numbered, valueOf, unit, values, unescaped}
-use Rattle.presentation.specs.Grammar.{wireUnit}
-use Rattle.presentation.proofs.Units.{unit-reads}
+use Rattle.spec_octets.specs.Items.{Items, whole, broken, over, follow, before, items}
+use Rattle.spec_line.specs.Read.{Unit, plain, quoted, numbered, valueOf, unit, values, unescaped}
+use Rattle.spec_line.specs.Grammar.{wireUnit}
+use Rattle.spec_line.proofs.Units.{unit-reads}
 use Rattle.line_unit.specs.declared.Style.{Style}
 use Rattle.line_unit.specs.declared.UnitAt.{UnitAt}
 use Rattle.line_unit.specs.declared.UnitRead.{UnitRead}

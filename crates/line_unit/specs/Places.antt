@@ -4,8 +4,8 @@ use mathlib.Core.Bool.{Bool}
 use mathlib.Core.List.{List}
 use mathlib.Core.Option.{Option, none, some}
 use lib.ListN.{drop}
-use Rattle.octets.specs.Reader.{placeOf}
-use Rattle.presentation.specs.Read.{Unit, valueOf, escape, unit, isInQuotes, isBare}
+use Rattle.spec_octets.specs.Reader.{placeOf}
+use Rattle.spec_line.specs.Read.{Unit, valueOf, escape, unit, isInQuotes, isBare}
 use Rattle.line_unit.specs.declared.Style.{Style}
 use Rattle.line_unit.specs.declared.Style.the-variants.{Quoted, Bare}
 use Rattle.line_unit.specs.declared.UnitRead.{UnitRead}

@@ -1,7 +1,7 @@
 // What stands for one octet of a value in a line: the octet itself, a backslash and an octet, or a backslash and three digits.
-use decimal_text::OctetRead;
+use text_decimal::OctetRead;
 ghost use mathlib.Core.Path.{_≡_};
-ghost use Rattle.presentation.specs.Read.{isInQuotes, isBare};
+ghost use Rattle.spec_line.specs.Read.{isInQuotes, isBare};
 ghost use Rattle.line_unit.specs.Places.{plainIn, escapeAt, unitAt};
 
 // How a value is written: between quotes, or bare.
@@ -72,12 +72,12 @@ fn read_escape(s: &[u8], at: usize) -> UnitRead
         return UnitRead::Fault;
     }
     let x = s[at];
-    if ascii::is_digit(x) {
+    if text_ascii::is_digit(x) {
         if s.len() - at < 3 {
             return UnitRead::Fault;
         }
         let next: usize = at + 3;
-        let OctetRead::Good(octet) = decimal_text::decimal_octet(&s[at..next]) else {
+        let OctetRead::Good(octet) = text_decimal::decimal_octet(&s[at..next]) else {
             return UnitRead::Fault;
         };
         return UnitRead::Good(UnitAt { octet, next });

@@ -7,21 +7,21 @@ use mathlib.Core.List.{List}
 use mathlib.Core.Option.{Option, none, some}
 use lib.ListN.{length, length-append}
 use borrow.Author.Tests.{le-leb, lt-leb}
-use Rattle.limits.specs.Limits.{maxDataOctets}
-use Rattle.refusal.specs.declared.Refusal.the-variants.{LineTooLong, BadData}
-use Rattle.octets.specs.Lists.{all}
-use Rattle.octets.specs.Octets.{isLetterOrDigit}
-use Rattle.property_reader.specs.Places.{propertyAt, tagIn, valueIn, tagPart, valuePart}
-use Rattle.record.specs.Property.{Property, property}
-use Rattle.property_reader.specs.declared.PropertyAt.{PropertyAt}
-use Rattle.property_reader.specs.declared.PropertyRead.{PropertyRead}
-use Rattle.property_reader.specs.declared.PropertyRead.the-variants.{Good, Fault}
-use Rattle.record.proofs.PropertyLaws.{property-is-its-parts}
-use Rattle.property_reader.proofs.PropertyPlaces.{PropertyTo, property-there, no-property}
-use Rattle.presentation.specs.declared.Made.{Made}
-use Rattle.presentation.specs.Calls.{refused, placed, writeLine}
-use Rattle.property_line.specs.Places.{lineOf, writeProperty}
-use Rattle.property_line.proofs.PropertyWays.{property-placed}
+use Rattle.spec_limits.specs.Limits.{maxDataOctets}
+use Rattle.spec_refusal.specs.declared.Refusal.the-variants.{LineTooLong, BadData}
+use Rattle.spec_octets.specs.Lists.{all}
+use Rattle.spec_octets.specs.Octets.{isLetterOrDigit}
+use Rattle.read_property.specs.Places.{propertyAt, tagIn, valueIn, tagPart, valuePart}
+use Rattle.spec_record.specs.Property.{Property, property}
+use Rattle.read_property.specs.declared.PropertyAt.{PropertyAt}
+use Rattle.read_property.specs.declared.PropertyRead.{PropertyRead}
+use Rattle.read_property.specs.declared.PropertyRead.the-variants.{Good, Fault}
+use Rattle.spec_record.proofs.PropertyLaws.{property-is-its-parts}
+use Rattle.read_property.proofs.PropertyPlaces.{PropertyTo, property-there, no-property}
+use Rattle.spec_line.specs.declared.Made.{Made}
+use Rattle.spec_line.specs.Calls.{refused, placed, writeLine}
+use Rattle.line_property.specs.Places.{lineOf, writeProperty}
+use Rattle.line_property.proofs.PropertyWays.{property-placed}
 
 module _ (d b : List ℕ) where
   pub data-too-long : 4096 < length d → writeLine d b ≡ refused LineTooLong b

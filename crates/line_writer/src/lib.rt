@@ -1,11 +1,11 @@
 // CAA data as a line of text: the presentation format of RFC 8659 section 4.1.1.
-use limits::MAX_DATA_OCTETS;
-use presentation::Made;
-use property_reader::PropertyRead;
-use refusal::Refusal;
+use spec_limits::MAX_DATA_OCTETS;
+use spec_line::Made;
+use read_property::PropertyRead;
+use spec_refusal::Refusal;
 use text_classes::Class;
 ghost use mathlib.Core.Path.{_≡_};
-ghost use Rattle.presentation.specs.Calls.{writeLine};
+ghost use Rattle.spec_line.specs.Calls.{writeLine};
 
 // CAA data to its line, at the front of the lent buffer; nothing is written before the room is known to be enough.
 pub fn write_line(d: &[u8], buffer: &mut [u8]) -> Made
@@ -15,13 +15,13 @@ pub fn write_line(d: &[u8], buffer: &mut [u8]) -> Made
     if MAX_DATA_OCTETS < d.len() {
         return Made::Refused(Refusal::LineTooLong);
     }
-    let PropertyRead::Good(p) = property_reader::read_property(d) else {
+    let PropertyRead::Good(p) = read_property::read_property(d) else {
         return Made::Refused(Refusal::BadData);
     };
-    let tag = property_reader::tag_part(d);
+    let tag = read_property::tag_part(d);
     if !text_classes::all_of(tag, Class::LetterOrDigit) {
         return Made::Refused(Refusal::BadData);
     }
-    let value = property_reader::value_part(d);
-    property_line::write_property(p.flags, tag, value, buffer)
+    let value = read_property::value_part(d);
+    line_property::write_property(p.flags, tag, value, buffer)
 }

@@ -1,11 +1,11 @@
 -- Each case of what writing and reading a line answer, packed.
 use Prim.Native.Nat.{ℕ}
 use mathlib.Core.Path.{_≡_}
-use Rattle.refusal.specs.declared.Refusal.{Refusal}
-use Rattle.packed.specs.Packed.{packed, packedRefusal}
-use Rattle.presentation.specs.declared.Made.{Made}
-use Rattle.presentation.specs.declared.Made.the-variants.{Length, Refused}
-use Rattle.answers.specs.LineAnswers.{madeTold, packedMade}
+use Rattle.spec_refusal.specs.declared.Refusal.{Refusal}
+use Rattle.spec_packed.specs.Packed.{packed, packedRefusal}
+use Rattle.spec_line.specs.declared.Made.{Made}
+use Rattle.spec_line.specs.declared.Made.the-variants.{Length, Refused}
+use Rattle.spec_answers.specs.LineAnswers.{madeTold, packedMade}
 
 module _ (r : ℕ) (m : Made) where
   pub length-packed : (n : ℕ) → r ≡ packed 0 n 0 0 → m ≡ Length n → r ≡ packedMade m

@@ -1,12 +1,12 @@
 -- Each case of what the call that lists the permitted issuers answers, packed.
 use Prim.Native.Nat.{ℕ}
 use mathlib.Core.Path.{_≡_}
-use Rattle.refusal.specs.declared.Refusal.{Refusal}
-use Rattle.packed.specs.Packed.{packed, packedRefusal}
-use Rattle.rule.specs.declared.PermittedIssuers.{PermittedIssuers}
-use Rattle.rule.specs.declared.PermittedIssuers.the-variants.{Anyone, Listed, Refused}
-use Rattle.rule.specs.Calls.{permittedIssuersTold}
-use Rattle.answers.specs.ListAnswers.{packedIssuers}
+use Rattle.spec_refusal.specs.declared.Refusal.{Refusal}
+use Rattle.spec_packed.specs.Packed.{packed, packedRefusal}
+use Rattle.spec_rule.specs.declared.PermittedIssuers.{PermittedIssuers}
+use Rattle.spec_rule.specs.declared.PermittedIssuers.the-variants.{Anyone, Listed, Refused}
+use Rattle.spec_rule.specs.Calls.{permittedIssuersTold}
+use Rattle.spec_answers.specs.ListAnswers.{packedIssuers}
 
 module _ (x j : PermittedIssuers) (is : x ≡ j) (r : ℕ) where
   pub anyone-packed : r ≡ packed 30 0 0 0 → x ≡ Anyone → r ≡ packedIssuers j

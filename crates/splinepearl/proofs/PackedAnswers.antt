@@ -1,13 +1,13 @@
 -- Each case of a judgement, packed.
 use Prim.Native.Nat.{ℕ}
 use mathlib.Core.Path.{_≡_, refl}
-use Rattle.refusal.specs.declared.Refusal.{Refusal}
-use Rattle.packed.specs.Packed.{packed, packedRefusal}
-use Rattle.rule.specs.declared.Denial.{Denial}
-use Rattle.rule.specs.declared.Judgement.{Judgement}
-use Rattle.rule.specs.declared.Judgement.the-variants.{Permitted, UnknownCritical, NotGranted, Refused}
-use Rattle.rule.specs.Calls.{judgementTold}
-use Rattle.answers.specs.Answers.{packedJudgement}
+use Rattle.spec_refusal.specs.declared.Refusal.{Refusal}
+use Rattle.spec_packed.specs.Packed.{packed, packedRefusal}
+use Rattle.spec_rule.specs.declared.Denial.{Denial}
+use Rattle.spec_rule.specs.declared.Judgement.{Judgement}
+use Rattle.spec_rule.specs.declared.Judgement.the-variants.{Permitted, UnknownCritical, NotGranted, Refused}
+use Rattle.spec_rule.specs.Calls.{judgementTold}
+use Rattle.spec_answers.specs.Answers.{packedJudgement}
 
 module _ (x j : Judgement) (is : x ≡ j) where
   pub permitted-packed : x ≡ Permitted → 0 ≡ packedJudgement j

@@ -1,32 +1,32 @@
 // The calls for C and Rust. Each answers one number of 64 bits: the answer's number in bits 0 to 7, and fields behind it.
-use presentation::Made;
-use rule::Judgement;
-use rule::PermittedIssuers;
+use spec_line::Made;
+use spec_rule::Judgement;
+use spec_rule::PermittedIssuers;
 ghost use mathlib.Core.Path.{_≡_};
-ghost use Rattle.presentation.specs.Calls.{writeLine, parseLine};
-ghost use Rattle.rule.specs.Calls.{judge, listIssuers};
-ghost use Rattle.answers.specs.Answers.{packedJudgement};
-ghost use Rattle.answers.specs.ListAnswers.{packedIssuers};
-ghost use Rattle.answers.specs.LineAnswers.{packedMade};
+ghost use Rattle.spec_line.specs.Calls.{writeLine, parseLine};
+ghost use Rattle.spec_rule.specs.Calls.{judge, listIssuers};
+ghost use Rattle.spec_answers.specs.Answers.{packedJudgement};
+ghost use Rattle.spec_answers.specs.ListAnswers.{packedIssuers};
+ghost use Rattle.spec_answers.specs.LineAnswers.{packedMade};
 
 // May this issuer sign? 0 permitted; 20 and 21 with the name's number in a and the record's in b; a refusal with its place in a.
 #[no_mangle]
 pub extern "C" fn caa_judge(request: &[u8], issuer: &[u8], book: &[u8]) -> u64
     ensures { λ r. ⌜ r ≡ packedJudgement (judge (now (request .entry)) (now (issuer .entry)) (now (book .entry))) ⌝ }
 {
-    match verdict::judge(request, issuer, book) {
+    match judge_call::judge(request, issuer, book) {
         Judgement::Permitted => 0,
         Judgement::UnknownCritical(d) => {
             let name = d.name;
             let rr = d.rr;
-            packed::pack(20, name.0 as u64, rr.0 as u64, 0)
+            spec_packed::pack(20, name.0 as u64, rr.0 as u64, 0)
         }
         Judgement::NotGranted(d) => {
             let name = d.name;
             let rr = d.rr;
-            packed::pack(21, name.0 as u64, rr.0 as u64, 0)
+            spec_packed::pack(21, name.0 as u64, rr.0 as u64, 0)
         }
-        Judgement::Refused(r) => packed::pack_refusal(r),
+        Judgement::Refused(r) => spec_packed::pack_refusal(r),
     }
 }
 
@@ -37,15 +37,15 @@ pub extern "C" fn caa_permitted_issuers(request: &[u8], book: &[u8], buffer: &mu
     ensures answer { λ r. ⌜ r ≡ packedIssuers (listIssuers (now (request .entry)) (now (book .entry)) (now (buffer .entry)) .answer) ⌝ }
     ensures octets { λ r. ⌜ now (buffer .exit) ≡ listIssuers (now (request .entry)) (now (book .entry)) (now (buffer .entry)) .buffer ⌝ }
 {
-    match issuers::permitted_issuers(request, book, buffer) {
-        PermittedIssuers::Anyone => packed::pack(30, 0, 0, 0),
-        PermittedIssuers::Listed { count, octets } => packed::pack(
+    match list_call::permitted_issuers(request, book, buffer) {
+        PermittedIssuers::Anyone => spec_packed::pack(30, 0, 0, 0),
+        PermittedIssuers::Listed { count, octets } => spec_packed::pack(
             31,
             octets as u64,
             count as u64,
             0,
         ),
-        PermittedIssuers::Refused(r) => packed::pack_refusal(r),
+        PermittedIssuers::Refused(r) => spec_packed::pack_refusal(r),
     }
 }
 
@@ -54,8 +54,8 @@ fn pack_made(m: Made) -> u64
     ensures { λ r. ⌜ r ≡ packedMade m ⌝ }
 {
     match m {
-        Made::Length(n) => packed::pack(0, n as u64, 0, 0),
-        Made::Refused(r) => packed::pack_refusal(r),
+        Made::Length(n) => spec_packed::pack(0, n as u64, 0, 0),
+        Made::Refused(r) => spec_packed::pack_refusal(r),
     }
 }
 

@@ -1,8 +1,8 @@
 // Texts by the class of their octets: whether all are of one, and without the blanks at either end.
 ghost use mathlib.Core.Path.{_≡_};
-ghost use Rattle.octets.specs.Lists.{all};
-ghost use Rattle.octets.specs.Octets.{trimStart};
-ghost use Rattle.value.specs.IssueValues.{trimEnd, isParameterOctet};
+ghost use Rattle.spec_octets.specs.Lists.{all};
+ghost use Rattle.spec_octets.specs.Octets.{trimStart};
+ghost use Rattle.spec_value.specs.IssueValues.{trimEnd, isParameterOctet};
 ghost use Rattle.text_classes.specs.Classes.{inClass};
 
 // Classes of octets that a label, a tag, a value or the blanks around them are made of.
@@ -31,9 +31,9 @@ fn is_in(b: u8, class: Class) -> bool
     ensures { λ r. ⌜ r ≡ inClass class b ⌝ }
 {
     match class {
-        Class::Blank => ascii::is_blank(b),
-        Class::LetterOrDigit => ascii::is_letter_or_digit(b),
-        Class::LetterDigitHyphen => ascii::is_letter_digit_hyphen(b),
+        Class::Blank => text_ascii::is_blank(b),
+        Class::LetterOrDigit => text_ascii::is_letter_or_digit(b),
+        Class::LetterDigitHyphen => text_ascii::is_letter_digit_hyphen(b),
         Class::ParameterOctet => is_parameter_octet(b),
     }
 }
@@ -58,7 +58,7 @@ pub fn trim_start(s: &[u8]) -> &[u8]
 {
     let mut t = s;
     while 0 < t.len() {
-        if !ascii::is_blank(t[0]) {
+        if !text_ascii::is_blank(t[0]) {
             return t;
         }
         t = &t[1..];
@@ -73,7 +73,7 @@ pub fn trim_end(s: &[u8]) -> &[u8]
     let mut t = s;
     while 0 < t.len() {
         let last = t.len() - 1;
-        if !ascii::is_blank(t[last]) {
+        if !text_ascii::is_blank(t[last]) {
             return t;
         }
         t = &t[..last];

@@ -1,8 +1,8 @@
 -- `read_line` meets its contract: a law of parseLine for each way out.
 use borrow.Author.Needs.{needs}
-use Rattle.refusal.specs.declared.Refusal.the-variants.{BadLine, LineTooLong}
-use Rattle.presentation.specs.Calls.{refused, parseLine}
-use Rattle.presentation.proofs.Placed.{told}
+use Rattle.spec_refusal.specs.declared.Refusal.the-variants.{BadLine, LineTooLong}
+use Rattle.spec_line.specs.Calls.{refused, parseLine}
+use Rattle.spec_line.proofs.Placed.{told}
 use Rattle.line_parts.proofs.ValuePlaces.{value-starts, value-inside}
 use Rattle.line_reader.proofs.ReadWays.{line-too-long, wrong-fields, tag-starts, tag-ends, value-begins, wrong-value, passed-answer, passed-octets}
 use Rattle.line_reader.proofs.read_line.Statement.{statement}

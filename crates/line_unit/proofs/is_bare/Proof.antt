@@ -1,7 +1,7 @@
 -- `is_bare` meets its contract.
 use borrow.Author.Needs.{needs}
-use Rattle.octets.proofs.Tests.{tests}
-use Rattle.presentation.specs.Read.{isBare}
+use Rattle.spec_octets.proofs.Tests.{tests}
+use Rattle.spec_line.specs.Read.{isBare}
 use Rattle.line_unit.proofs.UnitPlaces.{bare-in-quotes}
 use Rattle.line_unit.proofs.is_bare.Statement.{statement}
 use Rattle.line_unit.proofs.is_bare.Tie as tie

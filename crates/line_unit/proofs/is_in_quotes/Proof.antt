@@ -1,7 +1,7 @@
 -- `is_in_quotes` meets its contract.
 use borrow.Author.Needs.{needs}
-use Rattle.octets.proofs.Tests.{tests}
-use Rattle.presentation.specs.Read.{isInQuotes}
+use Rattle.spec_octets.proofs.Tests.{tests}
+use Rattle.spec_line.specs.Read.{isInQuotes}
 use Rattle.line_unit.proofs.is_in_quotes.Statement.{statement}
 use Rattle.line_unit.proofs.is_in_quotes.Tie as tie
 

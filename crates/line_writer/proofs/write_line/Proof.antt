@@ -1,9 +1,9 @@
 -- `write_line` meets its contract: a law of writeLine for each way out.
 use borrow.Author.Needs.{needs}
 use borrow.Author.Tests.{not-true, not-false}
-use Rattle.refusal.specs.declared.Refusal.the-variants.{LineTooLong, BadData}
-use Rattle.presentation.specs.Calls.{refused, writeLine}
-use Rattle.presentation.proofs.Placed.{told}
+use Rattle.spec_refusal.specs.declared.Refusal.the-variants.{LineTooLong, BadData}
+use Rattle.spec_line.specs.Calls.{refused, writeLine}
+use Rattle.spec_line.proofs.Placed.{told}
 use Rattle.line_writer.proofs.WriteWays.{data-too-long, no-data, not-plain, passed-answer, passed-octets}
 use Rattle.line_writer.proofs.write_line.Statement.{statement}
 use Rattle.line_writer.proofs.write_line.Tie as tie

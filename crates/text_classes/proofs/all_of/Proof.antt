@@ -4,8 +4,8 @@ use mathlib.Core.Path.{_≡_, sym}
 use lib.ListN.{length, drop}
 use borrow.Author.Needs.{needs}
 use borrow.Author.Tests.{not-true, not-false}
-use Rattle.octets.specs.Lists.{all}
-use Rattle.octets.proofs.Walks.{all-turn, all-stop, all-end}
+use Rattle.spec_octets.specs.Lists.{all}
+use Rattle.spec_octets.proofs.Walks.{all-turn, all-stop, all-end}
 use Rattle.text_classes.specs.Classes.{inClass}
 use Rattle.text_classes.proofs.all_of.Statement.{statement}
 use Rattle.text_classes.proofs.all_of.Tie as tie

@@ -3,7 +3,7 @@ use mathlib.Core.Path.{_≡_}
 use lib.ListN.{length}
 use borrow.Author.Needs.{needs}
 use borrow.Author.Tests.{not-true, not-false}
-use Rattle.octets.specs.Octets.{trimStart}
+use Rattle.spec_octets.specs.Octets.{trimStart}
 use Rattle.text_classes.proofs.TrimWalk.{start-less, start-turn, start-stop, start-end}
 use Rattle.text_classes.proofs.trim_start.Statement.{statement}
 use Rattle.text_classes.proofs.trim_start.Tie as tie

@@ -1,6 +1,0 @@
--- The values of an answer stand in their order.
-use mathlib.Core.Path.{refl}
-use Rattle.answers.specs.Theorems.{Values-in-order}
-
-pub values-in-order : Values-in-order
-values-in-order = (λ n a b. (refl, refl), λ n a. (refl, refl), λ n. (refl, refl))

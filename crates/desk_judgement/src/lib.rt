@@ -1,0 +1,57 @@
+// The line of a judgement, put at the front of a lent buffer.
+use spec_desk::LINE_OCTETS;
+use spec_rule::Denial;
+use spec_rule::Judgement;
+ghost use mathlib.Core.List.{_++_, _∷_, []};
+ghost use Prim.Native.Nat.{_+_, _≤_};
+ghost use lib.ListN.{length};
+ghost use Rattle.text_buffer.specs.Buffer.{Put};
+ghost use Rattle.spec_octets.specs.WrittenDecimal.{decimal};
+ghost use Rattle.spec_desk.specs.Lines.{lineEnd, numbered, denialText, line};
+
+// A text and a number.
+fn put_number(first: &[u8], n: u64, out: &mut [u8]) -> usize
+    requires { ⌜ length (now first) + 20 ≤ length (now out) ⌝ }
+    ensures { λ r. ⌜ Put (now (first .entry) ++ decimal n) (now (out .entry)) (now (out .exit)) r ⌝ }
+    ensures few { λ r. ⌜ r ≤ length (now (first .entry)) + 20 ⌝ }
+{
+    let w = text_buffer::put_octets(first, out);
+    w + text_decimal::put_decimal(n, &mut out[w..])
+}
+
+// A line of a text, a number, a text and a number.
+fn put_numbered(first: &[u8], a: u64, second: &[u8], b: u64, out: &mut [u8]) -> usize
+    requires { ⌜ length (now first) + length (now second) + 41 ≤ length (now out) ⌝ }
+    ensures { λ r. ⌜ Put (numbered (now (first .entry)) a (now (second .entry)) b ++ (lineEnd ∷ [])) (now (out .entry)) (now (out .exit)) r ⌝ }
+{
+    let w = put_number(first, a, out);
+    let e = w + put_number(second, b, &mut out[w..]);
+    out[e] = 10;
+    e + 1
+}
+
+// The line of a denial, from its first words on.
+fn put_denial(first: &[u8], d: Denial, out: &mut [u8]) -> usize
+    requires { ⌜ length (now first) + 49 ≤ length (now out) ⌝ }
+    ensures { λ r. ⌜ Put (denialText (now (first .entry)) d ++ (lineEnd ∷ [])) (now (out .entry)) (now (out .exit)) r ⌝ }
+{
+    let name = d.name;
+    let rr = d.rr;
+    put_numbered(first, name.0 as u64, b" record ", rr.0 as u64, out)
+}
+
+// The line of a judgement.
+pub fn put_line(j: Judgement, out: &mut [u8; LINE_OCTETS]) -> usize
+    ensures { λ r. ⌜ Put (line j) (now (out .entry)) (now (out .exit)) r ⌝ }
+{
+    match j {
+        Judgement::Permitted => text_buffer::put_octets(b"verdict 0\n", out),
+        Judgement::UnknownCritical(d) => put_denial(b"verdict 20 name ", d, out),
+        Judgement::NotGranted(d) => put_denial(b"verdict 21 name ", d, out),
+        Judgement::Refused(r) => {
+            let number = spec_refusal::number_of(r);
+            let place = spec_refusal::place_of(r) as u64;
+            put_numbered(b"refused ", number, b" at ", place, out)
+        }
+    }
+}

@@ -1,8 +1,0 @@
--- The limits, by computing.
-use mathlib.Core.Path.{refl}
-use Rattle.limits.specs.Limits.{maxLabelOctets, maxNameOctets, maxIssuerOctets, maxRequestOctets, maxNames, maxBookOctets, maxRecords, maxDataOctets, maxLineOctets, maxTagOctets}
-use Rattle.limits.specs.Theorems.{Limits-printed}
-
-pub limits-printed : Limits-printed
-unfolding maxLabelOctets maxNameOctets maxIssuerOctets maxRequestOctets maxNames maxBookOctets maxRecords maxDataOctets maxLineOctets maxTagOctets
-limits-printed = (refl, refl, refl, refl, refl, refl, refl, refl, refl, refl)

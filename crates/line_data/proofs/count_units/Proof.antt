@@ -1,0 +1,57 @@
+-- `count_units` meets its contract. The loop's invariant: the count so far and the units left give the answer.
+use Prim.Native.Nat.{_-_}
+use lib.ListN.{length}
+use borrow.Author.Needs.{needs}
+use Rattle.line_unit.proofs.UnitWalk.{unit-less}
+use Rattle.line_data.proofs.UnitLoops.{Counted, count-start, count-fault, count-turn, count-end}
+use Rattle.line_data.proofs.count_units.Statement.{statement}
+use Rattle.line_data.proofs.count_units.Tie as tie
+
+abbrev Inv-loop : tie.InvT-loop
+Inv-loop s style at₀ n₀ at n = Counted style s at n
+
+abbrev μ-loop : tie.MeasureT-loop
+μ-loop s style at₀ n₀ at n = length s - at
+
+loop-holds : tie.Need-loop-holds Inv-loop μ-loop
+loop-holds c = search (needs, count-start)
+
+read-unit-requires : tie.Need-read-unit-requires Inv-loop μ-loop
+read-unit-requires c κs = search needs
+
+enum-known-u : tie.Need-enum-known-u Inv-loop μ-loop
+enum-known-u c = search needs
+
+enum-told : tie.Need-enum-told Inv-loop μ-loop
+enum-told c = search needs
+
+returns : tie.Need-returns Inv-loop μ-loop
+returns c = search (needs, count-fault)
+
+add-n : tie.Need-add-n Inv-loop μ-loop
+add-n c = search needs
+
+loop-less : tie.Need-loop-less Inv-loop μ-loop
+loop-less c = search (needs, unit-less)
+
+loop-again : tie.Need-loop-again Inv-loop μ-loop
+loop-again c = search (needs, count-turn)
+
+returns-2 : tie.Need-returns-2 Inv-loop μ-loop
+returns-2 c = search (needs, count-end)
+
+pub count-units-spec : {M : Type 1} → statement M
+count-units-spec =
+    tie.close
+    (tie.spec
+    Inv-loop
+    μ-loop
+    loop-holds
+    read-unit-requires
+    enum-known-u
+    enum-told
+    returns
+    add-n
+    loop-less
+    loop-again
+    returns-2)

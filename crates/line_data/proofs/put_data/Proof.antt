@@ -1,0 +1,42 @@
+-- `put_data` meets its contract.
+use borrow.Author.Needs.{needs}
+use Rattle.line_data.proofs.DataParts.{head-room, value-from, value-room, data-fits, data-put}
+use Rattle.line_data.proofs.put_data.Statement.{statement}
+use Rattle.line_data.proofs.put_data.Tie as tie
+
+put-tag-requires : tie.Need-put-tag-requires
+put-tag-requires c κs = search (needs, head-room)
+
+sub-put-units : tie.Need-sub-put-units
+sub-put-units c = search (needs, value-from)
+
+part-put-units-start : tie.Need-part-put-units-start
+part-put-units-start c = search (needs, value-from)
+
+part-put-units-end : tie.Need-part-put-units-end
+part-put-units-end c = search needs
+
+put-units-requires : tie.Need-put-units-requires
+put-units-requires c κs = search (needs, value-room)
+
+add-result : tie.Need-add-result
+add-result c = search (needs, data-fits)
+
+same-length : tie.Need-same-length
+same-length c = search needs
+
+returns : tie.Need-returns
+returns c = search (needs, data-put)
+
+pub put-data-spec : {M : Type 1} → statement M
+put-data-spec =
+    tie.close
+    (tie.spec
+    put-tag-requires
+    sub-put-units
+    part-put-units-start
+    part-put-units-end
+    put-units-requires
+    add-result
+    same-length
+    returns)

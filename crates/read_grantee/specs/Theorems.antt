@@ -1,0 +1,18 @@
+-- What the definitions of this crate mean. Each statement is proved under its name in proofs/.
+use Prim.Native.Nat.{ℕ}
+use mathlib.Core.Path.{_≡_}
+use mathlib.Core.List.{List}
+use mathlib.Core.Option.{none, some}
+use Rattle.spec_record.specs.Property.{property}
+use Rattle.spec_rule.specs.RelevantSet.{CaaRecord}
+use Rattle.spec_rule.specs.Authorizations.{grantee}
+use Rattle.read_grantee.specs.Places.{granteeOfData, granteeAt, granteeThere}
+
+-- data grants whom a record that holds it grants by the rule
+abbrev pub Grantee-of-data : Type 0
+Grantee-of-data =
+    (d : List ℕ) → ((c : CaaRecord) → property d ≡ some (c .property) → granteeOfData d ≡ grantee c) × (property d ≡ none → granteeOfData d ≡ none)
+
+-- the issuer found by place is that one
+abbrev pub Grantee-by-place : Type 0
+Grantee-by-place = (d : List ℕ) → granteeThere d (granteeAt d) ≡ granteeOfData d

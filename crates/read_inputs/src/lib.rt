@@ -1,0 +1,31 @@
+// The inputs of a call, checked in their order: the first refusal is the answer.
+use spec_refusal::Check;
+ghost use mathlib.Core.Path.{_≡_};
+ghost use mathlib.Core.List.{[], _∷_};
+ghost use Rattle.spec_refusal.specs.Checks.{checked};
+ghost use Rattle.spec_request.specs.Request.{requestRefusal};
+ghost use Rattle.spec_record.specs.Records.{bookRefusal};
+ghost use Rattle.spec_rule.specs.Calls.{firstRefusal, judgeChecks};
+
+// What the call that judges is handed.
+pub fn check_inputs(request: &[u8], issuer: &[u8], book: &[u8]) -> Check
+    ensures { λ r. ⌜ r ≡ checked (firstRefusal (judgeChecks (now (request .entry)) (now (issuer .entry)) (now (book .entry)))) ⌝ }
+{
+    if let Check::Refused(r) = read_request::check_request(request) {
+        return Check::Refused(r);
+    }
+    if let Check::Refused(r) = read_issuer::check_issuer(issuer) {
+        return Check::Refused(r);
+    }
+    read_record::check_book(book)
+}
+
+// What the call that lists is handed, but for the room of its buffer.
+pub fn check_request_and_book(request: &[u8], book: &[u8]) -> Check
+    ensures { λ r. ⌜ r ≡ checked (firstRefusal (requestRefusal (now (request .entry)) ∷ bookRefusal (now (book .entry)) ∷ [])) ⌝ }
+{
+    match read_request::check_request(request) {
+        Check::Refused(r) => Check::Refused(r),
+        Check::Accepted => read_record::check_book(book),
+    }
+}

@@ -1,0 +1,11 @@
+-- Parameters by their text.
+use Prim.Native.Nat.{ℕ}
+use Prim.Native.Char.{code}
+use mathlib.Core.Bool.{Bool}
+use mathlib.Core.List.{List}
+use Rattle.spec_octets.specs.Pieces.{split}
+use Rattle.spec_value.specs.IssueValues.{areParameters}
+
+-- what stands behind the first semicolon
+abbrev pub areParametersIn : List ℕ → Bool
+areParametersIn s = areParameters (split (code ";") s)

@@ -1,0 +1,30 @@
+-- Definitions by place, for code that walks a slice: each is a value definition at what is left of the slice from a place on.
+use Prim.Native.Nat.{ℕ, _+_}
+use mathlib.Core.List.{List, []}
+use mathlib.Core.Option.{Option, none, some}
+use lib.ListN.{length}
+use Rattle.spec_record.specs.Property.{Property, property}
+use Rattle.read_property.specs.declared.PropertyRead.{PropertyRead}
+use Rattle.read_property.specs.declared.PropertyRead.the-variants.{Good, Fault}
+
+-- the property of CAA data: behind flags and tag length stand the tag and then the value
+abbrev pub propertyPlaces : Option Property → PropertyRead
+propertyPlaces none = Fault
+propertyPlaces (some p) = Good (record { flags = p .flags; value = 2 + length (p .tag) })
+
+unfoldable pub propertyAt : List ℕ → PropertyRead
+propertyAt d = propertyPlaces (property d)
+
+abbrev pub tagIn : Option Property → List ℕ
+tagIn none = []
+tagIn (some p) = p .tag
+
+unfoldable pub tagPart : List ℕ → List ℕ
+tagPart d = tagIn (property d)
+
+abbrev pub valueIn : Option Property → List ℕ
+valueIn none = []
+valueIn (some p) = p .value
+
+unfoldable pub valuePart : List ℕ → List ℕ
+valuePart d = valueIn (property d)

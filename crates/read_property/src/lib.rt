@@ -1,0 +1,71 @@
+// CAA data: its property, tag and value.
+use spec_record::PropertyTag;
+ghost use mathlib.Core.Path.{_≡_};
+ghost use Rattle.spec_record.specs.Property.{tagOf};
+ghost use Rattle.read_property.specs.Places.{propertyAt, tagPart, valuePart};
+
+pub fn tag_of(t: &[u8]) -> PropertyTag
+    ensures { λ r. ⌜ r ≡ tagOf (now (t .entry)) ⌝ }
+{
+    if text_compare::same_ignoring_case(t, b"issue") {
+        return PropertyTag::Issue;
+    }
+    if text_compare::same_ignoring_case(t, b"issuewild") {
+        return PropertyTag::IssueWild;
+    }
+    if text_compare::same_ignoring_case(t, b"iodef") {
+        return PropertyTag::Iodef;
+    }
+    PropertyTag::Unknown
+}
+
+// The property of CAA data: its flags, and where its value begins; the tag stands from 2 to there.
+pub struct PropertyAt {
+    pub flags: u8,
+    pub value: usize,
+}
+
+pub enum PropertyRead {
+    Good(PropertyAt),
+    Fault,
+}
+
+pub fn read_property(d: &[u8]) -> PropertyRead
+    ensures { λ r. ⌜ r ≡ propertyAt (now (d .entry)) ⌝ }
+{
+    if d.len() < 2 {
+        return PropertyRead::Fault;
+    }
+    let n = d[1] as usize;
+    if n == 0 {
+        return PropertyRead::Fault;
+    }
+    if d.len() - 2 < n {
+        return PropertyRead::Fault;
+    }
+    PropertyRead::Good(PropertyAt {
+        flags: d[0],
+        value: 2 + n,
+    })
+}
+
+// The tag and the value of CAA data as parts of it; empty where it is laid out wrongly.
+pub fn tag_part(d: &[u8]) -> &[u8]
+    ensures { λ r. ⌜ now r ≡ tagPart (now (d .entry)) ⌝ }
+{
+    let PropertyRead::Good(p) = read_property(d) else {
+        return &d[0..0];
+    };
+    let e = p.value;
+    &d[2..e]
+}
+
+pub fn value_part(d: &[u8]) -> &[u8]
+    ensures { λ r. ⌜ now r ≡ valuePart (now (d .entry)) ⌝ }
+{
+    let PropertyRead::Good(p) = read_property(d) else {
+        return &d[0..0];
+    };
+    let at = p.value;
+    &d[at..]
+}

@@ -1,0 +1,71 @@
+-- `check_book` meets its contract. The loop's invariant: k records are read, and the next begins at `at`.
+use Prim.Native.Nat.{_-_}
+use lib.ListN.{length}
+use borrow.Author.Needs.{needs}
+use Rattle.spec_limits.specs.Limits.{maxBookOctets, maxRecords}
+use Rattle.read_record.proofs.BookWalk.{BookRead, book-too-long, book-start, book-whole, too-many-records, bad-record, record-passed, less-left}
+use Rattle.read_record.proofs.check_book.Statement.{statement}
+use Rattle.read_record.proofs.check_book.Tie as tie
+
+abbrev Inv-loop : tie.InvT-loop
+Inv-loop b at₀ k₀ at k = BookRead b k at
+
+abbrev μ-loop : tie.MeasureT-loop
+μ-loop b at₀ k₀ at k = length b - at
+
+returns : tie.Need-returns Inv-loop μ-loop
+unfolding maxBookOctets
+returns c = search (needs, book-too-long)
+
+loop-holds : tie.Need-loop-holds Inv-loop μ-loop
+loop-holds c = search (needs, book-start)
+
+returns-2 : tie.Need-returns-2 Inv-loop μ-loop
+unfolding maxBookOctets maxRecords
+returns-2 c = search (needs, too-many-records)
+
+read-record-requires : tie.Need-read-record-requires Inv-loop μ-loop
+read-record-requires c κs = search needs
+
+enum-known-r : tie.Need-enum-known-r Inv-loop μ-loop
+enum-known-r c = search needs
+
+enum-told : tie.Need-enum-told Inv-loop μ-loop
+enum-told c = search needs
+
+returns-3 : tie.Need-returns-3 Inv-loop μ-loop
+unfolding maxBookOctets maxRecords
+returns-3 c = search (needs, bad-record)
+
+add-k : tie.Need-add-k Inv-loop μ-loop
+unfolding maxRecords
+add-k c = search needs
+
+loop-less : tie.Need-loop-less Inv-loop μ-loop
+loop-less c = search (needs, less-left)
+
+loop-again : tie.Need-loop-again Inv-loop μ-loop
+unfolding maxRecords
+loop-again c = search (needs, record-passed)
+
+returns-4 : tie.Need-returns-4 Inv-loop μ-loop
+unfolding maxBookOctets
+returns-4 c = search (needs, book-whole)
+
+pub check-book-spec : {M : Type 1} → statement M
+check-book-spec =
+    tie.close
+    (tie.spec
+    Inv-loop
+    μ-loop
+    returns
+    loop-holds
+    returns-2
+    read-record-requires
+    enum-known-r
+    enum-told
+    returns-3
+    add-k
+    loop-less
+    loop-again
+    returns-4)

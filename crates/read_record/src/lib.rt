@@ -1,0 +1,115 @@
+// Resource records: one at a place, and the check of a whole book.
+use spec_limits::MAX_BOOK_OCTETS;
+use spec_limits::MAX_RECORDS;
+use read_name::NameEnd;
+use read_property::PropertyRead;
+use spec_refusal::Check;
+use spec_refusal::RecordNo;
+use spec_refusal::Refusal;
+ghost use mathlib.Core.Path.{_≡_};
+ghost use Prim.Native.Nat.{_+_, _≤_};
+ghost use lib.ListN.{length, take, drop};
+ghost use Rattle.spec_refusal.specs.Checks.{checked};
+ghost use Rattle.spec_octets.specs.Reader.{valueFrom};
+ghost use Rattle.spec_record.specs.Records.{isCaa, isLaidOut, bookRefusal};
+ghost use Rattle.read_record.specs.Places.{recordAt};
+
+// Class 1 with type 257 is a CAA record.
+pub fn is_caa(rtype: usize, class: usize) -> bool
+    ensures { λ r. ⌜ r ≡ isCaa rtype class ⌝ }
+{
+    if rtype == 257 {
+        return class == 1;
+    }
+    false
+}
+
+// Whether data is laid out rightly, by type and class.
+fn is_laid_out(rtype: usize, class: usize, d: &[u8]) -> bool
+    ensures { λ r. ⌜ r ≡ isLaidOut rtype class (now (d .entry)) ⌝ }
+{
+    if !is_caa(rtype, class) {
+        return true;
+    }
+    let PropertyRead::Good(_) = read_property::read_property(d) else {
+        return false;
+    };
+    true
+}
+
+// A number of two octets, the high one first.
+fn two_octets(s: &[u8], at: usize) -> usize
+    requires { ⌜ at + 2 ≤ length (now s) ⌝ }
+    ensures { λ r. ⌜ r ≡ valueFrom 0 (take 2 (drop at (now (s .entry)))) ⌝ }
+{
+    let high = s[at] as usize;
+    let next = at + 1;
+    let low = s[next] as usize;
+    high * 256 + low
+}
+
+// A record by its places: where its owner ends and the type begins, the type, the class, where its data begins and ends.
+pub struct RecordAt {
+    pub fixed: usize,
+    pub rtype: usize,
+    pub class: usize,
+    pub rdata: usize,
+    pub next: usize,
+}
+
+pub enum RecordRead {
+    Good(RecordAt),
+    Fault,
+}
+
+// The record that begins at a place.
+pub fn read_record(s: &[u8], at: usize) -> RecordRead
+    ensures { λ r. ⌜ r ≡ recordAt (now (s .entry)) at ⌝ }
+{
+    let NameEnd::At(fixed) = read_name::name_end(s, at) else {
+        return RecordRead::Fault;
+    };
+    if s.len() - fixed < 10 {
+        return RecordRead::Fault;
+    }
+    let rtype = two_octets(s, fixed);
+    let class = two_octets(s, fixed + 2);
+    let n = two_octets(s, fixed + 8);
+    let rdata = fixed + 10;
+    if s.len() - rdata < n {
+        return RecordRead::Fault;
+    }
+    let next = rdata + n;
+    if !is_laid_out(rtype, class, &s[rdata..next]) {
+        return RecordRead::Fault;
+    }
+    RecordRead::Good(RecordAt {
+        fixed,
+        rtype,
+        class,
+        rdata,
+        next,
+    })
+}
+
+// Refusals 5, 6 and 7.
+pub fn check_book(b: &[u8]) -> Check
+    ensures { λ r. ⌜ r ≡ checked (bookRefusal (now (b .entry))) ⌝ }
+{
+    if MAX_BOOK_OCTETS < b.len() {
+        return Check::Refused(Refusal::BookTooLong);
+    }
+    let mut at: usize = 0;
+    let mut k: usize = 0;
+    while at < b.len() {
+        if k == MAX_RECORDS {
+            return Check::Refused(Refusal::TooManyRecords);
+        }
+        let RecordRead::Good(r) = read_record(b, at) else {
+            return Check::Refused(Refusal::BadRecord(RecordNo(k)));
+        };
+        at = r.next;
+        k += 1;
+    }
+    Check::Accepted
+}

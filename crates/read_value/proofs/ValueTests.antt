@@ -1,0 +1,38 @@
+-- A value by tests on its parts, as code makes them.
+use Prim.Native.Nat.{ℕ, _+_, _-_, _≤_, _<_}
+use Prim.Native.Char.{code}
+use mathlib.Core.Path.{_≡_, sym, _∙_}
+use mathlib.Core.Bool.{Bool, true, false}
+use mathlib.Core.List.{List}
+use lib.ListN.{length, take, drop, take-append-drop}
+use Rattle.spec_octets.specs.Pieces.{split}
+use Rattle.text_compare.specs.Places.{pieceEnd}
+use Rattle.read_value.specs.declared.ValueRead.{ValueRead}
+use Rattle.read_value.specs.declared.ValueRead.the-variants.{Malformed}
+use Rattle.spec_value.specs.IssueValues.{trim, areParameters, nameIn, issueValue}
+use Rattle.read_value.specs.Places.{namePlaces, valueAt}
+use Rattle.spec_octets.proofs.Walks.{rest-whole}
+use Rattle.read_parameters.proofs.FirstPiece.{cut-last, cut-more}
+use Rattle.read_value.proofs.NamePlaces.{places-front}
+
+-- e is the place of the first semicolon
+module _ (s : List ℕ) (e : ℕ) (cut : e ≡ pieceEnd (code ";") s 0) where
+  -- f stands before it, and v is what the name in f says
+  module _ (f : List ℕ) (v : ValueRead) (front : f ≡ take e s) (told : v ≡ namePlaces f (nameIn (trim f))) where
+    placed : v ≡ namePlaces s (nameIn (trim (take e s)))
+    placed = told ∙ rw front (places-front (take e s) (drop e s) ∙ rw (take-append-drop e s))
+
+    pub name-alone : length s ≤ e → v ≡ valueAt s
+    unfolding valueAt issueValue areParameters
+    name-alone h = placed ∙ sym (rw (cut-last (code ";") s e cut h))
+
+  module _ (h : e < length s) (b : List ℕ) (r : Bool) (behind : b ≡ take (length s - (e + 1)) (drop (e + 1) s))
+      (fit : r ≡ areParameters (split (code ";") b)) where
+    pub parameters-bad : r ≡ false → Malformed ≡ valueAt s
+    unfolding valueAt issueValue
+    parameters-bad bad = sym (rw (cut-more (code ";") s e cut h, ← rest-whole s (e + 1), ← behind, ← fit, bad))
+
+    pub name-first : (f : List ℕ) (v : ValueRead) → f ≡ take e s → v ≡ namePlaces f (nameIn (trim f)) → r ≡ true → v ≡ valueAt s
+    unfolding valueAt issueValue
+    name-first f v front told good =
+        placed f v front told ∙ sym (rw (cut-more (code ";") s e cut h, ← rest-whole s (e + 1), ← behind, ← fit, good))

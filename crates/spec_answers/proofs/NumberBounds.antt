@@ -1,0 +1,95 @@
+-- The numbers in a judgement: a name's below the limit of names, a record's below that of records, a refusal's place fitting.
+use Prim.Native.Nat.{ℕ, suc, _+_, _^_, _≤_, _<_}
+use native.Mathlib.Omega.{arith}
+use mathlib.Core.Path.{_≡_, refl}
+use mathlib.Core.Bool.{Bool, true, false, cond}
+use mathlib.Core.List.{List, [], _∷_, map}
+use mathlib.Core.Option.{Option, none, some}
+use lib.ListN.{length, drop, length-append}
+use Rattle.spec_limits.specs.Limits.{maxNames, maxRecords}
+use Rattle.spec_refusal.specs.declared.Refusal.{Refusal}
+use Rattle.spec_refusal.specs.Refusal.{place}
+use Rattle.spec_octets.specs.Lists.{All, all-nil, all-cons, First}
+use Rattle.spec_octets.proofs.ListLaws.{All-head, All-rest, All-join}
+use Rattle.spec_octets.proofs.SelectedLists.{selects-all}
+use Rattle.spec_name.specs.Names.{Name}
+use Rattle.spec_request.specs.Request.{base, requestedName, nameItems, requestedNames}
+use Rattle.spec_record.specs.Property.{Property, property}
+use Rattle.spec_record.specs.Records.{Record, isCaa, resourceRecord, recordItems, records}
+use Rattle.spec_rule.specs.declared.Judgement.{Judgement}
+use Rattle.spec_rule.specs.declared.Judgement.the-variants.{Permitted, UnknownCritical, NotGranted, Refused}
+use Rattle.spec_rule.specs.RelevantSet.{CaaRecord, found, withProperty, caaRecordsFrom, caaRecords, relevantSet}
+use Rattle.spec_rule.specs.Authorizations.{authorization}
+use Rattle.spec_rule.specs.Verdicts.{verdict}
+use Rattle.spec_rule.specs.Calls.{authorizations, firstRefusal, judgeChecks, refusedOr, judge}
+use Rattle.spec_rule.specs.Meaning.{LowestNot}
+use Rattle.spec_rule.proofs.Lookups.{a-lookup}
+use Rattle.spec_rule.proofs.Nearest.{nearest-name-decides}
+use Rattle.spec_rule.proofs.VerdictLaws.{verdict-by-the-rule}
+use Rattle.spec_octets.proofs.ItemRoom.{items-within, whole-within}
+use Rattle.spec_answers.proofs.RefusalPlaces.{PlaceFits, request-fits, issuer-fits, book-fits}
+
+abbrev pub Fits : Judgement → Type 0
+Fits Permitted = Unit {0}
+Fits (UnknownCritical d) = (d .name .0 < maxNames) × (d .rr .0 < maxRecords)
+Fits (NotGranted d) = (d .name .0 < maxNames) × (d .rr .0 < maxRecords)
+Fits (Refused r) = place r < 2 ^ 24
+
+refused-fits : (checks : List (Option Refusal)) (j : Judgement) → All PlaceFits checks → Fits j → Fits (refusedOr (firstRefusal checks) j)
+refused-fits [] j hs k = k
+refused-fits (none ∷ checks) j (all-cons h hs) k = refused-fits checks j hs k
+refused-fits (some r ∷ checks) j (all-cons h hs) k = h
+
+-- The verdict: a record's number is one of the book's, a name's one of the request's.
+abbrev Numbered : ℕ → List CaaRecord → Type 0
+Numbered m cs = All (λ c. c .number < m) cs
+
+caa-numbered : (m k : ℕ) (rs : List Record) → k + length rs ≤ m → Numbered m (caaRecordsFrom k rs)
+caa-numbered m k [] h = all-nil
+caa-numbered m k (r ∷ rs) h = All-join (one (isCaa (r .type) (r .class)) (property (r .rdata))) (caa-numbered m (suc k) rs (omega arith))
+  where
+    one : (t : Bool) (p : Option Property) → Numbered m (cond t (withProperty k (r .owner) p) [])
+    one true none = all-nil
+    one true (some p) = all-cons {x = record { number = k; owner = r .owner; property = p }} (omega arith) all-nil
+    one false p = all-nil
+
+book-numbered : (b : List ℕ) → Numbered maxRecords (caaRecords (records b))
+unfolding records recordItems
+book-numbered b =
+    let few = whole-within maxRecords (recordItems b) (items-within resourceRecord maxRecords b) in
+    caa-numbered maxRecords 0 (records b) (omega arith)
+
+names-few : (s : List ℕ) → length (requestedNames s) ≤ maxNames
+unfolding requestedNames nameItems
+names-few s = whole-within maxNames (nameItems s) (items-within requestedName maxNames s)
+
+first-numbered :
+    {P : CaaRecord → Type 0} (m : ℕ) (book : List CaaRecord) → Numbered m book → (x : Name) (rs : List CaaRecord) (c : CaaRecord) →
+    relevantSet book x ≡ found rs → First P rs c → c .number < m
+first-numbered m book h x rs c e (before, after, f, p, ns) =
+    let (k, near) = nearest-name-decides book x .0 rs .0 e in
+    All-head (All-rest before (c ∷ after) (rw f at (selects-all (a-lookup book (drop k x) .1 rs .0 (near .1) .0) h)))
+
+lowest-numbered : {P : Name → Type 0} (ns : List Name) (k : ℕ) (n : Name) → LowestNot P ns k n → k < length ns
+lowest-numbered ns k n (before, after, e, l, hs, q) = rw (e, length-append) (omega arith)
+
+module _ (book : List CaaRecord) (numbered : Numbered maxRecords book) (ns : List Name) (few : length ns ≤ maxNames) (d : List ℕ) where
+  verdict-fits : Fits (verdict d (map (authorization book) ns))
+  verdict-fits = go (verdict d (map (authorization book) ns)) refl
+    where
+      go : (j : Judgement) → verdict d (map (authorization book) ns) ≡ j → Fits j
+      go Permitted e = tt
+      go (UnknownCritical w) e =
+          let (n, l, (rs, c, at, f, r)) = verdict-by-the-rule book ns d .1 (w .name .0) (w .rr .0) .0 e in
+          (omega (arith, lowest-numbered ns _ n l), rw r at (first-numbered maxRecords book numbered (base n) rs c at f))
+      go (NotGranted w) e =
+          let (n, l, (rs, c, at, u, f, r)) = verdict-by-the-rule book ns d .2 (w .name .0) (w .rr .0) .0 e in
+          (omega (arith, lowest-numbered ns _ n l), rw r at (first-numbered maxRecords book numbered (base n) rs c at f))
+      go (Refused r) e = absurd (verdict-by-the-rule book ns d .3 r e)
+
+pub judge-fits : (request issuer book : List ℕ) → Fits (judge request issuer book)
+unfolding judge authorizations
+judge-fits request issuer book =
+    refused-fits (judgeChecks request issuer book) (verdict issuer (authorizations request book))
+    (all-cons (request-fits request) (all-cons (issuer-fits issuer) (all-cons (book-fits book) all-nil)))
+    (verdict-fits (caaRecords (records book)) (book-numbered book) (requestedNames request) (names-few request) issuer)

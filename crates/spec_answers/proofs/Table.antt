@@ -1,0 +1,13 @@
+-- Some answers as numbers, by computing.
+use mathlib.Core.Path.{refl}
+use Rattle.spec_refusal.specs.Refusal.{number, place}
+use Rattle.spec_packed.specs.Packed.{packed}
+use Rattle.spec_rule.specs.Calls.{judgementTold, permittedIssuersTold}
+use Rattle.spec_answers.specs.Answers.{packedJudgement}
+use Rattle.spec_answers.specs.ListAnswers.{packedIssuers}
+use Rattle.spec_answers.specs.LineAnswers.{madeTold, packedMade}
+use Rattle.spec_answers.specs.Theorems.{Packed-answers}
+
+pub packed-answers : Packed-answers
+unfolding number place packed judgementTold permittedIssuersTold packedJudgement packedIssuers madeTold packedMade
+packed-answers = (refl, refl, refl, refl)

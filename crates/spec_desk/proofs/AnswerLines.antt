@@ -1,0 +1,20 @@
+-- What the definitions compute: the lines that the requirements print, and whose line it is where there is a book.
+use mathlib.Core.Path.{refl}
+use mathlib.Core.List.{append-assoc}
+use Rattle.spec_limits.specs.Limits.{maxRecords}
+use Rattle.spec_refusal.specs.Refusal.{number, place}
+use Rattle.spec_octets.specs.WrittenDecimal.{decimal}
+use Rattle.spec_desk.specs.Lines.{answerText, deskLine}
+use Rattle.spec_desk.specs.Theorems.{Judged, Line-words, Line-examples}
+
+pub line-words : Line-words
+unfolding answerText
+line-words = (λ k r. simp append-assoc, λ k r. simp append-assoc, λ r. simp append-assoc)
+
+pub line-examples : Line-examples
+unfolding answerText decimal number place deskLine maxRecords
+line-examples = (refl, refl, refl, refl, refl, refl, refl, λ request issuer book. refl)
+
+pub judged : Judged
+unfolding deskLine
+judged request issuer book = refl

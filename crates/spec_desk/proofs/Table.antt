@@ -1,0 +1,29 @@
+-- The desk's lines from what its files hold, by computing.
+use mathlib.Core.Path.{refl}
+use Rattle.spec_limits.specs.Limits.{maxLabelOctets, maxIssuerOctets, maxNameOctets, maxRequestOctets, maxNames, maxBookOctets, maxRecords}
+use Rattle.spec_octets.specs.Reader.{number}
+use Rattle.spec_name.specs.Names.{name}
+use Rattle.spec_octets.specs.Octets.{isDigit, isUpper, isLower, isLetterOrDigit, isBlank, lower, equalIgnoringCase}
+use Rattle.spec_octets.specs.Label.{isLetterDigitHyphen, isLabel, isHostLabel}
+use Rattle.spec_request.specs.Request.{isWildcard, base, isRequestable, requestedName, nameItems, requestedNames, requestRefusal}
+use Rattle.spec_issuer.specs.Issuer.{isIssuer, issuerRefusal}
+use Rattle.spec_record.specs.Property.{readProperty, property, isCritical, tagOf}
+use Rattle.spec_record.specs.Records.{isCaa, isLaidOut, resourceRecord, recordItems, records, bookRefusal}
+use Rattle.spec_value.specs.IssueValues.{isDomainName, isParameterOctet, isParameterTag, isParameter, areParameters, issueValue}
+use Rattle.spec_octets.specs.WrittenDecimal.{decimal}
+use Rattle.spec_refusal.specs.Refusal.{number as refusalNumber, place}
+use Rattle.spec_rule.specs.RelevantSet.{lookup, relevantSet}
+use Rattle.spec_rule.specs.Authorizations.{isUnknownCritical, governing, grantee, authorization}
+use Rattle.spec_rule.specs.Verdicts.{verdict}
+use Rattle.spec_rule.specs.Calls.{authorizations, judge}
+use Rattle.spec_desk.specs.Lines.{answerText, deskLine}
+use Rattle.spec_desk.specs.Theorems.{Desk-lines}
+
+pub desk-lines : Desk-lines
+unfolding maxLabelOctets maxIssuerOctets maxNameOctets maxRequestOctets maxNames maxBookOctets maxRecords isDigit isUpper isLower
+    isLetterOrDigit isBlank lower equalIgnoringCase isLetterDigitHyphen isLabel isHostLabel isWildcard base isIssuer readProperty property
+    isCritical tagOf isCaa isDomainName isParameterOctet isParameterTag isParameter areParameters issueValue lookup relevantSet
+    isUnknownCritical governing grantee authorization verdict name isRequestable requestedName nameItems requestedNames requestRefusal
+    issuerRefusal isLaidOut resourceRecord recordItems records bookRefusal number authorizations judge
+    decimal refusalNumber place answerText deskLine
+desk-lines = (refl, refl, refl, refl, refl, refl)

@@ -1,0 +1,38 @@
+-- The line of the desk program.
+use Prim.Native.Nat.{ℕ}
+use mathlib.Core.Bool.{Bool, cond}
+use mathlib.Core.List.{List, [], _∷_, _++_}
+use Rattle.spec_octets.specs.Octets.{text}
+use Rattle.spec_refusal.specs.Refusal.{number, place}
+use Rattle.spec_rule.specs.declared.Denial.{Denial}
+use Rattle.spec_rule.specs.declared.Judgement.{Judgement}
+use Rattle.spec_rule.specs.declared.Judgement.the-variants.{Permitted, UnknownCritical, NotGranted, Refused}
+use Rattle.spec_rule.specs.Calls.{judge}
+use Rattle.spec_octets.specs.WrittenDecimal.{decimal}
+
+abbrev pub lineEnd : ℕ
+lineEnd = 10
+
+-- a text, a number, a text, a number
+abbrev pub numbered : List ℕ → ℕ → List ℕ → ℕ → List ℕ
+numbered first a second b = first ++ decimal a ++ second ++ decimal b
+
+abbrev pub denialText : List ℕ → Denial → List ℕ
+denialText first d = numbered first (d .name .0) (text " record ") (d .rr .0)
+
+-- an answer in words, without the line end
+unfoldable pub answerText : Judgement → List ℕ
+answerText Permitted = text "verdict 0"
+answerText (UnknownCritical d) = denialText (text "verdict 20 name ") d
+answerText (NotGranted d) = denialText (text "verdict 21 name ") d
+answerText (Refused r) = numbered (text "refused ") (number r) (text " at ") (place r)
+
+abbrev pub line : Judgement → List ℕ
+line j = answerText j ++ (lineEnd ∷ [])
+
+abbrev pub noBook : List ℕ
+noBook = text "no book" ++ (lineEnd ∷ [])
+
+-- "without book.bin the line is `no book`, whatever the others hold"
+unfoldable pub deskLine : Bool → List ℕ → List ℕ → List ℕ → List ℕ
+deskLine found request issuer book = cond found (line (judge request issuer book)) noBook

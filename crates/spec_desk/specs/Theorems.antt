@@ -1,0 +1,71 @@
+-- What the definitions of this crate mean. Each statement is proved under its name in proofs/.
+use Prim.Native.Nat.{ℕ}
+use Prim.Native.Char.{code}
+use mathlib.Core.Path.{_≡_}
+use mathlib.Core.Logic.{_↔_}
+use mathlib.Core.Bool.{Bool, true, false}
+use mathlib.Core.List.{List, [], _∷_, _++_, map}
+use Rattle.spec_octets.specs.Lists.{select, begins}
+use Rattle.spec_octets.specs.Octets.{text, isDigit}
+use Rattle.spec_octets.specs.Decimal.{decimalFrom}
+use Rattle.spec_octets.specs.Pieces.{split}
+use Rattle.spec_octets.specs.WrittenDecimal.{decimal}
+use Rattle.spec_refusal.specs.Refusal.{number, place}
+use Rattle.spec_refusal.specs.declared.Refusal.{Refusal}
+use Rattle.spec_refusal.specs.declared.Refusal.the-variants.{BadIssuer, BadRecord, TooManyRecords}
+use Rattle.spec_rule.specs.declared.Judgement.{Judgement}
+use Rattle.spec_rule.specs.declared.Judgement.the-variants.{Permitted, UnknownCritical, NotGranted, Refused}
+use Rattle.spec_rule.specs.Edges.{ca1, ca2, wholeBook}
+use Rattle.spec_rule.specs.CallEdges.{both, bookOf}
+use Rattle.spec_rule.specs.Verdicts.{denial}
+use Rattle.spec_rule.specs.Calls.{judge, judgementTold}
+use Rattle.spec_desk.specs.Lines.{answerText, line, noBook, deskLine}
+
+-- the numbers among the words of a text
+abbrev pub numbersIn : List ℕ → List ℕ
+numbersIn s = map (decimalFrom 0) (select (begins isDigit) (split (code " ") s))
+
+-- the numbers in an answer's text are the answer's number and its values, in their order
+abbrev pub Text-tells : Type 0
+Text-tells = (j : Judgement) → numbersIn (answerText j) ≡ judgementTold j .number ∷ judgementTold j .values
+
+-- so different answers have different lines
+abbrev pub Lines-differ : Type 0
+Lines-differ = (i j : Judgement) → line i ≡ line j → i ≡ j
+
+-- `no book` says that there is no book, and nothing else says so
+abbrev pub No-book : Type 0
+No-book = (found : Bool) (request issuer book : List ℕ) → (deskLine found request issuer book ≡ noBook) ↔ (found ≡ false)
+
+-- with a book the line is the judgement's
+abbrev pub Judged : Type 0
+Judged = (request issuer book : List ℕ) → deskLine true request issuer book ≡ line (judge request issuer book)
+
+-- the words around the numbers, for every number
+abbrev pub Line-words : Type 0
+Line-words =
+    ((k r : ℕ) → line (UnknownCritical (denial k r)) ≡ text "verdict 20 name " ++ decimal k ++ text " record " ++ decimal r ++ text "\n")
+    × ((k r : ℕ) → line (NotGranted (denial k r)) ≡ text "verdict 21 name " ++ decimal k ++ text " record " ++ decimal r ++ text "\n")
+    × ((r : Refusal) → line (Refused r) ≡ text "refused " ++ decimal (number r) ++ text " at " ++ decimal (place r) ++ text "\n")
+
+-- the lines that the requirements print, and some more
+abbrev pub Line-examples : Type 0
+Line-examples =
+    (line Permitted ≡ text "verdict 0\n")
+    × (line (NotGranted (denial 1 3)) ≡ text "verdict 21 name 1 record 3\n")
+    × (line (UnknownCritical (denial 0 2)) ≡ text "verdict 20 name 0 record 2\n")
+    × (line (UnknownCritical (denial 99 255)) ≡ text "verdict 20 name 99 record 255\n")
+    × (line (Refused (BadRecord (record { 0 = 4 }))) ≡ text "refused 6 at 4\n")
+    × (line (Refused BadIssuer) ≡ text "refused 4 at 0\n")
+    × (line (Refused TooManyRecords) ≡ text "refused 7 at 256\n")
+    × ((request issuer book : List ℕ) → deskLine false request issuer book ≡ text "no book\n")
+
+-- from what the files hold: the requirements' whole case, a request that is permitted, and one refusal for each file
+abbrev pub Desk-lines : Type 0
+Desk-lines =
+    (deskLine true both ca1 (bookOf wholeBook) ≡ text "verdict 21 name 1 record 3\n")
+    × (deskLine true both ca2 (bookOf wholeBook) ≡ text "verdict 0\n")
+    × (deskLine true [] ca1 (bookOf wholeBook) ≡ text "refused 2 at 0\n")
+    × (deskLine true both (ca1 ++ text "\n") (bookOf wholeBook) ≡ text "refused 4 at 0\n")
+    × (deskLine true both ca1 (bookOf wholeBook ++ (64 ∷ [])) ≡ text "refused 6 at 4\n")
+    × (deskLine false both ca1 (bookOf wholeBook) ≡ text "no book\n")

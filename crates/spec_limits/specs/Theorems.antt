@@ -1,0 +1,8 @@
+-- The limits as the requirements print them. Each statement is proved under its name in proofs/.
+use mathlib.Core.Path.{_≡_}
+use Rattle.spec_limits.specs.Limits.{maxLabelOctets, maxNameOctets, maxIssuerOctets, maxRequestOctets, maxNames, maxBookOctets, maxRecords, maxDataOctets, maxLineOctets, maxTagOctets}
+
+abbrev pub Limits-printed : Type 0
+Limits-printed =
+    (maxLabelOctets ≡ 63) × (maxNameOctets ≡ 255) × (maxIssuerOctets ≡ 253) × (maxRequestOctets ≡ 8192) × (maxNames ≡ 100)
+    × (maxBookOctets ≡ 32768) × (maxRecords ≡ 256) × (maxDataOctets ≡ 4096) × (maxLineOctets ≡ 16384) × (maxTagOctets ≡ 255)

@@ -1,0 +1,52 @@
+-- Domain names (RFC 1035 section 3.1): a name is its labels, the leftmost first; the root has none.
+use Prim.Native.Nat.{ℕ, zero, suc}
+use mathlib.Core.Bool.{Bool, true, false, cond, _&&_}
+use mathlib.Core.List.{List, [], _∷_, _++_}
+use lib.Dec.{leb, eqb}
+use lib.ListN.{length}
+use Rattle.spec_limits.specs.Limits.{maxLabelOctets, maxNameOctets}
+use Rattle.spec_octets.specs.Octets.{equalIgnoringCase}
+use Rattle.spec_octets.specs.Reader.{Reader, pure, fault, given, _>>=_, octet, octets}
+
+abbrev pub Label : Type 0
+Label = List ℕ
+
+abbrev pub Name : Type 0
+Name = List Label
+
+-- RFC 1035 section 3.1: each label as a length octet and its octets, and a zero octet to close the name
+abbrev pub wire : Name → List ℕ
+wire [] = 0 ∷ []
+wire (l ∷ ls) = length l ∷ (l ++ wire ls)
+
+-- labels up to the zero octet, fewer than `room` of them; a length octet above 63 is a fault
+abbrev pub labelAndMore : ℕ → Reader Name → Reader Name
+labelAndMore n more = do
+  l ← octets n
+  ls ← more
+  pure (l ∷ ls)
+
+abbrev pub labels : ℕ → Reader Name
+labels zero = fault
+labels (suc room) = do
+  n ← octet
+  cond (eqb n 0) (pure []) (cond (leb n maxLabelOctets) (labelAndMore n (labels room)) fault)
+
+-- a name of at most 255 octets in wire form; so it has fewer than 255 labels
+unfoldable pub name : Reader Name
+name = do
+  n ← labels maxNameOctets
+  given (leb (length (wire n)) maxNameOctets) n
+
+-- "whole and equal octet for octet, A to Z counting as a to z": label for label
+abbrev pub sameName : Name → Name → Bool
+sameName [] [] = true
+sameName [] (y ∷ ys) = false
+sameName (x ∷ xs) [] = false
+sameName (x ∷ xs) (y ∷ ys) = equalIgnoringCase x y && sameName xs ys
+
+-- RFC 8659 section 3: the names that the search looks at (the requirements' "climb"), X first, then its parent, and so on;
+-- the root is not among them
+abbrev pub ancestors : Name → List Name
+ancestors [] = []
+ancestors (l ∷ ls) = (l ∷ ls) ∷ ancestors ls

@@ -1,0 +1,43 @@
+-- What the definitions of this crate mean. Each statement is proved under its name in proofs/.
+use Prim.Native.Nat.{ℕ, _≤_, _<_}
+use mathlib.Core.Path.{_≡_}
+use mathlib.Core.Logic.{_↔_, _≢_}
+use mathlib.Core.Bool.{true, false}
+use mathlib.Core.List.{List, [], _∷_, _++_, map}
+use mathlib.Core.Option.{some}
+use lib.ListN.{length, drop, getD}
+use Rattle.spec_limits.specs.Limits.{maxLabelOctets, maxNameOctets}
+use Rattle.spec_octets.specs.Lists.{All}
+use Rattle.spec_octets.specs.Octets.{text, lowered, equalIgnoringCase}
+use Rattle.spec_name.specs.Names.{Label, Name, wire, name, sameName, ancestors}
+
+-- labels of 1 to 63 octets, 255 octets in all with the closing zero (RFC 1035 section 2.3.4)
+abbrev pub GoodName : Name → Type 0
+GoodName n = All (λ l. (1 ≤ length l) × (length l ≤ maxLabelOctets)) n × (length (wire n) ≤ maxNameOctets)
+
+-- each label has its own length before it, and a zero closes the name
+abbrev pub Wire-form : Type 0
+Wire-form = (wire [] ≡ 0 ∷ []) × ((l : Label) (ls : Name) → wire (l ∷ ls) ≡ length l ∷ (l ++ wire ls))
+
+-- RFC 1035 section 4.1.4's example, octet for octet
+abbrev pub Wire-example : Type 0
+Wire-example =
+    wire (text "F" ∷ text "ISI" ∷ text "ARPA" ∷ []) ≡ 1 ∷ 70 ∷ 3 ∷ 73 ∷ 83 ∷ 73 ∷ 4 ∷ 65 ∷ 82 ∷ 80 ∷ 65 ∷ 0 ∷ []
+
+-- a name is read exactly where its wire form stands
+abbrev pub Name-is-its-labels : Type 0
+Name-is-its-labels = (s : List ℕ) (n : Name) (rest : List ℕ) → (name s ≡ some (n, rest)) ↔ ((s ≡ wire n ++ rest) × GoodName n)
+
+-- two names are the same exactly when their labels in small letters are equal lists, and, of good names, exactly when their
+-- octets are the same text; so no proper tail or front of a name is that name
+abbrev pub Whole-names : Type 0
+Whole-names =
+    ((m n : Name) → (sameName m n ≡ true) ↔ (map lowered m ≡ map lowered n))
+    × ((m n : Name) → GoodName m → GoodName n → sameName m n ≡ equalIgnoringCase (wire m) (wire n))
+    × ((p n : Name) → p ≢ [] → (sameName (p ++ n) n ≡ false) × (sameName n (p ++ n) ≡ false))
+    × ((p n : Name) → p ≢ [] → (sameName (n ++ p) n ≡ false) × (sameName n (n ++ p) ≡ false))
+
+-- the search looks at X with 0, 1, 2, .. labels taken off, as long as one is left
+abbrev pub Ancestors-by-labels-taken-off : Type 0
+Ancestors-by-labels-taken-off =
+    (x : Name) → (length (ancestors x) ≡ length x) × ((k : ℕ) → k < length x → getD (ancestors x) k [] ≡ drop k x)

@@ -1,0 +1,63 @@
+-- Octets are numbers below 256. Their classes (RFC 5234 appendix B.1), letter case, and when two texts are the same.
+use Prim.Native.Nat.{ℕ, _+_, _<_}
+use Prim.Native.Char.{code}
+use Prim.Native.String.{String}
+use Prim.Native.String
+use mathlib.Core.Bool.{Bool, true, false, cond, _&&_, _||_}
+use mathlib.Core.List.{List, [], _∷_, map}
+use lib.Dec.{leb, eqb}
+use Rattle.spec_octets.specs.Lists.{All}
+
+-- every number of the list is an octet
+abbrev pub Octets : List ℕ → Type 0
+Octets s = All (λ x. x < 256) s
+
+-- the octets of an ASCII text
+abbrev pub text : String → List ℕ
+text String.[] = []
+text (String._∷_ c s) = code c ∷ text s
+
+abbrev pub between : ℕ → ℕ → ℕ → Bool
+between low high x = leb low x && leb x high
+
+unfoldable pub isDigit : ℕ → Bool
+isDigit x = between (code "0") (code "9") x
+
+unfoldable pub isUpper : ℕ → Bool
+isUpper x = between (code "A") (code "Z") x
+
+unfoldable pub isLower : ℕ → Bool
+isLower x = between (code "a") (code "z") x
+
+unfoldable pub isLetterOrDigit : ℕ → Bool
+isLetterOrDigit x = isUpper x || isLower x || isDigit x
+
+abbrev pub hyphen : ℕ
+hyphen = code "-"
+
+-- WSP of RFC 5234: space and tab (the requirements' "blank")
+unfoldable pub isBlank : ℕ → Bool
+isBlank x = eqb x (code " ") || eqb x (code "\t")
+
+-- a text without the blanks at its front
+abbrev pub trimStart : List ℕ → List ℕ
+trimStart [] = []
+trimStart (x ∷ s) = cond (isBlank x) (trimStart s) (x ∷ s)
+
+-- "A to Z counting as a to z", and no other octet as another one
+unfoldable pub lower : ℕ → ℕ
+lower x = cond (isUpper x) (x + 32) x
+
+abbrev pub lowered : List ℕ → List ℕ
+lowered s = map lower s
+
+-- two texts of one length, octet for octet
+abbrev pub same : List ℕ → List ℕ → Bool
+same [] [] = true
+same [] (y ∷ ys) = false
+same (x ∷ xs) [] = false
+same (x ∷ xs) (y ∷ ys) = eqb x y && same xs ys
+
+-- "Names are equal when whole and equal octet for octet, A to Z counting as a to z"; property tags too (RFC 8659 section 4.1)
+unfoldable pub equalIgnoringCase : List ℕ → List ℕ → Bool
+equalIgnoringCase a b = same (lowered a) (lowered b)

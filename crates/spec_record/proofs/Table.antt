@@ -1,0 +1,12 @@
+-- The table of books, by computing.
+use mathlib.Core.Path.{refl}
+use Rattle.spec_limits.specs.Limits.{maxLabelOctets, maxNameOctets, maxBookOctets, maxRecords}
+use Rattle.spec_octets.specs.Reader.{number}
+use Rattle.spec_name.specs.Names.{name}
+use Rattle.spec_record.specs.Property.{readProperty, property}
+use Rattle.spec_record.specs.Records.{isCaa, isLaidOut, resourceRecord, recordItems, bookRefusal}
+use Rattle.spec_record.specs.Theorems.{Book-edges}
+
+pub book-edges : Book-edges
+unfolding maxLabelOctets maxNameOctets maxBookOctets maxRecords number name readProperty property isCaa isLaidOut resourceRecord recordItems bookRefusal
+book-edges = refl

@@ -1,0 +1,55 @@
+-- Books, octet for octet, beside the refusal that the requirements state, or none.
+use Prim.Native.Nat.{ℕ}
+use mathlib.Core.List.{List, [], _∷_, _++_}
+use mathlib.Core.Option.{Option, none, some}
+use lib.ListN.{length}
+use Rattle.spec_refusal.specs.declared.Refusal.{Refusal}
+use Rattle.spec_refusal.specs.declared.Refusal.the-variants.{BadRecord}
+use Rattle.spec_octets.specs.Octets.{text}
+
+abbrev pub badRecord : ℕ → Option Refusal
+badRecord k = some (BadRecord (record { 0 = k }))
+
+-- a record of the owner `a`: the two octets of its type, its class, the length told of its data, and the data
+abbrev pub recordOctets : ℕ → ℕ → ℕ → ℕ → List ℕ → List ℕ
+recordOctets high low class n d = (1 ∷ 97 ∷ 0 ∷ high ∷ low ∷ 0 ∷ class ∷ 9 ∷ 9 ∷ 9 ∷ 9 ∷ 0 ∷ n ∷ []) ++ d
+
+-- type 257 and class 1; type 1 and class 1; type 257 and class 3
+abbrev pub caaOctets : List ℕ → List ℕ
+caaOctets d = recordOctets 1 1 1 (length d) d
+
+abbrev pub addressOctets : List ℕ → List ℕ
+addressOctets d = recordOctets 0 1 1 (length d) d
+
+abbrev pub chaosOctets : List ℕ → List ℕ
+chaosOctets d = recordOctets 1 1 3 (length d) d
+
+abbrev pub bookEdges : List (List ℕ × Option Refusal)
+bookEdges =
+    -- no record; CAA data of flags, tag length, tag and value; one without a value
+    ([], none)
+    ∷ (caaOctets (0 ∷ 5 ∷ text "issueca1.example.net"), none)
+    ∷ (caaOctets (255 ∷ 1 ∷ text "t"), none)
+    -- fewer than 2 octets, an empty tag, a tag longer than the data
+    ∷ (caaOctets [], badRecord 0)
+    ∷ (caaOctets (0 ∷ []), badRecord 0)
+    ∷ (caaOctets (0 ∷ 0 ∷ []), badRecord 0)
+    ∷ (caaOctets (0 ∷ 0 ∷ text "t"), badRecord 0)
+    ∷ (caaOctets (0 ∷ 2 ∷ text "t"), badRecord 0)
+    -- a tag with other octets is laid out rightly
+    ∷ (caaOctets (128 ∷ 4 ∷ text "tb_s"), none)
+    -- what is no CAA record may hold anything; the number counts every record
+    ∷ (addressOctets [], none)
+    ∷ (chaosOctets (0 ∷ []), none)
+    ∷ (addressOctets [] ++ chaosOctets [] ++ caaOctets (0 ∷ []), badRecord 2)
+    -- the root and any octets as an owner; a length octet above 63; an owner cut off
+    ∷ (0 ∷ 0 ∷ 1 ∷ 0 ∷ 1 ∷ 0 ∷ 0 ∷ 0 ∷ 0 ∷ 0 ∷ 0 ∷ [], none)
+    ∷ (2 ∷ 255 ∷ 46 ∷ 0 ∷ 0 ∷ 1 ∷ 0 ∷ 1 ∷ 0 ∷ 0 ∷ 0 ∷ 0 ∷ 0 ∷ 0 ∷ [], none)
+    ∷ (64 ∷ [], badRecord 0)
+    ∷ (192 ∷ 12 ∷ 0 ∷ 1 ∷ 0 ∷ 1 ∷ 0 ∷ 0 ∷ 0 ∷ 0 ∷ 0 ∷ 0 ∷ [], badRecord 0)
+    ∷ (1 ∷ 97 ∷ [], badRecord 0)
+    -- fixed fields cut off; a data length one too long, and one too short
+    ∷ (addressOctets [] ++ (1 ∷ 97 ∷ 0 ∷ 0 ∷ 1 ∷ 0 ∷ 1 ∷ 0 ∷ 0 ∷ 0 ∷ 0 ∷ 0 ∷ []), badRecord 1)
+    ∷ (recordOctets 0 1 1 3 (1 ∷ 2 ∷ []), badRecord 0)
+    ∷ (recordOctets 0 1 1 1 (1 ∷ 2 ∷ []), badRecord 1)
+    ∷ []

@@ -1,0 +1,63 @@
+-- Resource records (RFC 1035 section 3.2.1) without compression, and the records to decide by (the requirements' "book").
+use Prim.Native.Nat.{ℕ}
+use mathlib.Core.Bool.{Bool, true, false, cond, not, _&&_, _||_}
+use mathlib.Core.List.{List, _++_}
+use mathlib.Core.Option.{Option, none, some}
+use lib.Dec.{eqb, ltb}
+use lib.ListN.{length}
+use Rattle.spec_limits.specs.Limits.{maxBookOctets, maxRecords}
+use Rattle.spec_refusal.specs.declared.Refusal.{Refusal}
+use Rattle.spec_refusal.specs.declared.Refusal.the-variants.{BookTooLong, BadRecord, TooManyRecords}
+use Rattle.spec_octets.specs.Reader.{Reader, given, _>>=_, octets, number, inOctets}
+use Rattle.spec_octets.specs.Items.{Items, wholeItems, itemFault, items}
+use Rattle.spec_name.specs.Names.{Name, wire, name}
+use Rattle.spec_record.specs.Property.{property}
+
+pub record Record : Type 0 where
+  pub owner : Name
+  pub type : ℕ
+  pub class : ℕ
+  pub ttl : ℕ
+  pub rdata : List ℕ
+
+-- owner, type, class, time to live, data length, data
+abbrev pub wireRecord : Record → List ℕ
+wireRecord r =
+    wire (r .owner) ++ inOctets 2 (r .type) ++ inOctets 2 (r .class) ++ inOctets 4 (r .ttl)
+    ++ inOctets 2 (length (r .rdata)) ++ r .rdata
+
+-- "Class 1 with type 257 is a CAA record"
+unfoldable pub isCaa : ℕ → ℕ → Bool
+isCaa type class = eqb type 257 && eqb class 1
+
+abbrev pub isSome : {A : Type 0} → Option A → Bool
+isSome none = false
+isSome (some a) = true
+
+-- which data is laid out rightly, by type and class; what is no CAA record may hold anything
+unfoldable pub isLaidOut : ℕ → ℕ → List ℕ → Bool
+isLaidOut type class d = not (isCaa type class) || isSome (property d)
+
+unfoldable pub resourceRecord : Reader Record
+resourceRecord = do
+  owner ← name
+  type ← number 2
+  class ← number 2
+  ttl ← number 4
+  n ← number 2
+  d ← octets n
+  given (isLaidOut type class d) (record { owner = owner; type = type; class = class; ttl = ttl; rdata = d })
+
+unfoldable pub recordItems : List ℕ → Items Record
+recordItems b = items resourceRecord maxRecords b
+
+-- the records, numbered from 0 by their order; where one is broken or they are too many, none
+unfoldable pub records : List ℕ → List Record
+records b = wholeItems (recordItems b)
+
+-- rows 5 to 7 of the requirements' table of refusals
+abbrev pub recordRefusal : Items Record → Option Refusal
+recordRefusal i = itemFault (λ k. BadRecord (record { 0 = k })) TooManyRecords i
+
+unfoldable pub bookRefusal : List ℕ → Option Refusal
+bookRefusal b = cond (ltb maxBookOctets (length b)) (some BookTooLong) (recordRefusal (recordItems b))

@@ -1,0 +1,107 @@
+-- What the definitions of this crate mean. Each statement is proved under its name in proofs/.
+use Prim.Native.Nat.{ℕ, _+_, _≤_, _<_, _^_}
+use mathlib.Core.Path.{_≡_}
+use mathlib.Core.Logic.{_↔_, _≢_}
+use mathlib.Core.Bool.{true}
+use mathlib.Core.List.{List, [], _∷_, _++_, map}
+use mathlib.Core.Option.{none, some}
+use lib.ListN.{length}
+use Rattle.spec_limits.specs.Limits.{maxBookOctets, maxRecords}
+use Rattle.spec_refusal.specs.Refusal.{number}
+use Rattle.spec_refusal.specs.declared.Refusal.{Refusal}
+use Rattle.spec_refusal.specs.declared.Refusal.the-variants.{BookTooLong, BadRecord, TooManyRecords}
+use Rattle.spec_octets.specs.Lists.{All, flatten}
+use Rattle.spec_octets.specs.Octets.{Octets, text, lowered}
+use Rattle.spec_octets.specs.Items.{BrokenAt, Beyond}
+use Rattle.spec_octets.specs.Theorems.{Reads}
+use Rattle.spec_octets.specs.Reader.{inOctets}
+use Rattle.spec_name.specs.Names.{wire}
+use Rattle.spec_name.specs.Theorems.{GoodName}
+use Rattle.spec_record.specs.declared.PropertyTag.the-variants.{Issue, IssueWild, Iodef, Unknown}
+use Rattle.spec_record.specs.Property.{Property, wireProperty, property, isCritical, tagOf}
+use Rattle.spec_record.specs.BookEdges.{bookEdges}
+use Rattle.spec_record.specs.Records.{Record, wireRecord, resourceRecord, records, bookRefusal}
+
+-- flags, the length of the tag, tag and value
+abbrev pub Property-form : Type 0
+Property-form = (p : Property) → wireProperty p ≡ p .flags ∷ length (p .tag) ∷ (p .tag ++ p .value)
+
+-- data holds a property exactly when it is written so with a tag of one octet or more
+abbrev pub Property-is-its-parts : Type 0
+Property-is-its-parts = (d : List ℕ) (p : Property) → (property d ≡ some p) ↔ ((d ≡ wireProperty p) × (1 ≤ length (p .tag)))
+
+-- of the flags only the bit worth 128 counts: critical exactly from 128 to 255
+abbrev pub Critical-bit : Type 0
+Critical-bit = (p : Property) → p .flags < 256 → (isCritical p ≡ true) ↔ (128 ≤ p .flags)
+
+-- the three known tags, in any letter case
+abbrev pub Known-tags : Type 0
+Known-tags =
+    (t : List ℕ) →
+    ((tagOf t ≡ Issue) ↔ (lowered t ≡ text "issue")) × ((tagOf t ≡ IssueWild) ↔ (lowered t ≡ text "issuewild"))
+    × ((tagOf t ≡ Iodef) ↔ (lowered t ≡ text "iodef"))
+
+-- every other tag is unknown
+abbrev pub Unknown-tags : Type 0
+Unknown-tags =
+    (t : List ℕ) → (tagOf t ≡ Unknown) ↔ ((lowered t ≢ text "issue") × (lowered t ≢ text "issuewild") × (lowered t ≢ text "iodef"))
+
+-- each field fits its octets, and the data of type 257 and class 1 holds a property
+abbrev pub GoodRecord : Record → Type 0
+GoodRecord r =
+    GoodName (r .owner) × (r .type < 2 ^ 16) × (r .class < 2 ^ 16) × (r .ttl < 2 ^ 32) × (length (r .rdata) < 2 ^ 16)
+    × (r .type ≡ 257 → r .class ≡ 1 → (p : Property) × (r .rdata ≡ wireProperty p) × (1 ≤ length (p .tag)))
+
+-- the owner, then type and class in two octets each, the time to live in four, the length of the data in two, and the data
+abbrev pub Record-form : Type 0
+Record-form =
+    (r : Record) →
+    wireRecord r
+    ≡ wire (r .owner) ++ inOctets 2 (r .type) ++ inOctets 2 (r .class) ++ inOctets 4 (r .ttl) ++ inOctets 2 (length (r .rdata)) ++ r .rdata
+
+-- a record octet for octet: the owner; type 257, class 1, time to live 3600, data length 22; flags 128, a tag of 5 octets, tag and value
+abbrev pub Record-example : Type 0
+Record-example =
+    wireRecord (record {
+      owner = text "example" ∷ text "com" ∷ [];
+      type = 257;
+      class = 1;
+      ttl = 3600;
+      rdata = wireProperty (record { flags = 128; tag = text "issue"; value = text "ca1.example.net" });
+    })
+    ≡ (7 ∷ text "example") ++ (3 ∷ text "com") ++ (0 ∷ 1 ∷ 1 ∷ 0 ∷ 1 ∷ 0 ∷ 0 ∷ 14 ∷ 16 ∷ 0 ∷ 22 ∷ 128 ∷ 5 ∷ []) ++ text "issue"
+    ++ text "ca1.example.net"
+
+abbrev pub Record-is-its-fields : Type 0
+Record-is-its-fields = Reads resourceRecord wireRecord GoodRecord
+
+-- accepted with the records rs exactly when the octets are the wire forms of rs, end to end, at most 256 good records, within
+-- 32,768 octets
+abbrev pub Book-is-its-records : Type 0
+Book-is-its-records =
+    (b : List ℕ) → Octets b → (rs : List Record) →
+    ((bookRefusal b ≡ none) × (records b ≡ rs))
+    ↔ ((b ≡ flatten (map wireRecord rs)) × All GoodRecord rs × (length rs ≤ maxRecords) × (length b ≤ maxBookOctets))
+
+-- The rows of the requirements' table, each with its "When" and its place, and nothing of the reader.
+abbrev pub Row-5 : List ℕ → Type 0
+Row-5 b = maxBookOctets < length b
+
+abbrev pub Row-6 : List ℕ → ℕ → Type 0
+Row-6 b k = (k < maxRecords) × BrokenAt wireRecord GoodRecord b k
+
+abbrev pub Row-7 : List ℕ → Type 0
+Row-7 b = Beyond wireRecord GoodRecord maxRecords b
+
+-- row 5 is checked first; rows 6 and 7 never hold together
+abbrev pub Book-refusals : Type 0
+Book-refusals =
+    (b : List ℕ) → Octets b →
+    ((bookRefusal b ≡ some BookTooLong) ↔ Row-5 b)
+    × ((k : ℕ) → (bookRefusal b ≡ some (BadRecord (record { 0 = k }))) ↔ ((length b ≤ maxBookOctets) × Row-6 b k))
+    × ((bookRefusal b ≡ some TooManyRecords) ↔ ((length b ≤ maxBookOctets) × Row-7 b))
+    × ((r : Refusal) → bookRefusal b ≡ some r → (5 ≤ number r) × (number r ≤ 7))
+
+-- the table of books
+abbrev pub Book-edges : Type 0
+Book-edges = map (λ e. bookRefusal (e .0)) bookEdges ≡ map (λ e. e .1) bookEdges

@@ -1,0 +1,31 @@
+-- The requirements' table "When the desk says no": the number and the one place of each refusal.
+use Prim.Native.Nat.{ℕ}
+use Rattle.spec_limits.specs.Limits.{maxNames, maxRecords}
+use Rattle.spec_refusal.specs.declared.Refusal.{Refusal}
+use Rattle.spec_refusal.specs.declared.Refusal.the-variants.{RequestTooLong, BadName, TooManyNames, BadIssuer, BookTooLong, BadRecord, TooManyRecords, NoRoom, BadLine, LineTooLong, BadData}
+
+unfoldable pub number : Refusal → ℕ
+number RequestTooLong = 1
+number (BadName k) = 2
+number TooManyNames = 3
+number BadIssuer = 4
+number BookTooLong = 5
+number (BadRecord r) = 6
+number TooManyRecords = 7
+number (NoRoom n) = 8
+number BadLine = 9
+number LineTooLong = 10
+number BadData = 11
+
+unfoldable pub place : Refusal → ℕ
+place RequestTooLong = 0
+place (BadName k) = k .0
+place TooManyNames = maxNames
+place BadIssuer = 0
+place BookTooLong = 0
+place (BadRecord r) = r .0
+place TooManyRecords = maxRecords
+place (NoRoom n) = n
+place BadLine = 0
+place LineTooLong = 0
+place BadData = 0

@@ -1,0 +1,35 @@
+-- What the definitions of this crate mean. Each statement is proved under its name in proofs/.
+use Prim.Native.Nat.{ℕ}
+use mathlib.Core.Path.{_≡_}
+use mathlib.Core.Logic.{_↔_}
+use mathlib.Core.List.{List, [], _∷_, map}
+use mathlib.Core.Option.{Option, none, some}
+use Rattle.spec_limits.specs.Limits.{maxNames, maxRecords}
+use Rattle.spec_refusal.specs.declared.NameNo.{NameNo}
+use Rattle.spec_refusal.specs.declared.RecordNo.{RecordNo}
+use Rattle.spec_refusal.specs.declared.Refusal.{Refusal}
+use Rattle.spec_refusal.specs.declared.Refusal.the-variants.{RequestTooLong, BadName, TooManyNames, BadIssuer, BookTooLong, BadRecord, TooManyRecords, NoRoom, BadLine, LineTooLong, BadData}
+use Rattle.spec_refusal.specs.declared.Check.the-variants.{Accepted, Refused}
+use Rattle.spec_refusal.specs.Refusal.{number, place}
+use Rattle.spec_refusal.specs.Checks.{checked}
+
+-- the rows in the table's order
+abbrev pub rows : NameNo → RecordNo → ℕ → List Refusal
+rows k r n =
+    RequestTooLong ∷ BadName k ∷ TooManyNames ∷ BadIssuer ∷ BookTooLong ∷ BadRecord r ∷ TooManyRecords ∷ NoRoom n ∷ BadLine
+    ∷ LineTooLong ∷ BadData ∷ []
+
+abbrev pub Refusal-table : Type 0
+Refusal-table =
+    (k : NameNo) (r : RecordNo) (n : ℕ) →
+    (map number (rows k r n) ≡ 1 ∷ 2 ∷ 3 ∷ 4 ∷ 5 ∷ 6 ∷ 7 ∷ 8 ∷ 9 ∷ 10 ∷ 11 ∷ [])
+    × (map place (rows k r n) ≡ 0 ∷ k .0 ∷ maxNames ∷ 0 ∷ 0 ∷ r .0 ∷ maxRecords ∷ n ∷ 0 ∷ 0 ∷ 0 ∷ [])
+
+-- a refusal is known by its number and place
+abbrev pub Number-and-place-tell : Type 0
+Number-and-place-tell = (p q : Refusal) → number p ≡ number q → place p ≡ place q → p ≡ q
+
+-- accepted exactly when no refusal applies, and refused with the one that does
+abbrev pub Checked-exactly : Type 0
+Checked-exactly =
+    (o : Option Refusal) → ((checked o ≡ Accepted) ↔ (o ≡ none)) × ((r : Refusal) → (checked o ≡ Refused r) ↔ (o ≡ some r))

@@ -1,0 +1,196 @@
+-- What each answer about one requested name means: unrestricted, forbidden by a record, or granted by the governing records.
+use Prim.Native.Nat.{ℕ}
+use mathlib.Core.Path.{_≡_, refl, sym, ap, _∙_}
+use mathlib.Core.Logic.{_↔_, inl, inr, ⊎-elim}
+use mathlib.Core.Bool.{Bool, true, false, false≢true, and-eq-true-iff}
+use mathlib.Core.List.{List, [], _∷_, cons≢nil, List·Memᴰ, List·Memᴰ·head, List·Memᴰ·tail, List·Memᴰ·cases-cons, List·Memᴰ·not-nil}
+use mathlib.Core.Option.{Option, none, some, Option·none-ne-some, Option·some-injective}
+use Rattle.spec_octets.specs.Lists.{any, select, All, all-nil, all-cons, Any, any-here, any-there, Selects}
+use Rattle.spec_octets.specs.Octets.{same, lowered}
+use Rattle.spec_octets.proofs.ListLaws.{All-imp, any-true}
+use Rattle.spec_octets.proofs.ListLaws
+use Rattle.spec_octets.proofs.SelectLaws.{selected, selects-none, selects-first, first-selects, selects-unique, selects-alike, any-kept, any-of-kept}
+use Rattle.spec_octets.proofs.Texts.{same-equal}
+use Rattle.spec_name.specs.Names.{Name}
+use Rattle.spec_request.specs.Request.{isWildcard, base}
+use Rattle.spec_issuer.specs.Issuer.{isIssuer}
+use Rattle.spec_issuer.proofs.Dotted.{issuer-is-its-labels}
+use Rattle.spec_record.specs.declared.PropertyTag.{PropertyTag}
+use Rattle.spec_record.specs.declared.PropertyTag.the-variants.{Issue, IssueWild, Iodef, Unknown}
+use Rattle.spec_record.specs.Property.{isCritical}
+use Rattle.spec_value.specs.IssueValues.{IssueValue, malformed, nameless, named, issueValue}
+use Rattle.spec_value.specs.Productions.{valueWithName}
+use Rattle.spec_value.proofs.Values.{value-is-the-grammar}
+use Rattle.spec_rule.specs.RelevantSet.{CaaRecord, Lookup, empty, found, relevantSet}
+use Rattle.spec_rule.specs.Authorizations.{Authorization, unrestricted, forbidden, granted, isIssueTag, isIssueWildTag, isUnknownTag, propertyTag, isUnknownCritical, isIssue, isIssueWild, orElse, governing, holder, grantee, consSome, grantees, governedBy, unlessForbidden, decided, authorization, permits}
+use Rattle.spec_rule.specs.Meaning.{Tagged, UnknownCriticalRecord, Governs, Grants, Relevant, Unrestricted, GrantedTo, PermittedTo, ForbiddenBy, GovernedFrom, GoverningRecords}
+
+-- each test of a tag passes one tag only
+only :
+    (t : PropertyTag) →
+    (isIssueTag t ≡ true → t ≡ Issue) × (isIssueWildTag t ≡ true → t ≡ IssueWild) × (isUnknownTag t ≡ true → t ≡ Unknown)
+only Issue = (λ e. refl, λ e. absurd (false≢true e), λ e. absurd (false≢true e))
+only IssueWild = (λ e. absurd (false≢true e), λ e. refl, λ e. absurd (false≢true e))
+only Iodef = (λ e. absurd (false≢true e), λ e. absurd (false≢true e), λ e. absurd (false≢true e))
+only Unknown = (λ e. absurd (false≢true e), λ e. absurd (false≢true e), λ e. refl)
+
+unknown-critical : (r : CaaRecord) → (isUnknownCritical r ≡ true) ↔ UnknownCriticalRecord r
+unfolding isUnknownCritical
+unknown-critical r = (
+  λ e. let k = both .0 e in (k .0, only (propertyTag r) .2 (k .1)),
+  λ k. both .1 (k .0, rw (k .1)),
+)
+  where
+    both : (isUnknownCritical r ≡ true) ↔ ((isCritical (r .property) ≡ true) × (isUnknownTag (propertyTag r) ≡ true))
+    both = and-eq-true-iff (isCritical (r .property)) (isUnknownTag (propertyTag r))
+
+pub critical-selects : (rs : List CaaRecord) → Selects UnknownCriticalRecord rs (select isUnknownCritical rs)
+critical-selects rs = selected isUnknownCritical unknown-critical rs
+
+issue-selects : (rs : List CaaRecord) → Selects (Tagged Issue) rs (select isIssue rs)
+issue-selects rs = selected isIssue (λ r. (only (propertyTag r) .0, λ e. rw e)) rs
+
+issuewild-selects : (rs : List CaaRecord) → Selects (Tagged IssueWild) rs (select isIssueWild rs)
+issuewild-selects rs = selected isIssueWild (λ r. (only (propertyTag r) .1, λ e. rw e)) rs
+
+pub governing-selects : (wildcard : Bool) (rs : List CaaRecord) → Selects (Governs wildcard rs) rs (governing wildcard rs)
+unfolding governing
+governing-selects false rs = issue-selects rs
+governing-selects true rs = go (select isIssueWild rs) refl
+  where
+    every : {P : CaaRecord → Type 0} → ((r : CaaRecord) → P r) → (rs : List CaaRecord) → All P rs
+    every h [] = all-nil
+    every h (r ∷ rs) = all-cons (h r) (every h rs)
+
+    go : (ws : List CaaRecord) → select isIssueWild rs ≡ ws → Selects (Governs true rs) rs (orElse ws (select isIssue rs))
+    go [] e =
+        let n = selects-none (issuewild-selects rs) .0 e in
+        selects-alike (All-imp (λ r h. (λ i. inr (i, n), ⊎-elim (λ w. absurd (h w)) (λ k. k .0))) n) (issue-selects rs)
+    go (w ∷ ws) e =
+        selects-alike
+        (every (λ r. (inl, ⊎-elim (λ w. w) (λ k. absurd (cons≢nil (sym e ∙ selects-none (issuewild-selects rs) .1 (k .1)))))) rs)
+        (rw e at (issuewild-selects rs))
+
+pub any-same : (d : List ℕ) (ns : List (List ℕ)) → (any (same d) ns ≡ true) ↔ List·Memᴰ d ns
+any-same d ns = (
+  λ e. let (m, h, t) = any-true (same d) ns .0 e in rw (same-equal d m .0 t) h,
+  λ m. any-true (same d) ns .1 (d, m, same-equal d d .1 refl),
+)
+
+pub grantee-exactly : (r : CaaRecord) (d : List ℕ) → (grantee r ≡ some d) ↔ Grants d r
+unfolding grantee
+grantee-exactly r d = (
+  holds (issueValue (r .property .value)) refl,
+  λ (n, v, w, l). rw (grammar n .1 v, issuer-is-its-labels n .1 w, l),
+)
+  where
+    grammar : (n : List ℕ) → (issueValue (r .property .value) ≡ named n) ↔ valueWithName n (r .property .value)
+    grammar = value-is-the-grammar (r .property .value) .0
+
+    holds : (v : IssueValue) → issueValue (r .property .value) ≡ v → holder v ≡ some d → Grants d r
+    holds malformed e h = absurd (Option·none-ne-some d h)
+    holds nameless e h = absurd (Option·none-ne-some d h)
+    holds (named n) e h =
+        ⊎-elim
+        (λ t. (n, grammar n .0 e, issuer-is-its-labels n .0 t, Option·some-injective (lowered n) d (rw t at h)))
+        (λ t. absurd (Option·none-ne-some d (rw t at h)))
+        (ListLaws.decided (isIssuer n))
+
+listed-granted : (gs : List CaaRecord) (d : List ℕ) → List·Memᴰ d (grantees gs) → Any (Grants d) gs
+listed-granted [] d m = absurd (List·Memᴰ·not-nil m)
+listed-granted (g ∷ gs) d m = go (grantee g) refl m (listed-granted gs d)
+  where
+    go :
+        (o : Option (List ℕ)) → grantee g ≡ o → List·Memᴰ d (consSome o (grantees gs)) →
+        (List·Memᴰ d (grantees gs) → Any (Grants d) gs) → Any (Grants d) (g ∷ gs)
+    go none e m rest = any-there (rest m)
+    go (some n) e m rest = ⊎-elim (λ k. any-here (grantee-exactly g d .0 (rw k e))) (λ l. any-there (rest l)) (List·Memᴰ·cases-cons m)
+
+granted-listed : {gs : List CaaRecord} (d : List ℕ) → Any (Grants d) gs → List·Memᴰ d (grantees gs)
+granted-listed d (any-here {x = g} h) = rw (grantee-exactly g d .1 h) (List·Memᴰ·head refl)
+granted-listed d (any-there {x = g} h) = past (grantee g) (granted-listed d h)
+  where
+    past : {ns : List (List ℕ)} (o : Option (List ℕ)) → List·Memᴰ d ns → List·Memᴰ d (consSome o ns)
+    past none m = m
+    past (some n) m = List·Memᴰ·tail m
+
+-- the issuers granted are those to whom some governing record grants
+pub grantees-exactly : (gs : List CaaRecord) (d : List ℕ) → List·Memᴰ d (grantees gs) ↔ Any (Grants d) gs
+grantees-exactly gs d = (listed-granted gs d, granted-listed d)
+
+granted-permits : (gs : List CaaRecord) (d : List ℕ) → Any (Grants (lowered d)) gs → permits d (governedBy gs) ≡ true
+granted-permits [] d h = refl
+granted-permits (g ∷ gs) d h = any-same (lowered d) (grantees (g ∷ gs)) .1 (grantees-exactly (g ∷ gs) (lowered d) .1 h)
+
+-- what an answer says of the name
+module _ (book : List CaaRecord) (n : Name) where
+  abbrev pub Says : Authorization → Type 0
+  Says unrestricted = Unrestricted book n
+  Says (forbidden r) = ForbiddenBy book n r
+  Says (granted r ns) = GovernedFrom book n r × ((gs : List CaaRecord) × GoverningRecords book n gs × (ns ≡ grantees gs))
+
+  pub authorization-says : Says (authorization book n)
+  unfolding authorization
+  authorization-says = of (relevantSet book (base n)) refl
+    where
+      among :
+          (rs : List CaaRecord) → Relevant book n rs → (us gs : List CaaRecord) → select isUnknownCritical rs ≡ us →
+          governing (isWildcard n) rs ≡ gs → Says (unlessForbidden us (governedBy gs))
+      among rs e (u ∷ us) gs i j = (rs, u, e, selects-first (critical-selects rs) i, refl)
+      among rs e [] [] i j = inr (rs, e, selects-none (critical-selects rs) .0 i, selects-none (governing-selects (isWildcard n) rs) .0 j)
+      among rs e [] (g ∷ gs) i j =
+          let s = governing-selects (isWildcard n) rs in
+          let none-critical = selects-none (critical-selects rs) .0 i in
+          ((rs, g, e, none-critical, selects-first s j, refl), (g ∷ gs, (rs, e, none-critical, rw j at s), refl))
+
+      of : (l : Lookup) → relevantSet book (base n) ≡ l → Says (decided (isWildcard n) l)
+      of empty e = inl e
+      of (found rs) e = among rs e (select isUnknownCritical rs) (governing (isWildcard n) rs) refl refl
+
+  -- the governing records alone decide, where there is no unknown critical record
+  pub governed : (gs : List CaaRecord) → GoverningRecords book n gs → authorization book n ≡ governedBy gs
+  unfolding authorization
+  governed gs (rs, e, c, s) = rw (e, selects-none (critical-selects rs) .1 c, selects-unique (governing-selects (isWildcard n) rs) s)
+
+  pub unrestricted-exactly : (authorization book n ≡ unrestricted) ↔ Unrestricted book n
+  unfolding authorization
+  unrestricted-exactly = (
+    λ e. rw e at authorization-says,
+    ⊎-elim
+        (λ e. rw e)
+        (λ (rs, e, c, g). rw (e, selects-none (critical-selects rs) .1 c, selects-none (governing-selects (isWildcard n) rs) .1 g)),
+  )
+
+  pub forbidden-exactly : (r : ℕ) → (authorization book n ≡ forbidden r) ↔ ForbiddenBy book n r
+  unfolding authorization
+  forbidden-exactly r = (
+    λ e. rw e at authorization-says,
+    λ (rs, c, e, f, k). rw (e, first-selects (critical-selects rs) f .1, k),
+  )
+
+  pub granted-governs : (r : ℕ) (ns : List (List ℕ)) → authorization book n ≡ granted r ns → Says (granted r ns)
+  granted-governs r ns e = rw e at authorization-says
+
+  pub governs-granted : (r : ℕ) → GovernedFrom book n r → (ns : List (List ℕ)) × (authorization book n ≡ granted r ns)
+  governs-granted r (rs, c, e, none-critical, f, k) =
+      let s = governing-selects (isWildcard n) rs in
+      let (zs, h) = first-selects s f in
+      (grantees (c ∷ zs), governed (c ∷ zs) (rs, e, none-critical, rw h at s) ∙ ap (λ m. granted m (grantees (c ∷ zs))) k)
+
+module _ (book : List CaaRecord) (n : Name) (d : List ℕ) where
+  pub permits-exactly : (permits d (authorization book n) ≡ true) ↔ PermittedTo book n d
+  permits-exactly = (permitted (authorization book n) (authorization-says book n), ⊎-elim open-to-all granted-to)
+    where
+      permitted : (a : Authorization) → Says book n a → permits d a ≡ true → PermittedTo book n d
+      permitted unrestricted s e = inl s
+      permitted (forbidden r) s e = absurd (false≢true e)
+      permitted (granted r ns) (g, (gs, (rs, re, c, sel), k)) e =
+          inr (rs, re, c, any-of-kept sel (grantees-exactly gs (lowered d) .0 (rw k at (any-same (lowered d) ns .0 e))))
+
+      open-to-all : Unrestricted book n → permits d (authorization book n) ≡ true
+      open-to-all u = rw (unrestricted-exactly book n .1 u)
+
+      granted-to : GrantedTo book n d → permits d (authorization book n) ≡ true
+      granted-to (rs, e, c, h) =
+          let s = governing-selects (isWildcard n) rs in
+          rw (governed book n (governing (isWildcard n) rs) (rs, e, c, s)) (granted-permits (governing (isWildcard n) rs) d (any-kept s h))

@@ -1,0 +1,128 @@
+-- Other record numbers change those in the answer and nothing else.
+use Prim.Native.Nat.{ℕ, suc}
+use mathlib.Core.Path.{_≡_, refl, ap, fun-ext}
+use mathlib.Core.Bool.{Bool, true, false, cond}
+use mathlib.Core.List.{List, [], _∷_, map, map-map}
+use Rattle.spec_octets.specs.Lists.{all, select}
+use Rattle.spec_octets.proofs.SelectLaws.{select-map}
+use Rattle.spec_name.specs.Names.{Name, sameName, ancestors}
+use Rattle.spec_request.specs.Request.{isWildcard, base}
+use Rattle.spec_rule.specs.declared.Judgement.{Judgement}
+use Rattle.spec_rule.specs.RelevantSet.{CaaRecord, Lookup, empty, found, asLookup, lookup, firstFound, relevantSet}
+use Rattle.spec_rule.specs.Authorizations.{Authorization, unrestricted, forbidden, granted, isUnknownCritical, isIssue, isIssueWild, orElse, governing, grantee, grantees, governedBy, unlessForbidden, decided, authorization, permits}
+use Rattle.spec_rule.specs.Verdicts.{denied, verdictFrom, verdict}
+use Rattle.spec_rule.specs.IssuerLists.{listed, distinct, issuers}
+use Rattle.spec_rule.specs.Theorems.{renumbered, renumberedAuthorization, renumberedVerdict, Renumbering}
+
+module _ (f : ℕ → ℕ) where
+  abbrev others : List CaaRecord → List CaaRecord
+  others rs = map (renumbered f) rs
+
+  -- a test that doesn't look at the number selects the same records
+  same-select :
+      (p : CaaRecord → Bool) → ((r : CaaRecord) → p (renumbered f r) ≡ p r) → (rs : List CaaRecord) →
+      select p (others rs) ≡ others (select p rs)
+  same-select p h rs = select-map (renumbered f) p p h rs
+
+  -- the relevant set
+  abbrev otherLookup : Lookup → Lookup
+  otherLookup empty = empty
+  otherLookup (found rs) = found (others rs)
+
+  as-lookup : (rs : List CaaRecord) → asLookup (others rs) ≡ otherLookup (asLookup rs)
+  as-lookup [] = refl
+  as-lookup (r ∷ rs) = refl
+
+  same-lookup : (book : List CaaRecord) (x : Name) → lookup (others book) x ≡ otherLookup (lookup book x)
+  unfolding lookup
+  same-lookup book x = rw (same-select _ (λ r. refl) book) (as-lookup (select (λ r. sameName (r .owner) x) book))
+
+  first-found : (ls : List Lookup) → firstFound (map otherLookup ls) ≡ otherLookup (firstFound ls)
+  first-found [] = refl
+  first-found (empty ∷ ls) = first-found ls
+  first-found (found rs ∷ ls) = refl
+
+  same-set : (book : List CaaRecord) (x : Name) → relevantSet (others book) x ≡ otherLookup (relevantSet book x)
+  unfolding relevantSet
+  same-set book x =
+      rw (fun-ext (same-lookup book), ← map-map otherLookup (lookup book) (ancestors x)) (first-found (map (lookup book) (ancestors x)))
+
+  -- what CAA says of a name
+  or-else : (rs qs : List CaaRecord) → orElse (others rs) (others qs) ≡ others (orElse rs qs)
+  or-else [] qs = refl
+  or-else (r ∷ rs) qs = refl
+
+  same-governing : (wildcard : Bool) (rs : List CaaRecord) → governing wildcard (others rs) ≡ others (governing wildcard rs)
+  unfolding governing
+  same-governing true rs =
+      rw (same-select isIssueWild (λ r. refl) rs, same-select isIssue (λ r. refl) rs) (or-else (select isIssueWild rs) (select isIssue rs))
+  same-governing false rs = same-select isIssue (λ r. refl) rs
+
+  same-grantees : (gs : List CaaRecord) → grantees (others gs) ≡ grantees gs
+  unfolding grantee
+  same-grantees [] = refl
+  same-grantees (g ∷ gs) = rw (same-grantees gs)
+
+  governed-by : (gs : List CaaRecord) → governedBy (others gs) ≡ renumberedAuthorization f (governedBy gs)
+  governed-by [] = refl
+  governed-by (g ∷ gs) = rw (same-grantees (g ∷ gs))
+
+  unless-forbidden :
+      (us : List CaaRecord) (a : Authorization) →
+      unlessForbidden (others us) (renumberedAuthorization f a) ≡ renumberedAuthorization f (unlessForbidden us a)
+  unless-forbidden [] a = refl
+  unless-forbidden (u ∷ us) a = refl
+
+  same-decision : (wildcard : Bool) (l : Lookup) → decided wildcard (otherLookup l) ≡ renumberedAuthorization f (decided wildcard l)
+  unfolding isUnknownCritical
+  same-decision wildcard empty = refl
+  same-decision wildcard (found rs) =
+      rw (same-select isUnknownCritical (λ r. refl) rs, same-governing wildcard rs, governed-by (governing wildcard rs))
+      (unless-forbidden (select isUnknownCritical rs) (governedBy (governing wildcard rs)))
+
+  same-authorization : (book : List CaaRecord) (n : Name) → authorization (others book) n ≡ renumberedAuthorization f (authorization book n)
+  unfolding authorization
+  same-authorization book n = rw (same-set book (base n)) (same-decision (isWildcard n) (relevantSet book (base n)))
+
+  abbrev otherwise : List Authorization → List Authorization
+  otherwise said = map (renumberedAuthorization f) said
+
+  same-authorizations : (book : List CaaRecord) (ns : List Name) → map (authorization (others book)) ns ≡ otherwise (map (authorization book) ns)
+  same-authorizations book ns = rw (fun-ext (same-authorization book), map-map)
+
+  -- the verdict, and the issuers
+  same-permits : (d : List ℕ) (a : Authorization) → permits d (renumberedAuthorization f a) ≡ permits d a
+  same-permits d unrestricted = refl
+  same-permits d (forbidden r) = refl
+  same-permits d (granted r ns) = refl
+
+  same-denied : (k : ℕ) (a : Authorization) → denied k (renumberedAuthorization f a) ≡ renumberedVerdict f (denied k a)
+  same-denied k unrestricted = refl
+  same-denied k (forbidden r) = refl
+  same-denied k (granted r ns) = refl
+
+  same-verdict :
+      (k : ℕ) (d : List ℕ) (said : List Authorization) → verdictFrom k d (otherwise said) ≡ renumberedVerdict f (verdictFrom k d said)
+  same-verdict k d [] = refl
+  same-verdict k d (a ∷ rest) =
+      rw (same-permits d a, same-denied k a, same-verdict (suc k) d rest) (go (permits d a) (verdictFrom (suc k) d rest) (denied k a))
+    where
+      go : (t : Bool) (v w : Judgement) → cond t (renumberedVerdict f v) (renumberedVerdict f w) ≡ renumberedVerdict f (cond t v w)
+      go true v w = refl
+      go false v w = refl
+
+  all-permit : (said : List Authorization) (d : List ℕ) → all (permits d) (otherwise said) ≡ all (permits d) said
+  all-permit [] d = refl
+  all-permit (a ∷ rest) d = rw (same-permits d a, all-permit rest d)
+
+  same-issuers : (said : List Authorization) → issuers (otherwise said) ≡ issuers said
+  same-issuers [] = refl
+  same-issuers (unrestricted ∷ rest) = same-issuers rest
+  same-issuers (forbidden r ∷ rest) = refl
+  same-issuers (granted r ns ∷ rest) = ap (λ p. listed (select p (distinct ns))) (fun-ext (all-permit rest))
+
+pub renumbering : Renumbering
+unfolding verdict
+renumbering f book ns =
+    let said = map (authorization book) ns in
+    rw (same-authorizations f book ns) (refl, λ d. same-verdict f 0 d said, same-issuers f said)

@@ -1,0 +1,58 @@
+-- The tables of edges and of calls, and the numbers of the answers, by computing.
+use mathlib.Core.Path.{refl}
+use Rattle.spec_limits.specs.Limits.{maxLabelOctets, maxIssuerOctets, maxNameOctets, maxRequestOctets, maxNames, maxBookOctets, maxRecords}
+use Rattle.spec_octets.specs.Reader.{number}
+use Rattle.spec_name.specs.Names.{name}
+use Rattle.spec_octets.specs.Octets.{isDigit, isUpper, isLower, isLetterOrDigit, isBlank, lower, equalIgnoringCase}
+use Rattle.spec_octets.specs.Label.{isLetterDigitHyphen, isLabel, isHostLabel}
+use Rattle.spec_octets.specs.Decimal.{decimalOctet}
+use Rattle.spec_request.specs.Request.{isWildcard, base, isRequestable, requestedName, nameItems, requestedNames, requestRefusal}
+use Rattle.spec_issuer.specs.Issuer.{isIssuer, issuerRefusal}
+use Rattle.spec_record.specs.Property.{readProperty, property, isCritical, tagOf}
+use Rattle.spec_record.specs.Records.{isCaa, isLaidOut, resourceRecord, recordItems, records, bookRefusal}
+use Rattle.spec_value.specs.IssueValues.{isDomainName, isParameterOctet, isParameterTag, isParameter, areParameters, issueValue}
+use Rattle.spec_rule.specs.RelevantSet.{lookup, relevantSet}
+use Rattle.spec_rule.specs.Authorizations.{isUnknownCritical, governing, grantee, authorization}
+use Rattle.spec_rule.specs.Verdicts.{verdict}
+use Rattle.spec_rule.specs.Calls.{judgementTold, permittedIssuersTold, authorizations, judge, listIssuers}
+use Rattle.spec_rule.specs.Edges.{Edges-agree, Whole-case}
+use Rattle.spec_rule.specs.CallEdges.{Calls-agree, Lists-agree}
+use Rattle.spec_rule.specs.Theorems.{Answers-told, List-told}
+
+pub edges-agree : Edges-agree
+unfolding maxLabelOctets maxIssuerOctets isDigit isUpper isLower isLetterOrDigit isBlank lower equalIgnoringCase
+    isLetterDigitHyphen isLabel isHostLabel decimalOctet isWildcard base isIssuer readProperty property isCritical tagOf isCaa
+    isDomainName isParameterOctet isParameterTag isParameter areParameters issueValue lookup relevantSet
+    isUnknownCritical governing grantee authorization
+edges-agree = refl
+
+pub whole-case : Whole-case
+unfolding maxLabelOctets maxIssuerOctets isDigit isUpper isLower isLetterOrDigit isBlank lower equalIgnoringCase
+    isLetterDigitHyphen isLabel isHostLabel isWildcard base isIssuer readProperty property isCritical tagOf isCaa
+    isDomainName isParameterOctet isParameterTag isParameter areParameters issueValue lookup relevantSet
+    isUnknownCritical governing grantee authorization verdict
+whole-case = (refl, refl, refl, refl)
+
+pub calls-agree : Calls-agree
+unfolding maxLabelOctets maxIssuerOctets maxNameOctets maxRequestOctets maxNames maxBookOctets maxRecords isDigit isUpper isLower
+    isLetterOrDigit isBlank lower equalIgnoringCase isLetterDigitHyphen isLabel isHostLabel isWildcard base isIssuer readProperty property
+    isCritical tagOf isCaa isDomainName isParameterOctet isParameterTag isParameter areParameters issueValue lookup relevantSet
+    isUnknownCritical governing grantee authorization verdict name isRequestable requestedName nameItems requestedNames requestRefusal
+    issuerRefusal isLaidOut resourceRecord recordItems records bookRefusal number authorizations judge
+calls-agree = refl
+
+pub lists-agree : Lists-agree
+unfolding maxLabelOctets maxIssuerOctets maxNameOctets maxRequestOctets maxNames maxBookOctets maxRecords isDigit isUpper isLower
+    isLetterOrDigit isBlank lower equalIgnoringCase isLetterDigitHyphen isLabel isHostLabel isWildcard base isIssuer readProperty property
+    isCritical tagOf isCaa isDomainName isParameterOctet isParameterTag isParameter areParameters issueValue lookup relevantSet
+    isUnknownCritical governing grantee authorization verdict name isRequestable requestedName nameItems requestedNames requestRefusal
+    issuerRefusal isLaidOut resourceRecord recordItems records bookRefusal number authorizations listIssuers
+lists-agree = (refl, refl, refl, refl, refl, refl, refl, refl, refl)
+
+pub answers-told : Answers-told
+unfolding judgementTold permittedIssuersTold
+answers-told = (refl, λ k r. (refl, refl), λ r. (refl, refl))
+
+pub list-told : List-told
+unfolding permittedIssuersTold
+list-told = (refl, λ count octets. refl)

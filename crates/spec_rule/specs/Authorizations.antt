@@ -1,0 +1,110 @@
+-- Who may issue for one requested name: steps 2 to 4 of the requirements' rule of issue (RFC 8659 sections 4.1 to 4.3).
+use Prim.Native.Nat.{ℕ}
+use mathlib.Core.Bool.{Bool, true, false, cond, _&&_}
+use mathlib.Core.List.{List, [], _∷_}
+use mathlib.Core.Option.{Option, none, some}
+use Rattle.spec_octets.specs.Lists.{any, select}
+use Rattle.spec_octets.specs.Octets.{same, lowered}
+use Rattle.spec_name.specs.Names.{Name}
+use Rattle.spec_request.specs.Request.{isWildcard, base}
+use Rattle.spec_issuer.specs.Issuer.{isIssuer}
+use Rattle.spec_record.specs.declared.PropertyTag.{PropertyTag}
+use Rattle.spec_record.specs.declared.PropertyTag.the-variants.{Issue, IssueWild, Iodef, Unknown}
+use Rattle.spec_record.specs.Property.{isCritical, tagOf}
+use Rattle.spec_value.specs.IssueValues.{IssueValue, malformed, nameless, named, issueValue}
+use Rattle.spec_rule.specs.RelevantSet.{CaaRecord, Lookup, empty, found, relevantSet}
+
+-- what CAA says of one requested name
+pub data Authorization : Type 0 where
+  -- CAA does not restrict issuance
+  unrestricted : Authorization
+  -- an unknown critical property: granted to nobody. The number of the first such record
+  forbidden : ℕ → Authorization
+  -- restricted: the number of the first governing record, and the issuers granted, in small letters and in the records' order
+  granted : ℕ → List (List ℕ) → Authorization
+
+abbrev pub isIssueTag : PropertyTag → Bool
+isIssueTag Issue = true
+isIssueTag IssueWild = false
+isIssueTag Iodef = false
+isIssueTag Unknown = false
+
+abbrev pub isIssueWildTag : PropertyTag → Bool
+isIssueWildTag Issue = false
+isIssueWildTag IssueWild = true
+isIssueWildTag Iodef = false
+isIssueWildTag Unknown = false
+
+abbrev pub isUnknownTag : PropertyTag → Bool
+isUnknownTag Issue = false
+isUnknownTag IssueWild = false
+isUnknownTag Iodef = false
+isUnknownTag Unknown = true
+
+abbrev pub propertyTag : CaaRecord → PropertyTag
+propertyTag r = tagOf (r .property .tag)
+
+-- RFC 8659 section 4.1, Issuer Critical Flag: a critical property with an unknown tag
+unfoldable pub isUnknownCritical : CaaRecord → Bool
+isUnknownCritical r = isCritical (r .property) && isUnknownTag (propertyTag r)
+
+abbrev pub isIssue : CaaRecord → Bool
+isIssue r = isIssueTag (propertyTag r)
+
+abbrev pub isIssueWild : CaaRecord → Bool
+isIssueWild r = isIssueWildTag (propertyTag r)
+
+abbrev pub orElse : List CaaRecord → List CaaRecord → List CaaRecord
+orElse [] others = others
+orElse (r ∷ rs) others = r ∷ rs
+
+-- RFC 8659 section 4.3 (the requirements' "governing records"): for X the issue records; for *.X the issuewild records if there are any, else the issue records
+unfoldable pub governing : Bool → List CaaRecord → List CaaRecord
+governing wildcard rs = cond wildcard (orElse (select isIssueWild rs) (select isIssue rs)) (select isIssue rs)
+
+-- the one issuer that a governing record grants: the name that its value holds, in small letters. A value that doesn't fit the
+-- grammar, holds no name, or holds one beyond the limits of issuer names grants nobody
+abbrev pub holder : IssueValue → Option (List ℕ)
+holder malformed = none
+holder nameless = none
+holder (named n) = cond (isIssuer n) (some (lowered n)) none
+
+unfoldable pub grantee : CaaRecord → Option (List ℕ)
+grantee r = holder (issueValue (r .property .value))
+
+-- there is a grantee, and it is d
+abbrev pub isGrantee : List ℕ → Option (List ℕ) → Bool
+isGrantee d none = false
+isGrantee d (some n) = same d n
+
+abbrev pub consSome : Option (List ℕ) → List (List ℕ) → List (List ℕ)
+consSome none ns = ns
+consSome (some n) ns = n ∷ ns
+
+abbrev pub grantees : List CaaRecord → List (List ℕ)
+grantees [] = []
+grantees (r ∷ rs) = consSome (grantee r) (grantees rs)
+
+-- no governing record: not restricted; one or more: restricted
+abbrev pub governedBy : List CaaRecord → Authorization
+governedBy [] = unrestricted
+governedBy (g ∷ gs) = granted (g .number) (grantees (g ∷ gs))
+
+-- an unknown critical record comes before all else
+abbrev pub unlessForbidden : List CaaRecord → Authorization → Authorization
+unlessForbidden [] a = a
+unlessForbidden (u ∷ us) a = forbidden (u .number)
+
+abbrev pub decided : Bool → Lookup → Authorization
+decided wildcard empty = unrestricted
+decided wildcard (found rs) = unlessForbidden (select isUnknownCritical rs) (governedBy (governing wildcard rs))
+
+-- for X or *.X the search starts at X
+unfoldable pub authorization : List CaaRecord → Name → Authorization
+authorization book n = decided (isWildcard n) (relevantSet book (base n))
+
+-- the issuer d may issue for a name of which CAA says this
+abbrev pub permits : List ℕ → Authorization → Bool
+permits d unrestricted = true
+permits d (forbidden r) = false
+permits d (granted r ns) = any (same (lowered d)) ns

@@ -1,0 +1,89 @@
+-- The two calls, whole: any octets in, one answer out, and what a lent buffer then holds.
+use Prim.Native.Nat.{ℕ}
+use mathlib.Core.Bool.{cond}
+use mathlib.Core.List.{List, [], _∷_, _++_, map}
+use mathlib.Core.Option.{Option, none, some}
+use lib.Dec.{leb}
+use lib.ListN.{length, drop}
+use Rattle.spec_refusal.specs.declared.Refusal.{Refusal}
+use Rattle.spec_refusal.specs.declared.Refusal.the-variants.{NoRoom}
+use Rattle.spec_refusal.specs.Refusal.{number, place}
+use Rattle.spec_request.specs.Request.{requestedNames, requestRefusal}
+use Rattle.spec_issuer.specs.Issuer.{issuerRefusal}
+use Rattle.spec_record.specs.Records.{records, bookRefusal}
+use Rattle.spec_rule.specs.declared.Judgement.{Judgement}
+use Rattle.spec_rule.specs.declared.Judgement.the-variants.{Permitted, UnknownCritical, NotGranted, Refused}
+use Rattle.spec_rule.specs.declared.PermittedIssuers.{PermittedIssuers}
+use Rattle.spec_rule.specs.declared.PermittedIssuers.the-variants.{Anyone, Listed, Refused as ListRefused}
+use Rattle.spec_rule.specs.RelevantSet.{caaRecords}
+use Rattle.spec_rule.specs.Authorizations.{Authorization, authorization}
+use Rattle.spec_rule.specs.Verdicts.{verdict}
+use Rattle.spec_rule.specs.IssuerLists.{Issuers, anyone, listed, issuers, entries}
+
+-- what CAA says of each requested name, by the records of the book
+unfoldable pub authorizations : List ℕ → List ℕ → List Authorization
+authorizations request book = map (authorization (caaRecords (records book))) (requestedNames request)
+
+-- checks in their order, each a refusal or go on: the first refusal is the answer
+abbrev pub firstRefusal : List (Option Refusal) → Option Refusal
+firstRefusal [] = none
+firstRefusal (none ∷ checks) = firstRefusal checks
+firstRefusal (some r ∷ checks) = some r
+
+-- May this issuer sign?
+abbrev pub judgeChecks : List ℕ → List ℕ → List ℕ → List (Option Refusal)
+judgeChecks request issuer book = requestRefusal request ∷ issuerRefusal issuer ∷ bookRefusal book ∷ []
+
+abbrev pub refusedOr : Option Refusal → Judgement → Judgement
+refusedOr none j = j
+refusedOr (some r) j = Refused r
+
+unfoldable pub judge : List ℕ → List ℕ → List ℕ → Judgement
+judge request issuer book =
+    refusedOr (firstRefusal (judgeChecks request issuer book)) (verdict issuer (authorizations request book))
+
+-- Who may sign? The answer, and the buffer afterwards.
+pub record Listing : Type 0 where
+  pub answer : PermittedIssuers
+  pub buffer : List ℕ
+
+abbrev pub roomRefusal : Issuers → List ℕ → Option Refusal
+roomRefusal anyone buffer = none
+roomRefusal (listed ns) buffer = cond (leb (length (entries ns)) (length buffer)) none (some (NoRoom (length (entries ns))))
+
+abbrev pub listChecks : List ℕ → List ℕ → List ℕ → List (Option Refusal)
+listChecks request book buffer =
+    requestRefusal request ∷ bookRefusal book ∷ roomRefusal (issuers (authorizations request book)) buffer ∷ []
+
+-- the entries at the front, the rest as it was
+abbrev pub written : Issuers → List ℕ → Listing
+written anyone buffer = record { answer = Anyone; buffer = buffer }
+written (listed ns) buffer =
+    record { answer = Listed (length ns) (length (entries ns)); buffer = entries ns ++ drop (length (entries ns)) buffer }
+
+abbrev pub unlessRefused : Option Refusal → Listing → List ℕ → Listing
+unlessRefused none l buffer = l
+unlessRefused (some r) l buffer = record { answer = ListRefused r; buffer = buffer }
+
+unfoldable pub listIssuers : List ℕ → List ℕ → List ℕ → Listing
+listIssuers request book buffer =
+    unlessRefused (firstRefusal (listChecks request book buffer)) (written (issuers (authorizations request book)) buffer) buffer
+
+-- The requirements' number and values of each answer. Numbers 30 and 31 are this project's own: the requirements give none.
+pub record Told : Type 0 where
+  pub number : ℕ
+  pub values : List ℕ
+
+abbrev pub refusalTold : Refusal → Told
+refusalTold r = record { number = number r; values = place r ∷ [] }
+
+unfoldable pub judgementTold : Judgement → Told
+judgementTold Permitted = record { number = 0; values = [] }
+judgementTold (UnknownCritical d) = record { number = 20; values = d .name .0 ∷ d .rr .0 ∷ [] }
+judgementTold (NotGranted d) = record { number = 21; values = d .name .0 ∷ d .rr .0 ∷ [] }
+judgementTold (Refused r) = refusalTold r
+
+unfoldable pub permittedIssuersTold : PermittedIssuers → Told
+permittedIssuersTold Anyone = record { number = 30; values = [] }
+permittedIssuersTold (Listed count octets) = record { number = 31; values = octets ∷ count ∷ [] }
+permittedIssuersTold (ListRefused r) = refusalTold r

@@ -1,0 +1,250 @@
+-- What the definitions of this crate mean. Each statement is proved under its name in proofs/.
+use Prim.Native.Nat.{ℕ, _+_, _≤_, _<_}
+use mathlib.Core.Path.{_≡_}
+use mathlib.Core.Logic.{_↔_, _≢_, _⊎_}
+use mathlib.Core.List.{List, [], _∷_, _++_, map, List·Memᴰ}
+use mathlib.Core.Option.{none}
+use lib.ListN.{length, take, drop}
+use Rattle.spec_refusal.specs.declared.Refusal.{Refusal}
+use Rattle.spec_refusal.specs.declared.Refusal.the-variants.{RequestTooLong, BadName, TooManyNames, BadIssuer, BookTooLong, BadRecord, TooManyRecords, NoRoom, BadLine, LineTooLong, BadData}
+use Rattle.spec_refusal.specs.Refusal.{number, place}
+use Rattle.spec_octets.specs.Lists.{All, Any, Distinct, Selects}
+use Rattle.spec_octets.specs.Octets.{Octets, lowered}
+use Rattle.spec_octets.specs.Items.{whole, items}
+use Rattle.spec_name.specs.Names.{Name}
+use Rattle.spec_request.specs.Request.{requestedNames, requestRefusal}
+use Rattle.spec_request.specs.Theorems.{Row-1, Row-2, Row-3}
+use Rattle.spec_issuer.specs.Issuer.{issuerRefusal}
+use Rattle.spec_issuer.specs.Theorems.{WellFormed, Row-4}
+use Rattle.spec_record.specs.Records.{Record, records, bookRefusal}
+use Rattle.spec_record.specs.Theorems.{GoodRecord, Row-5, Row-6, Row-7}
+use Rattle.spec_rule.specs.declared.Judgement.{Judgement}
+use Rattle.spec_rule.specs.declared.Judgement.the-variants.{Permitted, UnknownCritical, NotGranted, Refused}
+use Rattle.spec_rule.specs.declared.PermittedIssuers.the-variants.{Anyone, Listed, Refused as ListRefused}
+use Rattle.spec_rule.specs.RelevantSet.{CaaRecord, empty, found, caaRecords, lookup, relevantSet}
+use Rattle.spec_rule.specs.Authorizations.{Authorization, unrestricted, forbidden, granted, authorization}
+use Rattle.spec_rule.specs.Verdicts.{denial, verdict}
+use Rattle.spec_rule.specs.IssuerLists.{Issuers, anyone, listed, issuers, entries, readEntry}
+use Rattle.spec_rule.specs.Calls.{authorizations, judge, Listing, listIssuers, judgementTold, permittedIssuersTold}
+use Rattle.spec_rule.specs.Meaning.{CaaRecordsOf, OwnedBy, NearestAt, UnknownCriticalRecord, Relevant, Unrestricted, PermittedTo, ForbiddenBy, GovernedFrom, GoverningRecords, LowestNot, Before, GrantedBefore}
+
+-- the CAA records are those of type 257 and class 1, numbered from 0 over all records
+abbrev pub Caa-records : Type 0
+Caa-records = (rs : List Record) → All GoodRecord rs → CaaRecordsOf 0 rs (caaRecords rs)
+
+-- a lookup finds the CAA records of that owner, all of them, in the book's order
+abbrev pub A-lookup : Type 0
+A-lookup =
+    (book : List CaaRecord) (x : Name) →
+    ((lookup book x ≡ empty) ↔ All (λ r. OwnedBy x r → ⊥) book)
+    × ((rs : List CaaRecord) → (lookup book x ≡ found rs) ↔ (Selects (OwnedBy x) book rs × (rs ≢ [])))
+
+-- the relevant set is what is found at the first of X, its parent, .. at which anything is found; the root is not among these
+abbrev pub Nearest-name-decides : Type 0
+Nearest-name-decides =
+    (book : List CaaRecord) (x : Name) →
+    ((rs : List CaaRecord) → (relevantSet book x ≡ found rs) ↔ ((k : ℕ) × NearestAt book x k rs))
+    × ((relevantSet book x ≡ empty) ↔ ((k : ℕ) → k < length x → lookup book (drop k x) ≡ empty))
+
+-- permitted exactly when every name is unrestricted or granted to the issuer; else the lowest name that isn't, and why
+abbrev pub Verdict-on : List CaaRecord → List Name → List ℕ → Judgement → Type 0
+Verdict-on book ns d v =
+    ((v ≡ Permitted) ↔ All (λ n. PermittedTo book n d) ns)
+    × ((k r : ℕ) → (v ≡ UnknownCritical (denial k r)) ↔ ((n : Name) × LowestNot (λ m. PermittedTo book m d) ns k n × ForbiddenBy book n r))
+    × ((k r : ℕ) → (v ≡ NotGranted (denial k r)) ↔ ((n : Name) × LowestNot (λ m. PermittedTo book m d) ns k n × GovernedFrom book n r))
+    × ((r : Refusal) → v ≢ Refused r)
+
+abbrev pub Verdict-by-the-rule : Type 0
+Verdict-by-the-rule = (book : List CaaRecord) (ns : List Name) (d : List ℕ) → Verdict-on book ns d (verdict d (map (authorization book) ns))
+
+-- an accepted request, issuer name and book are judged by their names and records
+abbrev pub Judge-accepted : Type 0
+Judge-accepted =
+    (request issuer book : List ℕ) → requestRefusal request ≡ none → issuerRefusal issuer ≡ none → bookRefusal book ≡ none →
+    Verdict-on (caaRecords (records book)) (requestedNames request) issuer (judge request issuer book)
+
+-- The requirements' table, row by row: when each refusal is due. Rows 4 and 8 are not every call's.
+abbrev pub Row : List ℕ → List ℕ → Type 0 → (ℕ → Type 0) → Refusal → Type 0
+Row request book four eight RequestTooLong = Row-1 request
+Row request book four eight (BadName k) = Row-2 request (k .0)
+Row request book four eight TooManyNames = Row-3 request
+Row request book four eight BadIssuer = four
+Row request book four eight BookTooLong = Row-5 book
+Row request book four eight (BadRecord r) = Row-6 book (r .0)
+Row request book four eight TooManyRecords = Row-7 book
+Row request book four eight (NoRoom n) = eight n
+Row request book four eight BadLine = ⊥
+Row request book four eight LineTooLong = ⊥
+Row request book four eight BadData = ⊥
+
+-- the output needs n octets, and the buffer has fewer
+abbrev pub Row-8 : List ℕ → List ℕ → List ℕ → ℕ → Type 0
+Row-8 request book buffer n =
+    (ns : List (List ℕ)) × (issuers (authorizations request book) ≡ listed ns) × (length (entries ns) ≡ n) × (length buffer < n)
+
+abbrev pub JudgeRow : List ℕ → List ℕ → List ℕ → Refusal → Type 0
+JudgeRow request issuer book r = Row request book (Row-4 issuer) (λ n. ⊥) r
+
+abbrev pub ListRow : List ℕ → List ℕ → List ℕ → Refusal → Type 0
+ListRow request book buffer r = Row request book ⊥ (Row-8 request book buffer) r
+
+-- the order of checks is that of the numbers: the row holds, and no row of a lower number does
+abbrev pub FirstRow : (Refusal → Type 0) → Refusal → Type 0
+FirstRow rows r = rows r × ((q : Refusal) → number q < number r → rows q → ⊥)
+
+-- each refusal is given exactly when the table says
+abbrev pub Judge-refusals : Type 0
+Judge-refusals =
+    (request issuer book : List ℕ) → Octets request → Octets book → (r : Refusal) →
+    (judge request issuer book ≡ Refused r) ↔ FirstRow (JudgeRow request issuer book) r
+
+-- and the lent buffer stays as it was
+abbrev pub List-refusals : Type 0
+List-refusals =
+    (request book buffer : List ℕ) → Octets request → Octets book → (r : Refusal) →
+    ((listIssuers request book buffer .answer ≡ ListRefused r) ↔ FirstRow (ListRow request book buffer) r)
+    × (listIssuers request book buffer .answer ≡ ListRefused r → listIssuers request book buffer .buffer ≡ buffer)
+
+-- Demand 3, over the rule's own verdict: what the issuers are, for an accepted request and book.
+pub record PermittedIssuersAre (request book : List ℕ) (answer : Issuers) : Type 0 where
+  pub anyone-exactly : (answer ≡ anyone) ↔ All (Unrestricted (caaRecords (records book))) (requestedNames request)
+  pub permitted-exactly : (d : List ℕ) → WellFormed d →
+      (judge request d book ≡ Permitted) ↔ ((answer ≡ anyone) ⊎ ((ns : List (List ℕ)) × (answer ≡ listed ns) × List·Memᴰ (lowered d) ns))
+  pub well-formed : (ns : List (List ℕ)) → answer ≡ listed ns → All (λ n. WellFormed n × (lowered n ≡ n)) ns
+  pub none-twice : (ns : List (List ℕ)) → answer ≡ listed ns → Distinct ns
+  -- the order is that of the records that govern the restricted name with the lowest number
+  pub in-order : (ns : List (List ℕ)) → answer ≡ listed ns → (k : ℕ) (n : Name) (gs : List CaaRecord) →
+      LowestNot (Unrestricted (caaRecords (records book))) (requestedNames request) k n →
+      GoverningRecords (caaRecords (records book)) n gs → (a b : List ℕ) → List·Memᴰ a ns → List·Memᴰ b ns →
+      Before a b ns ↔ GrantedBefore gs a b
+
+abbrev pub Permitted-issuers : Type 0
+Permitted-issuers =
+    (request book : List ℕ) → requestRefusal request ≡ none → bookRefusal book ≡ none →
+    PermittedIssuersAre request book (issuers (authorizations request book))
+
+-- the count is that of the list, and the octets are its lengths together and one more for each
+abbrev pub total : List (List ℕ) → ℕ
+total [] = 0
+total (n ∷ ns) = length n + 1 + total ns
+
+-- the list stands at the front and what is behind it stays; for anyone all of the buffer does
+abbrev pub List-in-the-buffer : Type 0
+List-in-the-buffer =
+    (request book buffer : List ℕ) → requestRefusal request ≡ none → bookRefusal book ≡ none →
+    (issuers (authorizations request book) ≡ anyone →
+    listIssuers request book buffer ≡ record { answer = Anyone; buffer = buffer })
+    × ((ns : List (List ℕ)) → issuers (authorizations request book) ≡ listed ns → total ns ≤ length buffer →
+    listIssuers request book buffer
+    ≡ record { answer = Listed (length ns) (total ns); buffer = entries ns ++ drop (total ns) buffer })
+
+-- an unknown critical record in the relevant set of any requested name gives an empty list, in any buffer
+abbrev pub Unknown-critical-lists-nobody : Type 0
+Unknown-critical-lists-nobody =
+    (request book buffer : List ℕ) → requestRefusal request ≡ none → bookRefusal book ≡ none →
+    Any
+    (λ n. (rs : List CaaRecord) × Relevant (caaRecords (records book)) n rs × Any UnknownCriticalRecord rs)
+    (requestedNames request) →
+    listIssuers request book buffer ≡ record { answer = Listed 0 0; buffer = buffer }
+
+-- a buffer as long as the book is always enough
+abbrev pub Room-of-the-book : Type 0
+Room-of-the-book =
+    (request book : List ℕ) → Octets book → bookRefusal book ≡ none → (ns : List (List ℕ)) →
+    issuers (authorizations request book) ≡ listed ns → total ns ≤ length book
+
+-- each entry has its own length before it
+abbrev pub Entries-laid-out : Type 0
+Entries-laid-out = (entries [] ≡ []) × ((n : List ℕ) (ns : List (List ℕ)) → entries (n ∷ ns) ≡ length n ∷ (n ++ entries ns))
+
+-- the names of a list are read back from its octets
+abbrev pub Entries-read-back : Type 0
+Entries-read-back = (ns : List (List ℕ)) → items readEntry (length ns) (entries ns) ≡ whole ns
+
+-- the front of the buffer, so many octets, is so many entries and nothing else: those of ns
+abbrev pub ReadsBack : ℕ → ℕ → List ℕ → List (List ℕ) → Type 0
+ReadsBack count octets buffer ns =
+    (octets ≤ length buffer) × (length ns ≡ count) × (items readEntry count (take octets buffer) ≡ whole ns)
+
+-- the answer is a list, and ns are the names that a caller reads from the buffer
+abbrev pub ListsNames : Listing → List (List ℕ) → Type 0
+ListsNames l ns = (count octets : ℕ) × (l .answer ≡ Listed count octets) × ReadsBack count octets (l .buffer) ns
+
+-- Demand 3, of the call itself: what a caller learns from the answer and the buffer's octets, the buffer having been lent as given.
+pub record ListingTells (request book buffer : List ℕ) (l : Listing) : Type 0 where
+  pub anyone-exactly : (l .answer ≡ Anyone) ↔ All (Unrestricted (caaRecords (records book))) (requestedNames request)
+  pub permitted-exactly : (d : List ℕ) → WellFormed d →
+      (judge request d book ≡ Permitted) ↔ ((l .answer ≡ Anyone) ⊎ ((ns : List (List ℕ)) × ListsNames l ns × List·Memᴰ (lowered d) ns))
+  pub answered : (l .answer ≡ Anyone) ⊎ ((count octets : ℕ) × (l .answer ≡ Listed count octets))
+  -- whatever count and octets are told, that list is there to be read
+  pub readable : (count octets : ℕ) → l .answer ≡ Listed count octets → (ns : List (List ℕ)) × ReadsBack count octets (l .buffer) ns
+  pub counted : (ns : List (List ℕ)) → ListsNames l ns → l .answer ≡ Listed (length ns) (total ns)
+  pub well-formed : (ns : List (List ℕ)) → ListsNames l ns → All (λ n. WellFormed n × (lowered n ≡ n)) ns
+  pub none-twice : (ns : List (List ℕ)) → ListsNames l ns → Distinct ns
+  -- the order is that of the records that govern the restricted name with the lowest number
+  pub in-order : (ns : List (List ℕ)) → ListsNames l ns → (k : ℕ) (n : Name) (gs : List CaaRecord) →
+      LowestNot (Unrestricted (caaRecords (records book))) (requestedNames request) k n →
+      GoverningRecords (caaRecords (records book)) n gs → (a b : List ℕ) → List·Memᴰ a ns → List·Memᴰ b ns →
+      Before a b ns ↔ GrantedBefore gs a b
+  pub length-stays : length (l .buffer) ≡ length buffer
+  pub rest-stays : (count octets : ℕ) → l .answer ≡ Listed count octets → drop octets (l .buffer) ≡ drop octets buffer
+  pub nothing-written : l .answer ≡ Anyone → l .buffer ≡ buffer
+
+-- in every buffer with room, whatever it held
+abbrev pub Call-lists-the-permitted : Type 0
+Call-lists-the-permitted =
+    (request book buffer : List ℕ) → requestRefusal request ≡ none → bookRefusal book ≡ none →
+    ((n : ℕ) → listIssuers request book buffer .answer ≢ ListRefused (NoRoom n)) →
+    ListingTells request book buffer (listIssuers request book buffer)
+
+-- a buffer as long as the book is room enough
+abbrev pub Book-length-is-room : Type 0
+Book-length-is-room =
+    (request book buffer : List ℕ) → Octets book → requestRefusal request ≡ none → bookRefusal book ≡ none →
+    length book ≤ length buffer → (r : Refusal) → listIssuers request book buffer .answer ≢ ListRefused r
+
+-- Room is enough when the buffer has the octets of the list, whatever buffer these were told for; anyone needs none.
+abbrev pub Room-needed : Type 0
+Room-needed =
+    (request book buffer other : List ℕ) → requestRefusal request ≡ none → bookRefusal book ≡ none →
+    (listIssuers request book other .answer ≡ Anyone → listIssuers request book buffer .answer ≡ Anyone)
+    × ((count octets : ℕ) → listIssuers request book other .answer ≡ Listed count octets →
+    (octets ≤ length buffer → listIssuers request book buffer .answer ≡ Listed count octets)
+    × (length buffer < octets → listIssuers request book buffer ≡ record { answer = ListRefused (NoRoom octets); buffer = buffer }))
+
+-- the numbers of the answers: 0; 20 and 21 with a name's and a record's number; a refusal's own
+abbrev pub Answers-told : Type 0
+Answers-told =
+    (judgementTold Permitted ≡ record { number = 0; values = [] })
+    × ((k r : ℕ) → (judgementTold (UnknownCritical (denial k r)) ≡ record { number = 20; values = k ∷ r ∷ [] })
+    × (judgementTold (NotGranted (denial k r)) ≡ record { number = 21; values = k ∷ r ∷ [] }))
+    × ((r : Refusal) → (judgementTold (Refused r) ≡ record { number = number r; values = place r ∷ [] })
+    × (permittedIssuersTold (ListRefused r) ≡ record { number = number r; values = place r ∷ [] }))
+
+-- those of the list are this project's own: 30, and 31 with octets and count
+abbrev pub List-told : Type 0
+List-told =
+    (permittedIssuersTold Anyone ≡ record { number = 30; values = [] })
+    × ((count octets : ℕ) → permittedIssuersTold (Listed count octets) ≡ record { number = 31; values = octets ∷ count ∷ [] })
+
+-- Deciding never computes with record numbers: other numbers change those in the answer and nothing else.
+abbrev pub renumbered : (ℕ → ℕ) → CaaRecord → CaaRecord
+renumbered f r = record { number = f (r .number); owner = r .owner; property = r .property }
+
+abbrev pub renumberedAuthorization : (ℕ → ℕ) → Authorization → Authorization
+renumberedAuthorization f unrestricted = unrestricted
+renumberedAuthorization f (forbidden r) = forbidden (f r)
+renumberedAuthorization f (granted r ns) = granted (f r) ns
+
+abbrev pub renumberedVerdict : (ℕ → ℕ) → Judgement → Judgement
+renumberedVerdict f Permitted = Permitted
+renumberedVerdict f (UnknownCritical d) = UnknownCritical (denial (d .name .0) (f (d .rr .0)))
+renumberedVerdict f (NotGranted d) = NotGranted (denial (d .name .0) (f (d .rr .0)))
+renumberedVerdict f (Refused r) = Refused r
+
+abbrev pub Renumbering : Type 0
+Renumbering =
+    (f : ℕ → ℕ) (book : List CaaRecord) (ns : List Name) →
+    (map (authorization (map (renumbered f) book)) ns ≡ map (renumberedAuthorization f) (map (authorization book) ns))
+    × ((d : List ℕ) → verdict d (map (authorization (map (renumbered f) book)) ns) ≡ renumberedVerdict f (verdict d (map (authorization book) ns)))
+    × (issuers (map (authorization (map (renumbered f) book)) ns) ≡ issuers (map (authorization book) ns))

@@ -1,0 +1,74 @@
+-- `main` is safe and ends.
+use Prim.Native.Nat.{_-_, _≤_}
+use borrow.Author.Needs.{needs}
+use Rattle.test_runs.proofs.main.Statement.{statement}
+use Rattle.test_runs.proofs.main.Tie as tie
+
+abbrev Inv-loop : tie.InvT-loop
+Inv-loop fd cases k₀ t6 k = k ≤ cases
+
+abbrev μ-loop : tie.MeasureT-loop
+μ-loop fd cases k₀ t6 k = cases - k
+
+slice-aggregate-open-read : tie.Need-slice-aggregate-open-read Inv-loop μ-loop
+slice-aggregate-open-read c = search needs
+
+open-read-requires : tie.Need-open-read-requires Inv-loop μ-loop
+open-read-requires c κs = search needs
+
+read-number-requires : tie.Need-read-number-requires Inv-loop μ-loop
+read-number-requires c κs = search needs
+
+loop-holds : tie.Need-loop-holds Inv-loop μ-loop
+loop-holds c = search needs
+
+run-next-requires : tie.Need-run-next-requires Inv-loop μ-loop
+run-next-requires c κs = search needs
+
+add-k : tie.Need-add-k Inv-loop μ-loop
+add-k c = search needs
+
+loop-less : tie.Need-loop-less Inv-loop μ-loop
+loop-less c = search needs
+
+loop-again : tie.Need-loop-again Inv-loop μ-loop
+loop-again c = search needs
+
+slice-aggregate-read-full : tie.Need-slice-aggregate-read-full Inv-loop μ-loop
+slice-aggregate-read-full c = search needs
+
+read-full-requires : tie.Need-read-full-requires Inv-loop μ-loop
+read-full-requires c κs = search needs
+
+returns : tie.Need-returns Inv-loop μ-loop
+returns c = search needs
+
+slice-aggregate-write-all : tie.Need-slice-aggregate-write-all Inv-loop μ-loop
+slice-aggregate-write-all c = search needs
+
+write-all-requires : tie.Need-write-all-requires Inv-loop μ-loop
+write-all-requires c κs = search needs
+
+returns-2 : tie.Need-returns-2 Inv-loop μ-loop
+returns-2 c = search needs
+
+pub main-spec : {M : Type 1} → statement M
+main-spec =
+    tie.close
+    (tie.spec
+    Inv-loop
+    μ-loop
+    slice-aggregate-open-read
+    open-read-requires
+    read-number-requires
+    loop-holds
+    run-next-requires
+    add-k
+    loop-less
+    loop-again
+    slice-aggregate-read-full
+    read-full-requires
+    returns
+    slice-aggregate-write-all
+    write-all-requires
+    returns-2)

@@ -1,0 +1,64 @@
+-- `put_lowered` meets its contract. The loop's invariant: the octets before the place are put, in small letters.
+use Prim.Native.Nat.{_≤_, _-_}
+use mathlib.Core.Path.{_≡_}
+use lib.ListN.{length, take}
+use borrow.Author.Needs.{needs}
+use Rattle.spec_octets.specs.Octets.{lowered}
+use Rattle.text_buffer.specs.Buffer.{Put}
+use Rattle.text_buffer.proofs.LentRest.{put-nothing, set-length}
+use Rattle.text_buffer.proofs.PutLoops.{none-lowered-answer, none-lowered-octets, lowered-turn, lowered-answer, lowered-there}
+use Rattle.text_buffer.proofs.put_lowered.Statement.{statement}
+use Rattle.text_buffer.proofs.put_lowered.Tie as tie
+
+abbrev Inv-loop : tie.InvT-loop
+Inv-loop s out₀ i₀ out i = (i ≤ length s) × (length out ≡ length out₀) × Put (lowered (take i s)) out₀ out i
+
+abbrev μ-loop : tie.MeasureT-loop
+μ-loop s out₀ i₀ out i = length s - i
+
+returns : tie.Need-returns Inv-loop μ-loop
+returns c = search (needs, none-lowered-answer, none-lowered-octets)
+
+loop-holds : tie.Need-loop-holds Inv-loop μ-loop
+loop-holds c = search (needs, put-nothing)
+
+shared-slice-read-to-lower : tie.Need-shared-slice-read-to-lower Inv-loop μ-loop
+shared-slice-read-to-lower c = search needs
+
+to-lower-requires : tie.Need-to-lower-requires Inv-loop μ-loop
+to-lower-requires c κs = search needs
+
+slice-write-out : tie.Need-slice-write-out Inv-loop μ-loop
+slice-write-out c = search needs
+
+add-i : tie.Need-add-i Inv-loop μ-loop
+add-i c = search needs
+
+loop-less : tie.Need-loop-less Inv-loop μ-loop
+loop-less c = search needs
+
+loop-again : tie.Need-loop-again Inv-loop μ-loop
+loop-again c = search (needs, set-length, lowered-turn)
+
+same-length : tie.Need-same-length Inv-loop μ-loop
+same-length c = search needs
+
+returns-2 : tie.Need-returns-2 Inv-loop μ-loop
+returns-2 c = search (needs, lowered-answer, lowered-there)
+
+pub put-lowered-spec : {M : Type 1} → statement M
+put-lowered-spec =
+    tie.close
+    (tie.spec
+    Inv-loop
+    μ-loop
+    returns
+    loop-holds
+    shared-slice-read-to-lower
+    to-lower-requires
+    slice-write-out
+    add-i
+    loop-less
+    loop-again
+    same-length
+    returns-2)

@@ -1,0 +1,93 @@
+// Numbers in decimal, read and written.
+ghost use mathlib.Core.Path.{_≡_};
+ghost use Prim.Native.Nat.{_≤_};
+ghost use lib.ListN.{length};
+ghost use Rattle.spec_octets.specs.WrittenDecimal.{decimal};
+ghost use Rattle.text_buffer.specs.Buffer.{Put, filled, filledLength};
+ghost use Rattle.spec_line.specs.Written.{threeDigits};
+ghost use Rattle.text_decimal.specs.Places.{decimalIn};
+
+// A number read, if there is one.
+pub enum OctetRead {
+    Good(u8),
+    Fault,
+}
+
+// An octet in decimal: 1 to 3 digits, not above 255.
+pub fn decimal_octet(s: &[u8]) -> OctetRead
+    ensures { λ r. ⌜ r ≡ decimalIn (now (s .entry)) ⌝ }
+{
+    if s.len() == 0 {
+        return OctetRead::Fault;
+    }
+    if 3 < s.len() {
+        return OctetRead::Fault;
+    }
+    let mut n: usize = 0;
+    let mut i: usize = 0;
+    while i < s.len() {
+        let b = s[i];
+        if !text_ascii::is_digit(b) {
+            return OctetRead::Fault;
+        }
+        n = n * 10 + (b - b'0') as usize;
+        if 255 < n {
+            return OctetRead::Fault;
+        }
+        i += 1;
+    }
+    OctetRead::Good(n as u8)
+}
+
+// An octet in three digits, at the front of the lent buffer; where there is no room nothing is put, and the answer is 0.
+pub fn put_three_digits(b: u8, out: &mut [u8]) -> usize
+    ensures answer { λ r. ⌜ r ≡ filledLength (threeDigits b) (now (out .entry)) ⌝ }
+    ensures octets { λ r. ⌜ now (out .exit) ≡ filled (threeDigits b) (now (out .entry)) ⌝ }
+{
+    if out.len() < 3 {
+        return 0;
+    }
+    out[0] = b'0' + b / 100;
+    out[1] = b'0' + b / 10 % 10;
+    out[2] = b'0' + b % 10;
+    3
+}
+
+// How many octets a number takes in decimal.
+pub fn decimal_length(n: u64) -> usize
+    ensures { λ r. ⌜ r ≡ length (decimal n) ⌝ }
+{
+    let mut count: usize = 1;
+    let mut left = n;
+    while 10 <= left {
+        left = left / 10;
+        count += 1;
+    }
+    count
+}
+
+// The digits of a number, its tens first.
+fn put_digits(n: u64, out: &mut [u8]) -> usize
+    requires { ⌜ length (decimal n) ≤ length (now out) ⌝ }
+    ensures { λ r. ⌜ Put (decimal n) (now (out .entry)) (now (out .exit)) r ⌝ }
+{
+    if n < 10 {
+        out[0] = b'0' + n as u8;
+        return 1;
+    }
+    let w = put_digits(n / 10, out);
+    out[w] = b'0' + (n % 10) as u8;
+    w + 1
+}
+
+// A number in as few digits as it takes, at the front of the lent buffer; where there is no room nothing is put, and the answer is 0.
+pub fn put_decimal(n: u64, out: &mut [u8]) -> usize
+    ensures answer { λ r. ⌜ r ≡ filledLength (decimal n) (now (out .entry)) ⌝ }
+    ensures octets { λ r. ⌜ now (out .exit) ≡ filled (decimal n) (now (out .entry)) ⌝ }
+{
+    let count = decimal_length(n);
+    if out.len() < count {
+        return 0;
+    }
+    put_digits(n, out)
+}
