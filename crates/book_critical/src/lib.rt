@@ -1,9 +1,9 @@
 // Searches for unknown critical CAA records: of all owners in a book, and of one.
-use spec_limits::MAX_RECORDS;
-use read_record::RecordRead;
+use book_relevant::Found;
 use book_walk::Step;
 use book_walk::Walk;
-use book_relevant::Found;
+use read_record::RecordRead;
+use spec_limits::MAX_RECORDS;
 ghost use mathlib.Core.Path.{_≡_};
 ghost use Rattle.spec_limits.specs.Limits.{maxRecords};
 ghost use Rattle.spec_octets.specs.Lists.{any, select};

@@ -1,7 +1,7 @@
 // Searches for the issue and issuewild records of an owner: the first, and whether any grants an issuer.
+use book_relevant::Found;
 use book_walk::Step;
 use book_walk::Walk;
-use book_relevant::Found;
 ghost use mathlib.Core.Path.{_≡_};
 ghost use Rattle.spec_octets.specs.Lists.{any, select};
 ghost use Rattle.spec_octets.specs.Octets.{same, lowered};

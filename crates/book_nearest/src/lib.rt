@@ -1,9 +1,9 @@
 // The climb: the nearest name, from a name up, that owns a CAA record.
-use spec_limits::MAX_NAME_OCTETS;
-use spec_limits::MAX_RECORDS;
+use book_relevant::Near;
 use read_name::Climb;
 use read_record::RecordRead;
-use book_relevant::Near;
+use spec_limits::MAX_NAME_OCTETS;
+use spec_limits::MAX_RECORDS;
 ghost use mathlib.Core.Path.{_≡_};
 ghost use Prim.Native.Nat.{_-_};
 ghost use lib.ListN.{length, drop};

@@ -1,6 +1,6 @@
 // The walk over the CAA records of an owner in a book.
-use spec_limits::MAX_RECORDS;
 use read_record::RecordRead;
+use spec_limits::MAX_RECORDS;
 use spec_refusal::RecordNo;
 ghost use mathlib.Core.Path.{_≡_};
 ghost use Rattle.book_walk.specs.Walks.{nextOwned};

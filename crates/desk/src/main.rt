@@ -2,8 +2,8 @@
 //
 // Proved: from the octets handed to it, put_desk_line makes the line of desk_text's definition, and no read passes its buffer. No contract can speak
 // of the outside: which file goes where is held by runs, and that open, read and write do what they say is assumed.
-use spec_desk::LINE_OCTETS;
 use libc::STDOUT_FILENO;
+use spec_desk::LINE_OCTETS;
 use spec_limits::MAX_BOOK_OCTETS;
 use spec_limits::MAX_ISSUER_OCTETS;
 use spec_limits::MAX_REQUEST_OCTETS;

@@ -1,11 +1,11 @@
 // May this issuer sign? The call that judges.
+use book_relevant::Found;
+use book_relevant::Near;
 use judge_name::NameVerdict;
+use read_request::RequestedRead;
 use spec_refusal::Check;
 use spec_refusal::NameNo;
 use spec_refusal::Refusal;
-use book_relevant::Found;
-use book_relevant::Near;
-use read_request::RequestedRead;
 use spec_rule::Denial;
 use spec_rule::Judgement;
 ghost use mathlib.Core.Path.{_≡_};

@@ -1,6 +1,6 @@
 // The verdict on one requested name, by the issue and issuewild records of an owner.
-use spec_refusal::RecordNo;
 use book_relevant::Found;
+use spec_refusal::RecordNo;
 ghost use mathlib.Core.Path.{_≡_};
 ghost use Rattle.spec_octets.specs.Lists.{select};
 ghost use Rattle.spec_rule.specs.Authorizations.{isIssue, governing, governedBy};

@@ -1,8 +1,8 @@
 // The CAA data of a property, given by its flags, its tag and the units of a line that stand for its value.
-use spec_limits::MAX_DATA_OCTETS;
-use spec_limits::MAX_TAG_OCTETS;
 use line_unit::Style;
 use line_unit::UnitRead;
+use spec_limits::MAX_DATA_OCTETS;
+use spec_limits::MAX_TAG_OCTETS;
 use spec_line::Made;
 use spec_refusal::Refusal;
 ghost use mathlib.Core.Path.{_≡_};

@@ -1,9 +1,9 @@
 // The parts of a line by their places: its flags and tag, and what stands for its value.
-use text_decimal::OctetRead;
-use spec_limits::MAX_TAG_OCTETS;
 use line_fields::FieldRead;
 use line_unit::Style;
+use spec_limits::MAX_TAG_OCTETS;
 use text_classes::Class;
+use text_decimal::OctetRead;
 ghost use mathlib.Core.Path.{_≡_};
 ghost use Rattle.spec_line.specs.Read.{isLineTag};
 ghost use Rattle.line_parts.specs.Places.{lineAt, valueAt};

@@ -1,7 +1,7 @@
 // A line of text to its CAA data: the presentation format of RFC 8659 section 4.1.1.
-use spec_limits::MAX_LINE_OCTETS;
 use line_parts::LineRead;
 use line_parts::ValueRead;
+use spec_limits::MAX_LINE_OCTETS;
 use spec_line::Made;
 use spec_refusal::Refusal;
 ghost use mathlib.Core.Path.{_≡_};

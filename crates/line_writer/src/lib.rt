@@ -1,7 +1,7 @@
 // CAA data as a line of text: the presentation format of RFC 8659 section 4.1.1.
+use read_property::PropertyRead;
 use spec_limits::MAX_DATA_OCTETS;
 use spec_line::Made;
-use read_property::PropertyRead;
 use spec_refusal::Refusal;
 use text_classes::Class;
 ghost use mathlib.Core.Path.{_≡_};

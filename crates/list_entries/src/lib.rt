@@ -1,6 +1,6 @@
 // The list of names in a lent buffer: an entry for each.
-use spec_limits::MAX_RECORDS;
 use list_names::Names;
+use spec_limits::MAX_RECORDS;
 ghost use mathlib.Core.Path.{_≡_};
 ghost use Prim.Native.Nat.{_≤_};
 ghost use lib.ListN.{length};

@@ -1,9 +1,9 @@
 // The issuers that the records of an owner grant.
-use read_grantee::GranteeRead;
-use list_names::Names;
-use list_names::Span;
 use book_walk::Step;
 use book_walk::Walk;
+use list_names::Names;
+use list_names::Span;
+use read_grantee::GranteeRead;
 ghost use mathlib.Core.Path.{_≡_};
 ghost use Rattle.list_granted.specs.Places.{grantedNames};
 

@@ -2,10 +2,10 @@
 use list_names::Names;
 use list_names::Span;
 use list_narrowing::SoFar;
+use list_restriction::Restriction;
+use read_request::RequestedRead;
 use spec_refusal::Check;
 use spec_refusal::Refusal;
-use read_request::RequestedRead;
-use list_restriction::Restriction;
 ghost use mathlib.Core.Path.{_≡_};
 ghost use Rattle.list_permitted.specs.Places.{permittedBy};
 

@@ -1,7 +1,7 @@
 // What CAA says of one requested name: the records that govern it, if any.
-use list_names::Span;
 use book_relevant::Found;
 use book_relevant::Near;
+use list_names::Span;
 ghost use mathlib.Core.Path.{_≡_};
 ghost use Rattle.list_restriction.specs.Places.{restrictionAt};
 

@@ -1,8 +1,8 @@
 // Resource records: one at a place, and the check of a whole book.
-use spec_limits::MAX_BOOK_OCTETS;
-use spec_limits::MAX_RECORDS;
 use read_name::NameEnd;
 use read_property::PropertyRead;
+use spec_limits::MAX_BOOK_OCTETS;
+use spec_limits::MAX_RECORDS;
 use spec_refusal::Check;
 use spec_refusal::RecordNo;
 use spec_refusal::Refusal;

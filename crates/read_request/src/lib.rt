@@ -1,8 +1,8 @@
 // Certificate requests: the name asked for at a place, and the check of a whole request.
-use spec_limits::MAX_NAMES;
-use spec_limits::MAX_REQUEST_OCTETS;
 use read_name::Climb;
 use read_name::NameEnd;
+use spec_limits::MAX_NAMES;
+use spec_limits::MAX_REQUEST_OCTETS;
 use spec_refusal::Check;
 use spec_refusal::NameNo;
 use spec_refusal::Refusal;

@@ -1,5 +1,7 @@
 // An answer packed into one number, so that a call needs no lent place for it.
 use spec_refusal::Refusal;
+use spec_refusal::number_of;
+use spec_refusal::place_of;
 ghost use mathlib.Core.Path.{_≡_};
 ghost use Rattle.spec_packed.specs.Packed.{packed, packedRefusal};
 
@@ -14,5 +16,5 @@ pub fn pack(number: u64, a: u64, b: u64, c: u64) -> u64
 pub fn pack_refusal(r: Refusal) -> u64
     ensures { λ n. ⌜ n ≡ packedRefusal r ⌝ }
 {
-    pack(spec_refusal::number_of(r), spec_refusal::place_of(r) as u64, 0, 0)
+    pack(number_of(r), place_of(r) as u64, 0, 0)
 }

@@ -2,10 +2,10 @@
 // the width of their field: 2^24 in a, 2^16 in b and c.
 use read_name::NameEnd;
 use read_property::PropertyRead;
-use spec_record::PropertyTag;
 use read_record::RecordRead;
 use read_request::RequestedRead;
 use read_value::ValueRead;
+use spec_record::PropertyTag;
 ghost use mathlib.Core.Path.{_≡_};
 ghost use Rattle.spec_octets.specs.Octets.{equalIgnoringCase};
 ghost use Rattle.read_name.specs.Places.{nameEnd};
