@@ -17,7 +17,7 @@ use Rattle.spec_name.proofs.NameLaws.{fewer-labels}
 use Rattle.read_name.proofs.Parents.{root-stays, behind-label, label-passed}
 use Rattle.spec_name.proofs.WholeNames.{whole-names}
 use Rattle.spec_request.specs.Request.{isWildcard, base}
-use Rattle.read_request.proofs.RequestPlaces.{good-base}
+use Rattle.spec_request.proofs.RequestedNames.{good-base}
 use Rattle.spec_record.specs.Records.{records, bookRefusal}
 use Rattle.spec_rule.specs.RelevantSet.{CaaRecord, caaRecords, Lookup, asLookup, lookup, firstFound, relevantSet}
 use Rattle.spec_rule.specs.Authorizations.{decided, authorization}

@@ -6,7 +6,7 @@ use mathlib.Core.Bool.{true, false, true≢false}
 use mathlib.Core.List.{List}
 use lib.ListN.{length, take, length-append}
 use Rattle.io.proofs.Counting.{front, counts}
-use Rattle.text_buffer.specs.Buffer.{Put}
+use Rattle.spec_octets.specs.Buffer.{Put}
 use Rattle.desk.specs.Files.{Taken}
 
 pub missing-taken : (buffer : List ℕ) → Taken (record { found = false; length = 0 }) buffer

@@ -4,7 +4,7 @@ use native.Mathlib.Omega.{arith}
 use mathlib.Core.Path.{_≡_}
 use mathlib.Core.List.{List, [], _∷_, _++_}
 use lib.ListN.{length}
-use Rattle.text_buffer.specs.Buffer.{Put, filled, filledLength}
+use Rattle.spec_octets.specs.Buffer.{Put, filled, filledLength}
 use Rattle.text_buffer.proofs.Filled.{put-room}
 use Rattle.spec_octets.specs.Octets.{text}
 use Rattle.spec_refusal.specs.declared.Refusal.{Refusal}

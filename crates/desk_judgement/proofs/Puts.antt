@@ -6,7 +6,7 @@ use mathlib.Core.List.{List, [], _∷_, _++_, append-assoc}
 use lib.ListN.{length, take, drop, set, length-set}
 use mir.Syntax.{w64}
 use mir.Val.{Fits}
-use Rattle.text_buffer.specs.Buffer.{Put, filled, filledLength}
+use Rattle.spec_octets.specs.Buffer.{Put, filled, filledLength}
 use Rattle.text_buffer.proofs.Filled.{put-room}
 use Rattle.text_buffer.proofs.LentRest.{rest-room, put-length, put-more, put-octet}
 use Rattle.spec_octets.specs.WrittenDecimal.{decimal}

@@ -5,7 +5,7 @@ use spec_rule::Judgement;
 ghost use mathlib.Core.List.{_++_, _∷_, []};
 ghost use Prim.Native.Nat.{_+_, _≤_};
 ghost use lib.ListN.{length};
-ghost use Rattle.text_buffer.specs.Buffer.{Put};
+ghost use Rattle.spec_octets.specs.Buffer.{Put};
 ghost use Rattle.spec_octets.specs.WrittenDecimal.{decimal};
 ghost use Rattle.spec_desk.specs.Lines.{lineEnd, numbered, denialText, line};
 

@@ -1,6 +1,6 @@
 // The line of the desk program, from what its files hold.
 use spec_desk::LINE_OCTETS;
-ghost use Rattle.text_buffer.specs.Buffer.{Put};
+ghost use Rattle.spec_octets.specs.Buffer.{Put};
 ghost use Rattle.spec_desk.specs.Lines.{deskLine};
 
 // The desk's line, at the front of the lent buffer, from the request, the issuer domain name and the book, where there is a book.

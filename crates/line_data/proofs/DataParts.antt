@@ -7,7 +7,7 @@ use lib.ListN.{length, take, drop, set, length-set}
 use mir.Syntax.{w8, w64}
 use mir.Val.{Fits}
 use Rattle.spec_limits.specs.Limits.{maxTagOctets}
-use Rattle.text_buffer.specs.Buffer.{Put, filled, filledLength}
+use Rattle.spec_octets.specs.Buffer.{Put, filled, filledLength}
 use Rattle.text_buffer.proofs.Filled.{put-room}
 use Rattle.text_buffer.proofs.LentRest.{rest-room, put-length, put-more, put-two}
 use Rattle.line_data.specs.Places.{dataHead, dataOf}

@@ -9,7 +9,7 @@ use lib.ListN.{length, length-append}
 use borrow.Author.Tests.{le-leb, lt-leb}
 use Rattle.spec_limits.specs.Limits.{maxDataOctets, maxTagOctets}
 use Rattle.spec_refusal.specs.declared.Refusal.the-variants.{NoRoom, BadLine, LineTooLong}
-use Rattle.text_buffer.specs.Buffer.{Put}
+use Rattle.spec_octets.specs.Buffer.{Put}
 use Rattle.spec_line.specs.declared.Made.the-variants.{Length}
 use Rattle.spec_line.specs.Read.{unescaped}
 use Rattle.spec_line.specs.Calls.{refused, placed, readOf}

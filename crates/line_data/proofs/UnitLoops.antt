@@ -11,7 +11,7 @@ use lib.ListN.{length, take, set, length-append, length-set}
 use lib.Seq.{take-suc-set}
 use mir.Syntax.{w64}
 use mir.Val.{Fits}
-use Rattle.text_buffer.specs.Buffer.{Put}
+use Rattle.spec_octets.specs.Buffer.{Put}
 use Rattle.text_buffer.proofs.LentRest.{put-octet}
 use Rattle.spec_line.specs.Read.{unescaped}
 use Rattle.line_unit.specs.declared.Style.{Style}

@@ -10,7 +10,7 @@ ghost use mathlib.Core.Bool.{true};
 ghost use Prim.Native.Nat.{_+_, _≤_};
 ghost use lib.ListN.{length};
 ghost use Rattle.spec_limits.specs.Limits.{maxTagOctets};
-ghost use Rattle.text_buffer.specs.Buffer.{Put};
+ghost use Rattle.spec_octets.specs.Buffer.{Put};
 ghost use Rattle.line_data.specs.Places.{unitCount, isUnits, unitOctets, dataHead, dataOf, writeData};
 
 // How many octets a value stands for.

@@ -10,33 +10,12 @@ use lib.ListN.{length, take, drop, set, length-set}
 use mir.Syntax.{w64}
 use mir.Val.{Fits}
 use Rattle.spec_octets.specs.Octets.{between}
-use Rattle.text_buffer.specs.Buffer.{Put, filled, filledLength}
+use Rattle.spec_octets.specs.Buffer.{Put, filled, filledLength}
 use Rattle.text_buffer.proofs.Filled.{no-room-answer, no-room-octets, put-answer, put-octets, put-room}
 use Rattle.text_buffer.proofs.LentRest.{rest-room, put-one, put-two, put-more}
-use Rattle.spec_line.specs.Written.{quote, backslash, threeDigits, escaped}
-
--- The three forms of an octet, told by their lengths.
-data Form (x : ℕ) (e : List ℕ) : Type 0 where
-  itself : e ≡ x ∷ [] → Form x e
-  behind-backslash : e ≡ backslash ∷ x ∷ [] → Form x e
-  in-digits : e ≡ backslash ∷ threeDigits x → Form x e
-
-form : (x : ℕ) → Form x (escaped x)
-unfolding escaped
-form x = go (eqb x quote || eqb x backslash) (between 32 126 x)
-  where
-    go : (t u : Bool) → Form x (cond t (backslash ∷ x ∷ []) (cond u (x ∷ []) (backslash ∷ threeDigits x)))
-    go true u = behind-backslash refl
-    go false true = itself refl
-    go false false = in-digits refl
-
-pub escaped-short : (x : ℕ) → length (escaped x) ≤ 4
-escaped-short x = go (form x)
-  where
-    go : Form x (escaped x) → length (escaped x) ≤ 4
-    go (itself f) = rw f (omega arith)
-    go (behind-backslash f) = rw f (omega arith)
-    go (in-digits f) = rw f (omega arith)
+use Rattle.spec_octets.specs.WrittenDecimal.{threeDigits}
+use Rattle.spec_line.specs.Written.{backslash, escaped}
+use Rattle.spec_line.proofs.LineLength.{Form, itself, behind-backslash, in-digits, form}
 
 module _ (b n : ℕ) (told : n ≡ length (escaped b)) (d : List ℕ) where
   pub no-octets-answer : length d < n → 0 ≡ filledLength (escaped b) d

@@ -1,7 +1,7 @@
 // An octet of a value as it stands between quotes in a line: itself, behind a backslash, or a backslash and three digits.
 ghost use mathlib.Core.Path.{_≡_};
 ghost use lib.ListN.{length};
-ghost use Rattle.text_buffer.specs.Buffer.{filled, filledLength};
+ghost use Rattle.spec_octets.specs.Buffer.{filled, filledLength};
 ghost use Rattle.spec_line.specs.Written.{escaped};
 
 // How many octets an octet of a value takes between quotes.

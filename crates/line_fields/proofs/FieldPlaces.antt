@@ -9,7 +9,7 @@ use lib.ListN.{length, take, drop, length-append, length-drop}
 use lib.Seq.{take-at, drop-at, drop-drop}
 use Rattle.spec_octets.specs.Octets.{isBlank, trimStart}
 use Rattle.spec_octets.proofs.ReaderLaws.{fault-told}
-use Rattle.spec_value.proofs.Blanks.{trimStart-takes}
+use Rattle.spec_octets.proofs.TrimEnds.{trimStart-takes}
 use Rattle.spec_octets.proofs.Walks.{rest-whole}
 use Rattle.spec_line.specs.Read.{field}
 use Rattle.spec_line.proofs.Fields.{field-apart}

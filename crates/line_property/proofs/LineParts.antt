@@ -8,7 +8,7 @@ use mir.Syntax.{w64}
 use mir.Val.{Fits}
 use Rattle.spec_octets.specs.Octets.{lower, lowered}
 use Rattle.spec_octets.specs.WrittenDecimal.{decimal}
-use Rattle.text_buffer.specs.Buffer.{Put, filled, filledLength}
+use Rattle.spec_octets.specs.Buffer.{Put, filled, filledLength}
 use Rattle.text_buffer.proofs.Filled.{put-room}
 use Rattle.text_buffer.proofs.LentRest.{rest-room, put-length, put-octet, put-more, put-two}
 use Rattle.spec_line.specs.Written.{space, quote, line}

@@ -8,16 +8,11 @@ use mir.Syntax.{w8, w64}
 use mir.Val.{Fits}
 use Rattle.spec_limits.specs.Limits.{maxDataOctets}
 use Rattle.spec_octets.specs.WrittenDecimal.{decimal}
-use Rattle.spec_octets.proofs.WrittenDecimals.{decimal-within}
 use Rattle.spec_line.specs.Written.{escaped}
-use Rattle.line_escape.proofs.EscapedOctets.{escaped-short}
+use Rattle.spec_line.proofs.LineLength.{value-short, flags-short}
 use Rattle.line_property.specs.Places.{escapedValue, lineOf}
 use Rattle.line_property.proofs.ValueLoops.{left-step}
 use Rattle.line_property.proofs.LineParts.{in-parts}
-
-value-short : (v : List ℕ) → length (escapedValue v) ≤ 4 * length v
-value-short [] = omega arith
-value-short (x ∷ v) = rw length-append (omega (arith, escaped-short x, value-short v))
 
 module _ (v : List ℕ) (n i : ℕ) (left : n + length (escapedValue (drop i v)) ≡ length (escapedValue v)) where
   pub measure-end : length v ≤ i → n ≡ length (escapedValue v)
@@ -30,9 +25,6 @@ module _ (v : List ℕ) (n i : ℕ) (left : n + length (escapedValue (drop i v))
     pub measure-fits : length v ≤ maxDataOctets → Fits w64 (n + r)
     unfolding maxDataOctets
     measure-fits few = record { fits = omega (arith, left-step v i h, value-short v) }
-
-flags-short : (f : ℕ) → f < 256 → length (decimal f) ≤ 3
-flags-short f h = decimal-within 2 f (omega arith)
 
 -- the whole line
 module _ (f : ℕ) (t : List ℕ) (a : ℕ) (flags : a ≡ length (decimal f)) (octet : Fits w8 f) (short : length t ≤ maxDataOctets) where
@@ -52,7 +44,3 @@ module _ (f : ℕ) (t : List ℕ) (a : ℕ) (flags : a ≡ length (decimal f)) (
       pub line-fits : Fits w64 (a + length t + b + 4)
       unfolding maxDataOctets
       line-fits = record { fits = omega (arith, flags-short f (octet .fits), value-short v) }
-
--- a line takes at most four octets for each of the value
-pub line-short : (f : ℕ) (t v : List ℕ) → f < 256 → length (lineOf f t v) ≤ 7 + length t + 4 * length v
-line-short f t v h = simp (in-parts, length-append, length-map) (omega (arith, flags-short f h, value-short v))

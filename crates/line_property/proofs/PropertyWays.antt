@@ -7,7 +7,7 @@ use lib.ListN.{length}
 use borrow.Author.Tests.{le-leb, lt-leb}
 use Rattle.spec_limits.specs.Limits.{maxDataOctets}
 use Rattle.spec_refusal.specs.declared.Refusal.the-variants.{NoRoom, LineTooLong}
-use Rattle.text_buffer.specs.Buffer.{Put}
+use Rattle.spec_octets.specs.Buffer.{Put}
 use Rattle.spec_line.specs.declared.Made.the-variants.{Length}
 use Rattle.spec_line.specs.Calls.{refused, placed}
 use Rattle.spec_line.proofs.Placed.{placed-there, placed-nowhere}

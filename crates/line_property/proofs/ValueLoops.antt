@@ -10,7 +10,7 @@ use mir.Syntax.{w64}
 use mir.Val.{Fits}
 use Rattle.spec_octets.specs.Lists.{flatten}
 use Rattle.spec_octets.proofs.Walks.{drop-step}
-use Rattle.text_buffer.specs.Buffer.{Put, filled, filledLength}
+use Rattle.spec_octets.specs.Buffer.{Put, filled, filledLength}
 use Rattle.text_buffer.proofs.Filled.{put-room}
 use Rattle.text_buffer.proofs.LentRest.{rest-room, put-more}
 use Rattle.spec_line.specs.Written.{escaped}

@@ -6,7 +6,7 @@ ghost use mathlib.Core.Path.{_≡_};
 ghost use Prim.Native.Nat.{_≤_};
 ghost use lib.ListN.{length};
 ghost use Rattle.spec_limits.specs.Limits.{maxDataOctets};
-ghost use Rattle.text_buffer.specs.Buffer.{Put};
+ghost use Rattle.spec_octets.specs.Buffer.{Put};
 ghost use Rattle.line_property.specs.Places.{escapedValue, lineHead, quotedValue, lineOf, writeProperty};
 
 // A value as it stands between quotes.

@@ -10,7 +10,7 @@ use Rattle.spec_refusal.specs.declared.Refusal.{Refusal}
 use Rattle.spec_refusal.specs.declared.Refusal.the-variants.{NoRoom}
 use Rattle.spec_octets.specs.Lists.{All}
 use Rattle.spec_octets.proofs.ListLaws.{All-imp}
-use Rattle.text_buffer.specs.Buffer.{filled}
+use Rattle.spec_octets.specs.Buffer.{filled}
 use Rattle.spec_rule.specs.declared.PermittedIssuers.{PermittedIssuers}
 use Rattle.spec_rule.specs.declared.PermittedIssuers.the-variants.{Anyone, Listed, Refused}
 use Rattle.spec_rule.specs.IssuerLists.{listed, issuers}

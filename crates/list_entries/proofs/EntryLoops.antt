@@ -10,7 +10,7 @@ use borrow.Author.Tests.{le-ltb}
 use Rattle.spec_limits.specs.Limits.{maxRecords}
 use Rattle.spec_octets.specs.Lists.{flatten}
 use Rattle.spec_octets.specs.Octets.{lower, lowered}
-use Rattle.text_buffer.specs.Buffer.{Put, filled, filledLength}
+use Rattle.spec_octets.specs.Buffer.{Put, filled, filledLength}
 use Rattle.text_buffer.proofs.Filled.{no-room-octets, put-room, put-octets}
 use Rattle.text_buffer.proofs.LentRest.{put-nothing, put-one, put-more, rest-room}
 use Rattle.spec_rule.specs.IssuerLists.{entry}

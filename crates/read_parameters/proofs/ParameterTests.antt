@@ -7,13 +7,13 @@ use mathlib.Core.Bool.{Bool, true, false, _&&_}
 use mathlib.Core.List.{List, [], _∷_}
 use lib.ListN.{length, take, drop}
 use Rattle.spec_octets.specs.Lists.{all}
-use Rattle.spec_octets.specs.Octets.{isBlank, trimStart}
+use Rattle.spec_octets.specs.Octets.{isBlank, trimStart, trimEnd, isParameterOctet}
 use Rattle.spec_octets.specs.Pieces.{split}
 use Rattle.text_compare.specs.Places.{pieceEnd}
 use Rattle.spec_octets.proofs.ListLaws.{all-true, not-passed}
 use Rattle.spec_octets.proofs.PieceLaws.{pieces-join}
 use Rattle.text_classes.specs.declared.Class.the-variants.{Blank, LetterOrDigit, ParameterOctet}
-use Rattle.spec_value.specs.IssueValues.{trimEnd, isParameterTag, isParameterOctet, isTagAndValue, isParameter, isBlankAlone, areParameters}
+use Rattle.spec_value.specs.IssueValues.{isParameterTag, isTagAndValue, isParameter, isBlankAlone, areParameters}
 use Rattle.text_classes.specs.Classes.{inClass}
 use Rattle.spec_value.proofs.Cuts.{split-one}
 use Rattle.spec_octets.proofs.Walks.{rest-whole}

@@ -17,7 +17,8 @@ use Rattle.read_request.specs.declared.RequestedRead.the-variants.{Good,
 use Rattle.spec_request.specs.Request.{isWildcard, base, isRequestable, requestedName}
 use Rattle.read_request.specs.Places.{requestedAt}
 use Rattle.read_request.proofs.HostNames.{isHostName}
-use Rattle.read_request.proofs.RequestPlaces.{ahead, good-base, base-octets, base-before, unrequestable, requested-to, requested-ends}
+use Rattle.read_request.proofs.RequestPlaces.{ahead, base-octets, base-before, unrequestable, requested-to, requested-ends}
+use Rattle.spec_request.proofs.RequestedNames.{good-base}
 
 -- X begins behind the asterisk label, where there is one
 module _ (w : Bool) (at b : ℕ) where

@@ -37,15 +37,6 @@ wire-base (l ∷ ls) = go (isAsterisk l) refl
     go true e = let star = same-equal l (text "*") .0 e in (1 ∷ text "*", rw (e, star), rw e)
     go false e = ([], rw e, rw e)
 
-pub good-base : (n : Name) → GoodName n → GoodName (base n)
-unfolding base
-good-base [] g = g
-good-base (l ∷ ls) g = go (isAsterisk l)
-  where
-    go : (t : Bool) → GoodName (cond t ls (l ∷ ls))
-    go true = (All-tail (g .0), omega (arith, g .1, length-append l (wire ls)))
-    go false = g
-
 module _ (s : List ℕ) (at : ℕ) where
   -- the requested name n stands in s from `at` up to r.next, and its X from r.base on
   pub record RequestedTo (r : Requested) (n : Name) : Type 0 where

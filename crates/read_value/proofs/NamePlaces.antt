@@ -6,13 +6,13 @@ use mathlib.Core.Logic.{_≢_}
 use mathlib.Core.Bool.{Bool, true, false, cond}
 use mathlib.Core.List.{List, [], _∷_, _++_, append-nil, append-assoc, cons≢nil}
 use lib.ListN.{length, length-append}
-use Rattle.spec_octets.specs.Octets.{isBlank, trimStart}
+use Rattle.spec_octets.specs.Octets.{isBlank, trimStart, trimEnd}
 use Rattle.text_labels.specs.DottedLabels.{areLabels}
 use Rattle.text_labels.proofs.AnyLength.{any-length}
 use Rattle.read_value.specs.declared.ValueRead.the-variants.{Malformed, Nameless, Named}
-use Rattle.spec_value.specs.IssueValues.{malformed, nameless, named, trimEnd, trim, isDomainName, nameIn}
+use Rattle.spec_value.specs.IssueValues.{malformed, nameless, named, trim, isDomainName, nameIn}
 use Rattle.read_value.specs.Places.{namePlaces}
-use Rattle.spec_value.proofs.Blanks.{trimStart-takes, trimEnd-takes}
+use Rattle.spec_octets.proofs.TrimEnds.{trimStart-takes, trimEnd-takes}
 
 trimStart-shorter : (s : List ℕ) → length (trimStart s) ≤ length s
 trimStart-shorter s = let (a, e, blank) = trimStart-takes s in omega (arith, ap length e ∙ length-append a (trimStart s))

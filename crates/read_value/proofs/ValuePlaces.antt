@@ -13,7 +13,7 @@ use Rattle.read_value.specs.declared.ValueRead.{ValueRead}
 use Rattle.read_value.specs.declared.ValueRead.the-variants.{Malformed, Nameless, Named}
 use Rattle.spec_value.specs.IssueValues.{IssueValue, malformed, nameless, named, issueValue}
 use Rattle.read_value.specs.Places.{namePlaces, valueAt}
-use Rattle.spec_value.proofs.Blanks.{trimStart-takes}
+use Rattle.spec_octets.proofs.TrimEnds.{trimStart-takes}
 use Rattle.spec_value.proofs.Values.{name-in-front}
 use Rattle.read_value.proofs.NamePlaces.{from-name}
 

@@ -21,7 +21,7 @@ use Rattle.spec_line.specs.declared.Made.the-variants.{Length, Refused}
 use Rattle.spec_line.specs.Written.{line}
 use Rattle.spec_line.specs.Read.{readLine}
 use Rattle.spec_line.specs.Calls.{Output, refused, placed, isWritable, writtenOf, writeLine, readOf, parseLine}
-use Rattle.line_property.proofs.Measures.{line-short}
+use Rattle.spec_line.proofs.LineLength.{line-short}
 use Rattle.spec_answers.specs.LineAnswers.{madeTold, packedMade}
 use Rattle.spec_answers.specs.Theorems.{Unpacked, Lines-told, Written-line-unpacks, Read-line-unpacks}
 use Rattle.spec_answers.proofs.JudgementUnpacks.{told-unpacks}
@@ -50,7 +50,7 @@ unfolding maxDataOctets
 line-small d p octets few e =
     let whole = property-is-its-parts d p .0 e .0 in
     let flags = first-octet (p .flags) _ (rw whole at octets) in
-    omega (arith, ap length whole, length-append (p .tag) (p .value), line-short (p .flags) (p .tag) (p .value) flags)
+    omega (arith, ap length whole, length-append (p .tag) (p .value), line-short p flags)
 
 write-fits : (d b : List ℕ) → Octets d → MadeFits (writeLine d b .answer)
 unfolding writeLine place

@@ -3,13 +3,13 @@ use mathlib.Core.Path.{refl}
 use Rattle.spec_limits.specs.Limits.{maxLabelOctets, maxIssuerOctets, maxNameOctets, maxRequestOctets, maxNames, maxBookOctets, maxRecords}
 use Rattle.spec_octets.specs.Reader.{number}
 use Rattle.spec_name.specs.Names.{name}
-use Rattle.spec_octets.specs.Octets.{isDigit, isUpper, isLower, isLetterOrDigit, isBlank, lower, equalIgnoringCase}
+use Rattle.spec_octets.specs.Octets.{isDigit, isUpper, isLower, isLetterOrDigit, isBlank, lower, equalIgnoringCase, isParameterOctet}
 use Rattle.spec_octets.specs.Label.{isLetterDigitHyphen, isLabel, isHostLabel}
 use Rattle.spec_request.specs.Request.{isWildcard, base, isRequestable, requestedName, nameItems, requestedNames, requestRefusal}
 use Rattle.spec_issuer.specs.Issuer.{isIssuer, issuerRefusal}
 use Rattle.spec_record.specs.Property.{readProperty, property, isCritical, tagOf}
 use Rattle.spec_record.specs.Records.{isCaa, isLaidOut, resourceRecord, recordItems, records, bookRefusal}
-use Rattle.spec_value.specs.IssueValues.{isDomainName, isParameterOctet, isParameterTag, isParameter, areParameters, issueValue}
+use Rattle.spec_value.specs.IssueValues.{isDomainName, isParameterTag, isParameter, areParameters, issueValue}
 use Rattle.spec_octets.specs.WrittenDecimal.{decimal}
 use Rattle.spec_refusal.specs.Refusal.{number as refusalNumber, place}
 use Rattle.spec_rule.specs.RelevantSet.{lookup, relevantSet}

@@ -5,7 +5,7 @@ use mathlib.Core.List.{List}
 use lib.ListN.{length}
 use borrow.Author.Tests.{le-leb, lt-leb}
 use Rattle.spec_refusal.specs.declared.Refusal.the-variants.{NoRoom}
-use Rattle.text_buffer.specs.Buffer.{Put}
+use Rattle.spec_octets.specs.Buffer.{Put}
 use Rattle.spec_line.specs.declared.Made.the-variants.{Length}
 use Rattle.spec_line.specs.Calls.{Output, refused, placed}
 

@@ -11,7 +11,8 @@ use Rattle.spec_octets.specs.Lists.{all-nil, all-cons}
 use Rattle.spec_octets.specs.Octets.{between}
 use Rattle.spec_octets.proofs.ListLaws.{or-eq-false}
 use Rattle.spec_octets.proofs.WrittenDecimals.{digit-is, decimals}
-use Rattle.spec_line.specs.Written.{threeDigits, escaped, line}
+use Rattle.spec_octets.specs.WrittenDecimal.{threeDigits}
+use Rattle.spec_line.specs.Written.{escaped, line}
 use Rattle.spec_line.specs.Read.{isInQuotes, isBare}
 use Rattle.spec_line.specs.Theorems.{Plain-octets, Unit-values, Octet-as-written, Line-as-written}
 use Rattle.spec_line.proofs.WrittenParts.{flags-written}

@@ -15,8 +15,8 @@ use Rattle.spec_octets.proofs.ListLaws.{or-eq-true, or-eq-false, All-map}
 use Rattle.spec_octets.proofs.WrittenDecimals.{digit-is, decimal-within, decimal-some, says}
 use Rattle.spec_octets.proofs.SmallLetters.{lower-letter}
 use Rattle.spec_record.specs.Property.{Property}
-use Rattle.spec_line.specs.Written.{space, quote, backslash, threeDigits, escaped, line}
-use Rattle.spec_octets.specs.WrittenDecimal.{digit, decimal}
+use Rattle.spec_line.specs.Written.{space, quote, backslash, escaped, line}
+use Rattle.spec_octets.specs.WrittenDecimal.{threeDigits, digit, decimal}
 use Rattle.spec_line.specs.Read.{Unit, plain, quoted, numbered, valueOf, isInQuotes}
 use Rattle.spec_line.specs.Grammar.{someBlanks, FlagsField, TagField, wireUnit, GoodUnit, UnitsFor, LineOf}
 use Rattle.spec_line.specs.Theorems.{smallTag, HasLine}

@@ -1,12 +1,12 @@
 -- CAA data written as a line (RFC 8659 section 4.1.1; the requirements' "A record as a line").
-use Prim.Native.Nat.{ℕ, _/_, _%_}
+use Prim.Native.Nat.{ℕ}
 use Prim.Native.Char.{code}
 use mathlib.Core.Bool.{cond, _||_}
 use mathlib.Core.List.{List, [], _∷_, _++_, map}
 use lib.Dec.{eqb}
 use Rattle.spec_octets.specs.Lists.{flatten}
 use Rattle.spec_octets.specs.Octets.{between, lowered}
-use Rattle.spec_octets.specs.WrittenDecimal.{digit, decimal}
+use Rattle.spec_octets.specs.WrittenDecimal.{threeDigits, decimal}
 use Rattle.spec_record.specs.Property.{Property}
 
 abbrev pub space : ℕ
@@ -17,10 +17,6 @@ quote = code "\""
 
 abbrev pub backslash : ℕ
 backslash = code "\\"
-
--- an octet in three digits
-abbrev pub threeDigits : ℕ → List ℕ
-threeDigits n = digit (n / 100) ∷ digit (n / 10 % 10) ∷ digit (n % 10) ∷ []
 
 -- octets 32 to 126 stand as they are, but the quote and the backslash take a backslash; all others are backslash and three digits
 unfoldable pub escaped : ℕ → List ℕ

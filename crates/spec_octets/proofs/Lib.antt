@@ -20,6 +20,8 @@ pub mod Walks
 pub mod Decimals
 pub mod WrittenDecimals
 pub mod Runs
+pub mod TrimEnds
+pub mod ParameterOctets
 pub mod ItemWalk
 pub mod ItemRoom
 pub mod ReadAt

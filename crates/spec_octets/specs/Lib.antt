@@ -7,4 +7,5 @@ pub mod Items
 pub mod Decimal
 pub mod WrittenDecimal
 pub mod Grammar
+pub mod Buffer
 pub mod Theorems

@@ -3,7 +3,7 @@ use Prim.Native.Nat.{ℕ, _+_, _<_}
 use Prim.Native.Char.{code}
 use Prim.Native.String.{String}
 use Prim.Native.String
-use mathlib.Core.Bool.{Bool, true, false, cond, _&&_, _||_}
+use mathlib.Core.Bool.{Bool, true, false, cond, not, _&&_, _||_}
 use mathlib.Core.List.{List, [], _∷_, map}
 use lib.Dec.{leb, eqb}
 use Rattle.spec_octets.specs.Lists.{All}
@@ -43,6 +43,19 @@ isBlank x = eqb x (code " ") || eqb x (code "\t")
 abbrev pub trimStart : List ℕ → List ℕ
 trimStart [] = []
 trimStart (x ∷ s) = cond (isBlank x) (trimStart s) (x ∷ s)
+
+-- a text without the blanks at its end
+abbrev pub unlessLastBlank : ℕ → List ℕ → List ℕ
+unlessLastBlank x [] = cond (isBlank x) [] (x ∷ [])
+unlessLastBlank x (y ∷ s) = x ∷ y ∷ s
+
+abbrev pub trimEnd : List ℕ → List ℕ
+trimEnd [] = []
+trimEnd (x ∷ s) = unlessLastBlank x (trimEnd s)
+
+-- the octets that the value of a parameter may hold (RFC 8659 section 4.2): 33 to 126 except the semicolon
+unfoldable pub isParameterOctet : ℕ → Bool
+isParameterOctet x = between 33 126 x && not (eqb x (code ";"))
 
 -- "A to Z counting as a to z", and no other octet as another one
 unfoldable pub lower : ℕ → ℕ

@@ -9,16 +9,17 @@ use mathlib.Core.Bool.{Bool, true, false}
 use mathlib.Core.List.{List, [], _∷_, _++_, map, List·Memᴰ}
 use mathlib.Core.Option.{none, some}
 use lib.Dec.{eqb}
-use lib.ListN.{length}
+use lib.ListN.{length, drop}
 use Rattle.spec_limits.specs.Limits.{maxLabelOctets}
 use Rattle.spec_octets.specs.Lists.{any, all, select, isEmpty, begins, ends, flatten, All, Selects}
-use Rattle.spec_octets.specs.Octets.{Octets, text, isDigit, isLetterOrDigit, isBlank, hyphen, trimStart, lower, lowered, equalIgnoringCase}
+use Rattle.spec_octets.specs.Octets.{Octets, text, isDigit, isLetterOrDigit, isBlank, hyphen, trimStart, trimEnd, isParameterOctet, lower, lowered, equalIgnoringCase}
 use Rattle.spec_octets.specs.Label.{isLetterDigitHyphen, isLabel, isHostLabel}
 use Rattle.spec_octets.specs.Pieces.{split, join}
 use Rattle.spec_octets.specs.Reader.{Reader, remainder, valueFrom, number, inOctets}
 use Rattle.spec_octets.specs.Items.{Items, whole, broken, over, wholeItems, itemFault, items, BrokenAt, Beyond}
 use Rattle.spec_octets.specs.Decimal.{decimalFrom, decimalOctet}
-use Rattle.spec_octets.specs.WrittenDecimal.{decimal}
+use Rattle.spec_octets.specs.WrittenDecimal.{decimal, threeDigits}
+use Rattle.spec_octets.specs.Buffer.{filled, filledLength}
 use Rattle.spec_octets.specs.Grammar.{Production, optional, label}
 
 -- octets are the numbers below 256, all of them: any slice of octets is such a list
@@ -51,6 +52,14 @@ Octet-classes =
 -- what is trimmed off are blanks, and none is left in front
 abbrev pub Trimmed : Type 0
 Trimmed = (s : List ℕ) → (b : List ℕ) × (s ≡ b ++ trimStart s) × All (λ x. isBlank x ≡ true) b × (begins isBlank (trimStart s) ≡ false)
+
+-- octets 33 to 126 except 59, the semicolon
+abbrev pub Parameter-octets : Type 0
+Parameter-octets = (x : ℕ) → (isParameterOctet x ≡ true) ↔ ((33 ≤ x) × (x ≤ 126) × (x ≢ 59))
+
+-- what is trimmed off the end are blanks, and none is left there
+abbrev pub Trimmed-end : Type 0
+Trimmed-end = (s : List ℕ) → (b : List ℕ) × (s ≡ trimEnd s ++ b) × All (λ x. isBlank x ≡ true) b × (ends isBlank (trimEnd s) ≡ false)
 
 -- two texts are the same exactly when they are equal lists in small letters; so no proper tail or front of a text is that text
 abbrev pub Whole-texts : Type 0
@@ -149,6 +158,18 @@ Decimals =
     (n : ℕ) →
     (decimal n ≢ []) × All (λ x. isDigit x ≡ true) (decimal n) × (decimalFrom 0 (decimal n) ≡ n)
     × ((s : List ℕ) → decimal n ≡ code "0" ∷ s → s ≡ [])
+
+-- a number below a thousand in three digits that say it
+abbrev pub Three-digits : Type 0
+Three-digits =
+    (n : ℕ) → n < 1000 → (length (threeDigits n) ≡ 3) × All (λ x. isDigit x ≡ true) (threeDigits n) × (decimalFrom 0 (threeDigits n) ≡ n)
+
+-- with room the octets stand at the front of a buffer and the rest stays; without, nothing is put and all of it stays
+abbrev pub Buffer-filled : Type 0
+Buffer-filled =
+    (e d : List ℕ) →
+    (length e ≤ length d → (filled e d ≡ e ++ drop (length e) d) × (filledLength e d ≡ length e))
+    × (length d < length e → (filled e d ≡ d) × (filledLength e d ≡ 0))
 
 -- the items if they are whole; else the fault, with the place of a broken one
 abbrev pub Item-faults : Type 1

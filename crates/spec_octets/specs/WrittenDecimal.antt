@@ -17,3 +17,7 @@ decimalWithin (suc steps) n = cond (ltb n 10) (digit n ∷ []) (decimalWithin st
 
 unfoldable pub decimal : ℕ → List ℕ
 decimal n = decimalWithin n n
+
+-- an octet in three digits
+abbrev pub threeDigits : ℕ → List ℕ
+threeDigits n = digit (n / 100) ∷ digit (n / 10 % 10) ∷ digit (n % 10) ∷ []

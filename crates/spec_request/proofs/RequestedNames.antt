@@ -1,20 +1,23 @@
 -- The names that may be asked for: the wildcard form X or *.X, and when such a name is read.
 use Prim.Native.Nat.{ℕ}
+use native.Mathlib.Omega.{arith}
 use mathlib.Core.Path.{_≡_, refl}
 use mathlib.Core.Logic.{_↔_, _≢_, _⊎_, inl, inr, Iff·trans, Iff·and}
-use mathlib.Core.Bool.{true, false, not, false≢true, and-eq-true-iff}
+use mathlib.Core.Bool.{Bool, true, false, cond, not, false≢true, and-eq-true-iff}
 use mathlib.Core.List.{List, [], _∷_, _++_, cons≢nil}
 use mathlib.Core.Option.{some}
+use lib.ListN.{length-append}
 use Rattle.spec_octets.specs.Lists.{All, all, isEmpty}
 use Rattle.spec_octets.specs.Octets.{text, isUpper, isLower, isDigit, isLetterOrDigit}
 use Rattle.spec_octets.specs.Label.{isLetterDigitHyphen, isHostLabel}
 use Rattle.spec_octets.specs.Theorems.{Host-label}
-use Rattle.spec_octets.proofs.ListLaws.{decided, not-passed, all-true, All-head, All-imp}
+use Rattle.spec_octets.proofs.ListLaws.{decided, not-passed, all-true, All-head, All-tail, All-imp}
 use Rattle.spec_octets.proofs.Texts.{same-equal}
 use Rattle.spec_octets.proofs.Labels.{host-labels}
 use Rattle.spec_octets.proofs.ReaderLaws.{given-some}
 use Rattle.spec_octets.proofs.Fields.{then-read, then-stand, given-read}
 use Rattle.spec_name.specs.Names.{Label, Name, wire}
+use Rattle.spec_name.specs.Theorems.{GoodName}
 use Rattle.spec_name.proofs.NameField.{name-field}
 use Rattle.spec_request.specs.Request.{isAsterisk, isWildcard, base, isRequestable, requestedName}
 use Rattle.spec_request.specs.Theorems.{Wildcard-form, GoodRequested, Requested-name-is-its-labels}
@@ -83,3 +86,13 @@ requested-name-is-its-labels s o n rest = (read, stand)
     stand h =
         let (front, good) = h in
         then-stand name-field _ o front (good .0) (λ o₁. given-some _ n n rest rest .1 (requestable n .1 (good .1), refl, refl))
+
+-- the X of a good name is a good name
+pub good-base : (n : Name) → GoodName n → GoodName (base n)
+unfolding base
+good-base [] g = g
+good-base (l ∷ ls) g = go (isAsterisk l)
+  where
+    go : (t : Bool) → GoodName (cond t ls (l ∷ ls))
+    go true = (All-tail (g .0), omega (arith, g .1, length-append l (wire ls)))
+    go false = g

@@ -3,14 +3,14 @@ use mathlib.Core.Path.{refl}
 use Rattle.spec_limits.specs.Limits.{maxLabelOctets, maxIssuerOctets, maxNameOctets, maxRequestOctets, maxNames, maxBookOctets, maxRecords}
 use Rattle.spec_octets.specs.Reader.{number}
 use Rattle.spec_name.specs.Names.{name}
-use Rattle.spec_octets.specs.Octets.{isDigit, isUpper, isLower, isLetterOrDigit, isBlank, lower, equalIgnoringCase}
+use Rattle.spec_octets.specs.Octets.{isDigit, isUpper, isLower, isLetterOrDigit, isBlank, lower, equalIgnoringCase, isParameterOctet}
 use Rattle.spec_octets.specs.Label.{isLetterDigitHyphen, isLabel, isHostLabel}
 use Rattle.spec_octets.specs.Decimal.{decimalOctet}
 use Rattle.spec_request.specs.Request.{isWildcard, base, isRequestable, requestedName, nameItems, requestedNames, requestRefusal}
 use Rattle.spec_issuer.specs.Issuer.{isIssuer, issuerRefusal}
 use Rattle.spec_record.specs.Property.{readProperty, property, isCritical, tagOf}
 use Rattle.spec_record.specs.Records.{isCaa, isLaidOut, resourceRecord, recordItems, records, bookRefusal}
-use Rattle.spec_value.specs.IssueValues.{isDomainName, isParameterOctet, isParameterTag, isParameter, areParameters, issueValue}
+use Rattle.spec_value.specs.IssueValues.{isDomainName, isParameterTag, isParameter, areParameters, issueValue}
 use Rattle.spec_rule.specs.RelevantSet.{lookup, relevantSet}
 use Rattle.spec_rule.specs.Authorizations.{isUnknownCritical, governing, grantee, authorization}
 use Rattle.spec_rule.specs.Verdicts.{verdict}

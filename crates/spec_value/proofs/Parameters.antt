@@ -7,16 +7,17 @@ use mathlib.Core.Logic.{_↔_, _≢_}
 use mathlib.Core.Bool.{Bool, true, false, _&&_, false≢true, and-eq-true-iff}
 use mathlib.Core.List.{List, [], _∷_, _++_, append-assoc}
 use Rattle.spec_octets.specs.Lists.{all, all-cons}
-use Rattle.spec_octets.specs.Octets.{isBlank, isLetterOrDigit, isUpper, isLower, isDigit, trimStart}
+use Rattle.spec_octets.specs.Octets.{isBlank, isLetterOrDigit, isUpper, isLower, isDigit, trimStart, trimEnd, isParameterOctet}
 use Rattle.spec_octets.specs.Pieces.{split, join}
 use Rattle.spec_octets.specs.Grammar.{_⊕_}
 use Rattle.spec_octets.proofs.ListLaws.{told-apart, All-join, all-true, All-head, All-tail, All-imp}
 use Rattle.spec_octets.proofs.PieceLaws.{pieces-join}
 use Rattle.spec_octets.proofs.Runs.{Of, many-of, of-many, not-blank, Blank, Blankless}
-use Rattle.spec_value.specs.IssueValues.{trimEnd, trim, isParameterOctet, isParameterTag, isTagAndValue, isParameter}
+use Rattle.spec_value.specs.IssueValues.{trim, isParameterTag, isTagAndValue, isParameter}
 use Rattle.spec_value.specs.Productions.{blanks, tag, parameter}
 use Rattle.spec_value.proofs.Classes.{Free}
-use Rattle.spec_value.proofs.Blanks.{trimStart-takes, trimEnd-takes, trim-takes, trimEnd-leaves, trim-leaves, trim-within}
+use Rattle.spec_octets.proofs.TrimEnds.{trimStart-takes, trimEnd-takes, trimEnd-leaves}
+use Rattle.spec_value.proofs.Blanks.{trim-takes, trim-leaves, trim-within}
 use Rattle.spec_value.proofs.Cuts.{split-more}
 
 -- the octets of a tag; no blank, no "=" and no ";" is one

@@ -1,8 +1,8 @@
 -- The table of values, by computing.
 use mathlib.Core.Path.{refl}
-use Rattle.spec_octets.specs.Octets.{isDigit, isUpper, isLower, isLetterOrDigit, isBlank}
+use Rattle.spec_octets.specs.Octets.{isDigit, isUpper, isLower, isLetterOrDigit, isBlank, isParameterOctet}
 use Rattle.spec_octets.specs.Label.{isLetterDigitHyphen, isLabel}
-use Rattle.spec_value.specs.IssueValues.{isDomainName, isParameterOctet, isParameterTag, isParameter, areParameters, issueValue}
+use Rattle.spec_value.specs.IssueValues.{isDomainName, isParameterTag, isParameter, areParameters, issueValue}
 use Rattle.spec_value.specs.Theorems.{Value-edges}
 
 pub value-edges : Value-edges

@@ -3,9 +3,8 @@ use Prim.Native.Nat.{ℕ}
 use Prim.Native.Char.{code}
 use mathlib.Core.Bool.{Bool, false, cond, not, _&&_, _||_}
 use mathlib.Core.List.{List, [], _∷_}
-use lib.Dec.{eqb}
 use Rattle.spec_octets.specs.Lists.{all, isEmpty}
-use Rattle.spec_octets.specs.Octets.{between, isBlank, isLetterOrDigit, trimStart}
+use Rattle.spec_octets.specs.Octets.{isBlank, isLetterOrDigit, isParameterOctet, trimStart, trimEnd}
 use Rattle.spec_octets.specs.Label.{isLabel}
 use Rattle.spec_octets.specs.Pieces.{split, join}
 
@@ -17,25 +16,13 @@ pub data IssueValue : Type 0 where
   -- it fits and holds this issuer domain name
   named : List ℕ → IssueValue
 
--- a text without the blanks at its end, and without those at both ends
-abbrev pub unlessLastBlank : ℕ → List ℕ → List ℕ
-unlessLastBlank x [] = cond (isBlank x) [] (x ∷ [])
-unlessLastBlank x (y ∷ s) = x ∷ y ∷ s
-
-abbrev pub trimEnd : List ℕ → List ℕ
-trimEnd [] = []
-trimEnd (x ∷ s) = unlessLastBlank x (trimEnd s)
-
+-- a text without the blanks at both ends
 abbrev pub trim : List ℕ → List ℕ
 trim s = trimStart (trimEnd s)
 
 -- issuer-domain-name: labels joined by single dots
 unfoldable pub isDomainName : List ℕ → Bool
 isDomainName s = all isLabel (split (code ".") s)
-
--- value of a parameter: octets 33 to 126 except the semicolon
-unfoldable pub isParameterOctet : ℕ → Bool
-isParameterOctet x = between 33 126 x && not (eqb x (code ";"))
 
 -- tag of a parameter: one or more letters and digits, as the requirements have it
 unfoldable pub isParameterTag : List ℕ → Bool

@@ -3,9 +3,8 @@ use Prim.Native.Nat.{ℕ}
 use Prim.Native.Char.{code}
 use mathlib.Core.Path.{_≡_}
 use mathlib.Core.List.{List, _++_}
-use Rattle.spec_octets.specs.Octets.{isBlank, isLetterOrDigit}
+use Rattle.spec_octets.specs.Octets.{isBlank, isLetterOrDigit, isParameterOctet}
 use Rattle.spec_octets.specs.Grammar.{Production, one, lit, _⊕_, optional, many, label}
-use Rattle.spec_value.specs.IssueValues.{isParameterOctet}
 
 -- *WSP
 abbrev pub blanks : Production

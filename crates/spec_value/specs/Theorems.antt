@@ -1,10 +1,9 @@
 -- What the definitions of this crate mean. Each statement is proved under its name in proofs/.
-use Prim.Native.Nat.{ℕ, _≤_}
+use Prim.Native.Nat.{ℕ}
 use mathlib.Core.Path.{_≡_}
-use mathlib.Core.Logic.{_↔_, _≢_}
-use mathlib.Core.Bool.{true}
+use mathlib.Core.Logic.{_↔_}
 use mathlib.Core.List.{List, map}
-use Rattle.spec_value.specs.IssueValues.{malformed, nameless, named, issueValue, isParameterOctet}
+use Rattle.spec_value.specs.IssueValues.{malformed, nameless, named, issueValue}
 use Rattle.spec_value.specs.Productions.{valueWithoutName, valueWithName}
 use Rattle.spec_value.specs.ValueEdges.{valueEdges}
 
@@ -15,10 +14,6 @@ Value-is-the-grammar =
     ((n : List ℕ) → (issueValue s ≡ named n) ↔ valueWithName n s)
     × ((issueValue s ≡ nameless) ↔ valueWithoutName s)
     × ((issueValue s ≡ malformed) ↔ (((n : List ℕ) → valueWithName n s → ⊥) × (valueWithoutName s → ⊥)))
-
--- octets 33 to 126 except 59, the semicolon
-abbrev pub Parameter-octets : Type 0
-Parameter-octets = (x : ℕ) → (isParameterOctet x ≡ true) ↔ ((33 ≤ x) × (x ≤ 126) × (x ≢ 59))
 
 -- each value of the table is read as the requirements say
 abbrev pub Value-edges : Type 0

@@ -7,7 +7,7 @@ use mathlib.Core.List.{List, [], _∷_, _++_, append-assoc, append-nil}
 use lib.ListN.{length, take, drop, set, length-append, length-drop, length-set, drop-of-length-le}
 use lib.Seq.{take-append-seam, drop-append-seam, drop-drop, set-split}
 use Rattle.spec_octets.proofs.Walks.{rest-whole}
-use Rattle.text_buffer.specs.Buffer.{Put}
+use Rattle.spec_octets.specs.Buffer.{Put}
 
 pub put-nothing : (d : List ℕ) → Put [] d d 0
 put-nothing d = record { count = refl; octets = refl }

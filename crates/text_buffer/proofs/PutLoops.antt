@@ -7,7 +7,7 @@ use mathlib.Core.List.{List, [], _∷_, map-append}
 use lib.ListN.{length, take, getD, set, length-map}
 use lib.Seq.{take-suc, take-all}
 use Rattle.spec_octets.specs.Octets.{lower, lowered}
-use Rattle.text_buffer.specs.Buffer.{Put, filled, filledLength}
+use Rattle.spec_octets.specs.Buffer.{Put, filled, filledLength}
 use Rattle.text_buffer.proofs.LentRest.{put-octet}
 use Rattle.text_buffer.proofs.Filled.{no-room-answer, no-room-octets, put-answer, put-octets}
 

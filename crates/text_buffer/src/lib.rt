@@ -1,7 +1,7 @@
 // Octets put at the front of a lent buffer; where there is no room for all of them none is put, and the answer is 0.
 ghost use mathlib.Core.Path.{_≡_};
 ghost use Rattle.spec_octets.specs.Octets.{lowered};
-ghost use Rattle.text_buffer.specs.Buffer.{filled, filledLength};
+ghost use Rattle.spec_octets.specs.Buffer.{filled, filledLength};
 
 // Octets as they are.
 pub fn put_octets(s: &[u8], out: &mut [u8]) -> usize

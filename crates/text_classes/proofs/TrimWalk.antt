@@ -7,10 +7,9 @@ use mathlib.Core.List.{List, [], _∷_, _++_}
 use lib.ListN.{length, getD, take, drop, length-drop, drop-of-length-le}
 use lib.Seq.{take-suc, take-length, length-take-le}
 use Rattle.spec_octets.specs.Lists.{all-nil, all-cons}
-use Rattle.spec_octets.specs.Octets.{isBlank, trimStart}
+use Rattle.spec_octets.specs.Octets.{isBlank, trimStart, trimEnd}
 use Rattle.spec_octets.proofs.Walks.{drop-step, rest-whole}
-use Rattle.spec_value.specs.IssueValues.{trimEnd}
-use Rattle.spec_value.proofs.Blanks.{trimEnd-back, trimEnd-upTo}
+use Rattle.spec_octets.proofs.TrimEnds.{trimEnd-back, trimEnd-upTo}
 
 -- From the front.
 

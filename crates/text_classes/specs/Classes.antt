@@ -1,9 +1,8 @@
 -- The class of octets that each case of Class names.
 use Prim.Native.Nat.{ℕ}
 use mathlib.Core.Bool.{Bool}
-use Rattle.spec_octets.specs.Octets.{isBlank, isLetterOrDigit}
+use Rattle.spec_octets.specs.Octets.{isBlank, isLetterOrDigit, isParameterOctet}
 use Rattle.spec_octets.specs.Label.{isLetterDigitHyphen}
-use Rattle.spec_value.specs.IssueValues.{isParameterOctet}
 use Rattle.text_classes.specs.declared.Class.{Class}
 use Rattle.text_classes.specs.declared.Class.the-variants.{Blank, LetterOrDigit, LetterDigitHyphen, ParameterOctet}
 

@@ -1,8 +1,7 @@
 // Texts by the class of their octets: whether all are of one, and without the blanks at either end.
 ghost use mathlib.Core.Path.{_≡_};
 ghost use Rattle.spec_octets.specs.Lists.{all};
-ghost use Rattle.spec_octets.specs.Octets.{trimStart};
-ghost use Rattle.spec_value.specs.IssueValues.{trimEnd, isParameterOctet};
+ghost use Rattle.spec_octets.specs.Octets.{trimStart, trimEnd, isParameterOctet};
 ghost use Rattle.text_classes.specs.Classes.{inClass};
 
 // Classes of octets that a label, a tag, a value or the blanks around them are made of.

@@ -6,12 +6,11 @@ use mathlib.Core.List.{List}
 use lib.ListN.{length, set, length-append}
 use mir.Syntax.{w64}
 use mir.Val.{Fits}
-use Rattle.spec_octets.specs.WrittenDecimal.{decimal}
+use Rattle.spec_octets.specs.WrittenDecimal.{decimal, threeDigits}
 use Rattle.spec_octets.proofs.WrittenDecimals.{decimal-small, decimal-more, decimal-within, decimal-some}
-use Rattle.text_buffer.specs.Buffer.{Put, filled, filledLength}
+use Rattle.spec_octets.specs.Buffer.{Put, filled, filledLength}
 use Rattle.text_buffer.proofs.Filled.{no-room-answer, no-room-octets, put-answer, put-octets}
 use Rattle.text_buffer.proofs.LentRest.{put-length, put-octet, put-one, put-three}
-use Rattle.spec_line.specs.Written.{threeDigits}
 
 -- Three digits.
 

@@ -2,9 +2,8 @@
 ghost use mathlib.Core.Path.{_≡_};
 ghost use Prim.Native.Nat.{_≤_};
 ghost use lib.ListN.{length};
-ghost use Rattle.spec_octets.specs.WrittenDecimal.{decimal};
-ghost use Rattle.text_buffer.specs.Buffer.{Put, filled, filledLength};
-ghost use Rattle.spec_line.specs.Written.{threeDigits};
+ghost use Rattle.spec_octets.specs.WrittenDecimal.{decimal, threeDigits};
+ghost use Rattle.spec_octets.specs.Buffer.{Put, filled, filledLength};
 ghost use Rattle.text_decimal.specs.Places.{decimalIn};
 
 // A number read, if there is one.

@@ -3,7 +3,7 @@ use Prim.Native.Nat.{_+_, _≤_, _-_}
 use mathlib.Core.Path.{_≡_}
 use lib.ListN.{drop, length, take}
 use borrow.Author.Needs.{needs}
-use Rattle.text_buffer.specs.Buffer.{Put}
+use Rattle.spec_octets.specs.Buffer.{Put}
 use Rattle.text_buffer.proofs.LentRest.{put-nothing}
 use Rattle.line_property.specs.Places.{escapedValue}
 use Rattle.line_property.proofs.ValueLoops.{sum-fits, room-turn, value-turn, value-end}

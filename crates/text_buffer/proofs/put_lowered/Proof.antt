@@ -4,7 +4,7 @@ use mathlib.Core.Path.{_≡_}
 use lib.ListN.{length, take}
 use borrow.Author.Needs.{needs}
 use Rattle.spec_octets.specs.Octets.{lowered}
-use Rattle.text_buffer.specs.Buffer.{Put}
+use Rattle.spec_octets.specs.Buffer.{Put}
 use Rattle.text_buffer.proofs.LentRest.{put-nothing, set-length}
 use Rattle.text_buffer.proofs.PutLoops.{none-lowered-answer, none-lowered-octets, lowered-turn, lowered-answer, lowered-there}
 use Rattle.text_buffer.proofs.put_lowered.Statement.{statement}

@@ -3,7 +3,7 @@ use Prim.Native.Nat.{_≤_, _-_}
 use mathlib.Core.Path.{_≡_}
 use lib.ListN.{length, take}
 use borrow.Author.Needs.{needs}
-use Rattle.text_buffer.specs.Buffer.{Put}
+use Rattle.spec_octets.specs.Buffer.{Put}
 use Rattle.text_buffer.proofs.LentRest.{put-nothing, set-length}
 use Rattle.text_buffer.proofs.Filled.{no-room-answer, no-room-octets}
 use Rattle.text_buffer.proofs.PutLoops.{octets-turn, octets-answer, octets-there}

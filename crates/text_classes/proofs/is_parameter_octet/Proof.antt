@@ -1,7 +1,7 @@
 -- `text_classes::is_parameter_octet` meets its contract.
 use borrow.Author.Needs.{needs}
 use Rattle.spec_octets.proofs.Tests.{tests}
-use Rattle.spec_value.specs.IssueValues.{isParameterOctet}
+use Rattle.spec_octets.specs.Octets.{isParameterOctet}
 use Rattle.text_classes.proofs.is_parameter_octet.Statement.{statement}
 use Rattle.text_classes.proofs.is_parameter_octet.Tie as tie
 

@@ -5,7 +5,7 @@ use lib.ListN.{length}
 use lib.Seq.{length-take-le}
 use borrow.Author.Needs.{needs}
 use borrow.Author.Tests.{not-true, not-false}
-use Rattle.spec_value.specs.IssueValues.{trimEnd}
+use Rattle.spec_octets.specs.Octets.{trimEnd}
 use Rattle.text_classes.proofs.TrimWalk.{end-less, end-turn, end-stop, end-end}
 use Rattle.text_classes.proofs.trim_end.Statement.{statement}
 use Rattle.text_classes.proofs.trim_end.Tie as tie
