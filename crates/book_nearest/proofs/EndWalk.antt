@@ -15,7 +15,7 @@ use Rattle.spec_limits.specs.Limits.{maxRecords, maxNameOctets}
 use Rattle.spec_octets.proofs.Walks.{rest-whole}
 use Rattle.spec_octets.specs.Lists.{isEmpty}
 use Rattle.spec_octets.specs.Octets.{equalIgnoringCase}
-use Rattle.spec_octets.proofs.ListLaws.{decided}
+use Rattle.spec_octets.proofs.ListLaws.{true-or-false}
 use Rattle.text_compare.proofs.TextWalk.{lengths-first}
 use Rattle.spec_name.specs.Names.{wire}
 use Rattle.spec_name.proofs.NameLaws.{name-is-its-labels}
@@ -120,7 +120,7 @@ module _ (book s : List ℕ) where
                 passed r t (λ n l. ⊎-elim
                 (λ q. rw (eqb-true n (p .fixed - at) q, same-length r t, e, and-false))
                 (λ q. other-length r t n l (eqb-false n (p .fixed - at) q))
-                (decided (eqb n (p .fixed - at))))
+                (true-or-false (eqb n (p .fixed - at))))
 
             pub owner-noted : b ≡ true → m ≡ true → (i : ℕ) → i ≡ p .fixed - at → Noted book s (set u i true) (p .next) j
             owner-noted is e i here = let (r, t) = record-there book at o f p g in go r t
@@ -128,7 +128,7 @@ module _ (book s : List ℕ) where
                 go : (r : Record) → RecordTo book at p r → Noted book s (set u i true) (p .next) j
                 go r t = record {
                   long = length-set u i true ∙ c .long;
-                  left = λ n l. ⊎-elim (λ q. rw (eqb-true n i q) (owned (rw (eqb-true n i q) at l))) (λ q. others n l (eqb-false n i q)) (decided (eqb n i));
+                  left = λ n l. ⊎-elim (λ q. rw (eqb-true n i q) (owned (rw (eqb-true n i q) at l))) (λ q. others n l (eqb-false n i q)) (true-or-false (eqb n i));
                 }
                   where
                     mine : isOwned (lastOf s i) r ≡ true

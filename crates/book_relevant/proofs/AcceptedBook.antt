@@ -13,8 +13,7 @@ use Rattle.spec_octets.specs.Lists.{All, all-nil, all-cons}
 use Rattle.spec_octets.specs.Items.{Items, whole, broken, over, follow, before as beforeItems, wholeItems, items}
 use Rattle.spec_octets.proofs.ListLaws.{All-join}
 use Rattle.spec_octets.proofs.ReaderLaws.{bind-some}
-use Rattle.spec_name.specs.Names.{wire, name}
-use Rattle.spec_name.specs.Theorems.{GoodName}
+use Rattle.spec_name.specs.Names.{wire, name, GoodName}
 use Rattle.spec_name.proofs.NameLaws.{name-is-its-labels}
 use Rattle.spec_name.proofs.NameField.{wire-full}
 use Rattle.read_name.proofs.PlaceLaws.{name-to}

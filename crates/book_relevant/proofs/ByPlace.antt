@@ -11,8 +11,7 @@ use borrow.Author.Tests.{eq-eqb, ne-eqb}
 use Rattle.spec_limits.specs.Limits.{maxRecords}
 use Rattle.spec_octets.specs.Lists.{isEmpty, select, all-nil, all-cons}
 use Rattle.spec_octets.proofs.ListLaws.{All-head}
-use Rattle.spec_name.specs.Names.{Label, Name, wire, sameName, ancestors}
-use Rattle.spec_name.specs.Theorems.{GoodName}
+use Rattle.spec_name.specs.Names.{Label, Name, wire, sameName, ancestors, GoodName}
 use Rattle.spec_name.proofs.NameLaws.{fewer-labels}
 use Rattle.read_name.proofs.Parents.{root-stays, behind-label, label-passed}
 use Rattle.spec_name.proofs.WholeNames.{whole-names}
@@ -20,7 +19,7 @@ use Rattle.spec_request.specs.Request.{isWildcard, base}
 use Rattle.spec_request.proofs.RequestedNames.{good-base}
 use Rattle.spec_record.specs.Records.{records, bookRefusal}
 use Rattle.spec_rule.specs.RelevantSet.{CaaRecord, caaRecords, Lookup, asLookup, lookup, firstFound, relevantSet}
-use Rattle.spec_rule.specs.Authorizations.{decided, authorization}
+use Rattle.spec_rule.specs.Authorizations.{authorizationFrom, authorization}
 use Rattle.book_relevant.specs.declared.Near.{Near}
 use Rattle.book_relevant.specs.declared.Near.the-variants.{At}
 use Rattle.book_relevant.specs.Places.{readable, owned, setOf, nearestFrom, nearestPlace, foundAt, relevantAt}
@@ -73,6 +72,6 @@ relevant-set-by-place book x accepted good = climb book accepted (wire x) (lengt
 
 pub authorization-by-place :
     (book : List ℕ) → bookRefusal book ≡ none → (n : Name) → GoodName n →
-    authorization (caasIn book) n ≡ decided (isWildcard n) (relevantAt book (wire (base n)))
+    authorization (caasIn book) n ≡ authorizationFrom (isWildcard n) (relevantAt book (wire (base n)))
 unfolding authorization
 authorization-by-place book e n good = rw (relevant-set-by-place book (base n) e (good-base n good))

@@ -12,7 +12,7 @@ use Rattle.spec_refusal.specs.declared.RecordNo.{RecordNo}
 use Rattle.spec_octets.specs.Lists.{select, isEmpty}
 use Rattle.read_name.specs.Places.{parentPlace}
 use Rattle.spec_rule.specs.RelevantSet.{CaaRecord, found}
-use Rattle.spec_rule.specs.Authorizations.{Authorization, unrestricted, forbidden, granted, isUnknownCritical, isIssue, isIssueWild, orElse, governing, grantees, governedBy, unlessForbidden, decided}
+use Rattle.spec_rule.specs.Authorizations.{Authorization, unrestricted, forbidden, granted, isUnknownCritical, isIssue, isIssueWild, orElse, governing, grantees, governedBy, unlessForbidden, authorizationFrom}
 use Rattle.book_relevant.specs.declared.Found.{Found}
 use Rattle.book_relevant.specs.declared.Found.the-variants.{At, Nothing}
 use Rattle.book_relevant.specs.declared.Near.{Near}
@@ -72,7 +72,7 @@ module _ (book s : List ℕ) where
           omega (arith, closer s place (parentPlace s place) refl (eqb-false (parentPlace s place) place f))
 
 module _ (book s : List ℕ) (o : Near) (f : o ≡ nearestPlace book s) where
-  pub decided-nowhere : (wildcard : Bool) → o ≡ Nowhere → decided wildcard (relevantAt book s) ≡ unrestricted
+  pub decided-nowhere : (wildcard : Bool) → o ≡ Nowhere → authorizationFrom wildcard (relevantAt book s) ≡ unrestricted
   unfolding relevantAt
   decided-nowhere wildcard g = rw (← f, g)
 
@@ -92,9 +92,9 @@ module _ (book s : List ℕ) (o : Near) (f : o ≡ nearestPlace book s) where
     found-there = rw (← f, g, rest-whole s at)
 
     module _ (u : Found) (e : u ≡ firstNumber (select isUnknownCritical setThere)) where
-      pub decided-critical : (wildcard : Bool) (r : RecordNo) → u ≡ At r → decided wildcard (relevantAt book s) ≡ forbidden (r .0)
+      pub decided-critical : (wildcard : Bool) (r : RecordNo) → u ≡ At r → authorizationFrom wildcard (relevantAt book s) ≡ forbidden (r .0)
       decided-critical wildcard r h = rw found-there (critical (select isUnknownCritical setThere) _ r (sym e ∙ h))
 
       module _ (none : u ≡ Nothing) where
-        pub by-governing : (wildcard : Bool) → decided wildcard (relevantAt book s) ≡ governedBy (governing wildcard setThere)
+        pub by-governing : (wildcard : Bool) → authorizationFrom wildcard (relevantAt book s) ≡ governedBy (governing wildcard setThere)
         by-governing wildcard = rw (found-there, none-first (select isUnknownCritical setThere) (sym e ∙ none))

@@ -3,8 +3,7 @@ use mathlib.Core.Path.{_≡_}
 use mathlib.Core.List.{List}
 use mathlib.Core.Option.{none}
 use Prim.Native.Nat.{ℕ}
-use Rattle.spec_name.specs.Names.{Name, wire}
-use Rattle.spec_name.specs.Theorems.{GoodName}
+use Rattle.spec_name.specs.Names.{Name, wire, GoodName}
 use Rattle.spec_record.specs.Records.{records, bookRefusal}
 use Rattle.spec_rule.specs.RelevantSet.{caaRecords, relevantSet}
 use Rattle.book_relevant.specs.Places.{relevantAt}

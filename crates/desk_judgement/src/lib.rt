@@ -7,7 +7,7 @@ ghost use Prim.Native.Nat.{_+_, _≤_};
 ghost use lib.ListN.{length};
 ghost use Rattle.spec_octets.specs.Buffer.{Put};
 ghost use Rattle.spec_octets.specs.WrittenDecimal.{decimal};
-ghost use Rattle.spec_desk.specs.Lines.{lineEnd, numbered, denialText, line};
+ghost use Rattle.spec_desk.specs.Lines.{lineEnd, numbered, denialText, judgementLine};
 
 // A text and a number.
 fn put_number(first: &[u8], n: u64, out: &mut [u8]) -> usize
@@ -41,8 +41,8 @@ fn put_denial(first: &[u8], d: Denial, out: &mut [u8]) -> usize
 }
 
 // The line of a judgement.
-pub fn put_line(j: Judgement, out: &mut [u8; LINE_OCTETS]) -> usize
-    ensures { λ r. ⌜ Put (line j) (now (out .entry)) (now (out .exit)) r ⌝ }
+pub fn put_judgement(j: Judgement, out: &mut [u8; LINE_OCTETS]) -> usize
+    ensures { λ r. ⌜ Put (judgementLine j) (now (out .entry)) (now (out .exit)) r ⌝ }
 {
     match j {
         Judgement::Permitted => text_buffer::put_octets(b"verdict 0\n", out),

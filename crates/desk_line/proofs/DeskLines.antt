@@ -10,7 +10,7 @@ use Rattle.text_buffer.proofs.Filled.{put-room}
 use Rattle.spec_octets.specs.Octets.{text}
 use Rattle.spec_rule.specs.declared.Judgement.{Judgement}
 use Rattle.spec_rule.specs.Calls.{judge}
-use Rattle.spec_desk.specs.Lines.{line, deskLine}
+use Rattle.spec_desk.specs.Lines.{judgementLine, deskLine}
 
 module _ (d x : List ℕ) (n : ℕ) where
   module _ (size : length d ≡ 65) where
@@ -21,7 +21,7 @@ module _ (d x : List ℕ) (n : ℕ) where
     bookless-put found request issuer book put count e = rw e (put-room (text "no book\n") d (omega arith) x n put count)
 
   pub judged-put :
-      (found : Bool) (request issuer book : List ℕ) (j : Judgement) → Put (line j) d x n → j ≡ judge request issuer book → found ≡ true →
+      (found : Bool) (request issuer book : List ℕ) (j : Judgement) → Put (judgementLine j) d x n → j ≡ judge request issuer book → found ≡ true →
       Put (deskLine found request issuer book) d x n
   unfolding deskLine
   judged-put found request issuer book j p is e = rw (e, ← is) p

@@ -16,5 +16,5 @@ pub fn put_desk_line(
     if !found {
         return text_buffer::put_octets(b"no book\n", out);
     }
-    desk_judgement::put_line(judge_call::judge(request, issuer, book), out)
+    desk_judgement::put_judgement(judge_call::judge(request, issuer, book), out)
 }

@@ -18,8 +18,7 @@ use Rattle.spec_refusal.specs.declared.Refusal.{Refusal}
 use Rattle.spec_refusal.specs.declared.Refusal.the-variants.{BadName}
 use Rattle.spec_refusal.specs.declared.Check.{Check}
 use Rattle.spec_refusal.specs.declared.Check.the-variants.{Accepted, Refused as CheckRefused}
-use Rattle.spec_name.specs.Names.{Name, wire}
-use Rattle.spec_name.specs.Theorems.{GoodName}
+use Rattle.spec_name.specs.Names.{Name, wire, GoodName}
 use Rattle.read_request.specs.declared.Requested.{Requested}
 use Rattle.read_request.specs.declared.RequestedRead.{RequestedRead}
 use Rattle.read_request.specs.declared.RequestedRead.the-variants.{Good, Fault}

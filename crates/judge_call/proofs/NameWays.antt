@@ -7,7 +7,7 @@ use Rattle.spec_limits.specs.Limits.{maxRecords}
 use Rattle.spec_octets.specs.Lists.{any, select}
 use Rattle.spec_refusal.specs.declared.RecordNo.{RecordNo}
 use Rattle.spec_rule.specs.RelevantSet.{CaaRecord, caaRecords}
-use Rattle.spec_rule.specs.Authorizations.{Authorization, isUnknownCritical, governing, governedBy, decided}
+use Rattle.spec_rule.specs.Authorizations.{Authorization, isUnknownCritical, governing, governedBy, authorizationFrom}
 use Rattle.book_relevant.specs.declared.Found.{Found}
 use Rattle.book_relevant.specs.declared.Found.the-variants.{At, Nothing}
 use Rattle.book_relevant.specs.declared.Near.{Near}
@@ -21,7 +21,7 @@ use Rattle.judge_name.specs.NameVerdicts.{verdictOf}
 use Rattle.judge_call.specs.Places.{nameVerdict, CriticalKnown}
 
 module _ (book s issuer : List ℕ) (wildcard : Bool) where
-  by : (a : Authorization) → decided wildcard (relevantAt book s) ≡ a → verdictOf issuer a ≡ nameVerdict book s wildcard issuer
+  by : (a : Authorization) → authorizationFrom wildcard (relevantAt book s) ≡ a → verdictOf issuer a ≡ nameVerdict book s wildcard issuer
   unfolding nameVerdict
   by a e = ap (verdictOf issuer) (sym e)
 

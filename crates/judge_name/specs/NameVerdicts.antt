@@ -18,7 +18,7 @@ withheld (granted r ns) = NotGranted (record { 0 = r })
 abbrev pub verdictOf : List ℕ → Authorization → NameVerdict
 verdictOf issuer a = cond (permits issuer a) Permitted (withheld a)
 
--- the answer that it gives for the name of number k, which judgementTold numbers
+-- the answer that it gives for the name of number k, which judgementCode numbers
 abbrev pub judgementOf : ℕ → NameVerdict → Judgement
 judgementOf k Permitted = JudgedPermitted
 judgementOf k (UnknownCritical r) = JudgedCritical (record { name = record { 0 = k }; rr = r })

@@ -10,35 +10,35 @@ use borrow.Author.Tests.{le-leb, lt-leb}
 use Rattle.spec_limits.specs.Limits.{maxDataOctets, maxTagOctets}
 use Rattle.spec_refusal.specs.declared.Refusal.the-variants.{NoRoom, BadLine, LineTooLong}
 use Rattle.spec_octets.specs.Buffer.{Put}
-use Rattle.spec_line.specs.declared.Made.the-variants.{Length}
+use Rattle.spec_line.specs.declared.LineAnswer.the-variants.{Length}
 use Rattle.spec_line.specs.Read.{unescaped}
 use Rattle.spec_line.specs.Calls.{refused, placed, readOf}
 use Rattle.spec_line.proofs.Placed.{placed-there, placed-nowhere}
 use Rattle.line_unit.specs.declared.Style.{Style}
 use Rattle.line_unit.specs.Places.{plainIn}
-use Rattle.line_data.specs.declared.UnitCount.{UnitCount}
-use Rattle.line_data.specs.declared.UnitCount.the-variants.{Units, Fault as NoCount}
-use Rattle.line_data.specs.Places.{countRead, unitCount, isUnits, octetsIn, unitOctets, dataOf, taggedProperty, writeData}
+use Rattle.line_data.specs.declared.UnescapedCount.{UnescapedCount}
+use Rattle.line_data.specs.declared.UnescapedCount.the-variants.{Units, Fault as NoCount}
+use Rattle.line_data.specs.Places.{countRead, unescapedCount, isEscapedText, octetsIn, unescapedOctets, dataOf, taggedProperty, writeData}
 
--- What count_units has told.
-module _ (style : Style) (u : List ℕ) (k : UnitCount) (counted : k ≡ unitCount style u) (n : ℕ) (h : k ≡ Units n) where
-  all-read : unescaped (plainIn style) u ≡ some (unitOctets style u)
-  unfolding unitCount
+-- What count_unescaped has told.
+module _ (style : Style) (u : List ℕ) (k : UnescapedCount) (counted : k ≡ unescapedCount style u) (n : ℕ) (h : k ≡ Units n) where
+  all-read : unescaped (plainIn style) u ≡ some (unescapedOctets style u)
+  unfolding unescapedCount
   all-read = go (unescaped (plainIn style) u) (sym counted ∙ h)
     where
       go : (w : Option (List ℕ)) → countRead w ≡ Units n → w ≡ some (octetsIn w)
       go none c = let z : _≡_ {A = ℕ} 0 1 = cc in absurd (omega arith)
       go (some v) c = refl
 
-  pub counts : length (unitOctets style u) ≡ n
-  unfolding unitCount
+  pub counts : length (unescapedOctets style u) ≡ n
+  unfolding unescapedCount
   counts = go (unescaped (plainIn style) u) (sym counted ∙ h)
     where
       go : (w : Option (List ℕ)) → countRead w ≡ Units n → length (octetsIn w) ≡ n
       go none c = let z : _≡_ {A = ℕ} 0 1 = cc in absurd (omega arith)
       go (some v) c = cc
 
-  pub are-units : isUnits style u ≡ true
+  pub are-units : isEscapedText style u ≡ true
   are-units = rw all-read
 
 pub short-tag : (t : List ℕ) → length t ≤ 255 → length t ≤ maxTagOctets
@@ -59,9 +59,9 @@ module _ (f : ℕ) (t : List ℕ) (style : Style) (u b : List ℕ) where
       go none = refl
       go (some v) = rw (lt-leb (length t) 255 h)
 
-  module _ (short : length t ≤ 255) (k : UnitCount) (counted : k ≡ unitCount style u) where
+  module _ (short : length t ≤ 255) (k : UnescapedCount) (counted : k ≡ unescapedCount style u) where
     pub wrong-units : k ≡ NoCount → writeData f t style u b ≡ refused BadLine b
-    unfolding unitCount
+    unfolding unescapedCount
     wrong-units h = go (unescaped (plainIn style) u) refl (sym counted ∙ h)
       where
         go : (w : Option (List ℕ)) → unescaped (plainIn style) u ≡ w → countRead w ≡ NoCount → writeData f t style u b ≡ refused BadLine b
@@ -70,14 +70,14 @@ module _ (f : ℕ) (t : List ℕ) (style : Style) (u b : List ℕ) where
 
     module _ (n : ℕ) (h : k ≡ Units n) where
       abbrev made : List ℕ
-      made = dataOf f t (unitOctets style u)
+      made = dataOf f t (unescapedOctets style u)
 
       long : length made ≡ 2 + length t + n
-      long = omega (arith, length-append t (unitOctets style u), counts style u k counted n h)
+      long = omega (arith, length-append t (unescapedOctets style u), counts style u k counted n h)
 
-      found : writeData f t style u b ≡ readOf (some (record { flags = f; tag = t; value = unitOctets style u })) b
+      found : writeData f t style u b ≡ readOf (some (record { flags = f; tag = t; value = unescapedOctets style u })) b
       unfolding maxTagOctets
-      found = by-units (some (unitOctets style u)) (all-read style u k counted n h) ∙ rw (le-leb (length t) 255 short)
+      found = by-units (some (unescapedOctets style u)) (all-read style u k counted n h) ∙ rw (le-leb (length t) 255 short)
 
       pub data-too-long : 4096 - 2 - length t < n → writeData f t style u b ≡ refused LineTooLong b
       unfolding maxDataOctets

@@ -12,26 +12,26 @@ use Rattle.spec_line.specs.Read.{unescaped}
 use Rattle.spec_line.specs.Calls.{Output, readOf}
 use Rattle.line_unit.specs.declared.Style.{Style}
 use Rattle.line_unit.specs.Places.{plainIn}
-use Rattle.line_data.specs.declared.UnitCount.{UnitCount}
-use Rattle.line_data.specs.declared.UnitCount.the-variants.{Units, Fault as NoCount}
+use Rattle.line_data.specs.declared.UnescapedCount.{UnescapedCount}
+use Rattle.line_data.specs.declared.UnescapedCount.the-variants.{Units, Fault as NoCount}
 
 -- the octets that units stand for: how many, whether all of s is units, and themselves
-abbrev pub countRead : Option (List ℕ) → UnitCount
+abbrev pub countRead : Option (List ℕ) → UnescapedCount
 countRead none = NoCount
 countRead (some v) = Units (length v)
 
-unfoldable pub unitCount : Style → List ℕ → UnitCount
-unitCount style s = countRead (unescaped (plainIn style) s)
+unfoldable pub unescapedCount : Style → List ℕ → UnescapedCount
+unescapedCount style s = countRead (unescaped (plainIn style) s)
 
-abbrev pub isUnits : Style → List ℕ → Bool
-isUnits style s = isSome (unescaped (plainIn style) s)
+abbrev pub isEscapedText : Style → List ℕ → Bool
+isEscapedText style s = isSome (unescaped (plainIn style) s)
 
 abbrev pub octetsIn : Option (List ℕ) → List ℕ
 octetsIn none = []
 octetsIn (some v) = v
 
-abbrev pub unitOctets : Style → List ℕ → List ℕ
-unitOctets style s = octetsIn (unescaped (plainIn style) s)
+abbrev pub unescapedOctets : Style → List ℕ → List ℕ
+unescapedOctets style s = octetsIn (unescaped (plainIn style) s)
 
 -- the data of a property, by its parts
 abbrev pub dataHead : ℕ → List ℕ → List ℕ

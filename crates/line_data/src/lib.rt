@@ -1,9 +1,9 @@
 // The CAA data of a property, given by its flags, its tag and the units of a line that stand for its value.
 use line_unit::Style;
-use line_unit::UnitRead;
+use line_unit::WrittenOctetRead;
 use spec_limits::MAX_DATA_OCTETS;
 use spec_limits::MAX_TAG_OCTETS;
-use spec_line::Made;
+use spec_line::LineAnswer;
 use spec_refusal::Refusal;
 ghost use mathlib.Core.Path.{_≡_};
 ghost use mathlib.Core.Bool.{true};
@@ -11,39 +11,39 @@ ghost use Prim.Native.Nat.{_+_, _≤_};
 ghost use lib.ListN.{length};
 ghost use Rattle.spec_limits.specs.Limits.{maxTagOctets};
 ghost use Rattle.spec_octets.specs.Buffer.{Put};
-ghost use Rattle.line_data.specs.Places.{unitCount, isUnits, unitOctets, dataHead, dataOf, writeData};
+ghost use Rattle.line_data.specs.Places.{unescapedCount, isEscapedText, unescapedOctets, dataHead, dataOf, writeData};
 
 // How many octets a value stands for.
-enum UnitCount {
+enum UnescapedCount {
     Units(usize),
     Fault,
 }
 
-fn count_units(s: &[u8], style: Style) -> UnitCount
-    ensures { λ r. ⌜ r ≡ unitCount style (now (s .entry)) ⌝ }
+fn count_unescaped(s: &[u8], style: Style) -> UnescapedCount
+    ensures { λ r. ⌜ r ≡ unescapedCount style (now (s .entry)) ⌝ }
 {
     let mut at: usize = 0;
     let mut n: usize = 0;
     while at < s.len() {
-        let UnitRead::Good(u) = line_unit::read_unit(s, at, style) else {
-            return UnitCount::Fault;
+        let WrittenOctetRead::Good(u) = line_unit::read_written_octet(s, at, style) else {
+            return UnescapedCount::Fault;
         };
         at = u.next;
         n += 1;
     }
-    UnitCount::Units(n)
+    UnescapedCount::Units(n)
 }
 
 // The octets that a value stands for.
-fn put_units(s: &[u8], style: Style, out: &mut [u8]) -> usize
-    requires { ⌜ isUnits style (now s) ≡ true ⌝ }
-    requires { ⌜ length (unitOctets style (now s)) ≤ length (now out) ⌝ }
-    ensures { λ r. ⌜ Put (unitOctets style (now (s .entry))) (now (out .entry)) (now (out .exit)) r ⌝ }
+fn put_unescaped(s: &[u8], style: Style, out: &mut [u8]) -> usize
+    requires { ⌜ isEscapedText style (now s) ≡ true ⌝ }
+    requires { ⌜ length (unescapedOctets style (now s)) ≤ length (now out) ⌝ }
+    ensures { λ r. ⌜ Put (unescapedOctets style (now (s .entry))) (now (out .entry)) (now (out .exit)) r ⌝ }
 {
     let mut at: usize = 0;
     let mut w: usize = 0;
     while at < s.len() {
-        let UnitRead::Good(u) = line_unit::read_unit(s, at, style) else {
+        let WrittenOctetRead::Good(u) = line_unit::read_written_octet(s, at, style) else {
             return w;
         };
         out[w] = u.octet;
@@ -67,33 +67,39 @@ fn put_tag(flags: u8, tag: &[u8], out: &mut [u8]) -> usize
 // CAA data, its value from its units.
 fn put_data(flags: u8, tag: &[u8], units: &[u8], style: Style, out: &mut [u8]) -> usize
     requires { ⌜ length (now tag) ≤ maxTagOctets ⌝ }
-    requires { ⌜ isUnits style (now units) ≡ true ⌝ }
-    requires { ⌜ 2 + length (now tag) + length (unitOctets style (now units)) ≤ length (now out) ⌝ }
-    ensures { λ r. ⌜ Put (dataOf flags (now (tag .entry)) (unitOctets style (now (units .entry)))) (now (out .entry)) (now (out .exit)) r ⌝ }
+    requires { ⌜ isEscapedText style (now units) ≡ true ⌝ }
+    requires { ⌜ 2 + length (now tag) + length (unescapedOctets style (now units)) ≤ length (now out) ⌝ }
+    ensures { λ r. ⌜ Put (dataOf flags (now (tag .entry)) (unescapedOctets style (now (units .entry)))) (now (out .entry)) (now (out .exit)) r ⌝ }
 {
     let w = put_tag(flags, tag, out);
-    w + put_units(units, style, &mut out[w..])
+    w + put_unescaped(units, style, &mut out[w..])
 }
 
 // A property to its CAA data, at the front of the lent buffer; nothing is written before the room is known to be enough, nor where the tag
 // is too long for its length octet.
-pub fn write_data(flags: u8, tag: &[u8], units: &[u8], style: Style, buffer: &mut [u8]) -> Made
+pub fn write_data(
+    flags: u8,
+    tag: &[u8],
+    units: &[u8],
+    style: Style,
+    buffer: &mut [u8],
+) -> LineAnswer
     ensures answer { λ r. ⌜ r ≡ writeData flags (now (tag .entry)) style (now (units .entry)) (now (buffer .entry)) .answer ⌝ }
     ensures octets { λ r. ⌜ now (buffer .exit) ≡ writeData flags (now (tag .entry)) style (now (units .entry)) (now (buffer .entry)) .buffer ⌝ }
 {
     if MAX_TAG_OCTETS < tag.len() {
-        return Made::Refused(Refusal::BadLine);
+        return LineAnswer::Refused(Refusal::BadLine);
     }
-    let UnitCount::Units(k) = count_units(units, style) else {
-        return Made::Refused(Refusal::BadLine);
+    let UnescapedCount::Units(k) = count_unescaped(units, style) else {
+        return LineAnswer::Refused(Refusal::BadLine);
     };
     if MAX_DATA_OCTETS - 2 - tag.len() < k {
-        return Made::Refused(Refusal::LineTooLong);
+        return LineAnswer::Refused(Refusal::LineTooLong);
     }
     let size = 2 + tag.len() + k;
     if buffer.len() < size {
-        return Made::Refused(Refusal::NoRoom(size));
+        return LineAnswer::Refused(Refusal::NoRoom(size));
     }
     put_data(flags, tag, units, style, buffer);
-    Made::Length(size)
+    LineAnswer::Length(size)
 }

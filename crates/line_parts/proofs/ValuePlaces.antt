@@ -1,4 +1,4 @@
--- The value of a line by the places of its units: the law of valueAt for each way out of read_value, and what it says of lineValue.
+-- The value of a line by the places of its units: the law of lineValueAt for each way out of read_line_value, and what it says of lineValue.
 use Prim.Native.Nat.{ℕ, suc, _-_, _≤_}
 use native.Mathlib.Nat.{sub-zero}
 use native.Mathlib.Omega.{arith}
@@ -16,34 +16,34 @@ use Rattle.spec_line.specs.Written.{quote}
 use Rattle.spec_line.specs.Read.{unescaped, isInQuotes, isBare, lineValue}
 use Rattle.line_unit.specs.declared.Style.the-variants.{Quoted, Bare}
 use Rattle.line_unit.specs.Places.{plainIn}
-use Rattle.line_parts.specs.declared.ValueAt.{ValueAt}
-use Rattle.line_parts.specs.declared.ValueRead.{ValueRead}
-use Rattle.line_parts.specs.declared.ValueRead.the-variants.{Good, Fault}
-use Rattle.line_parts.specs.Places.{valueAt}
+use Rattle.line_parts.specs.declared.LineValueAt.{LineValueAt}
+use Rattle.line_parts.specs.declared.LineValueRead.{LineValueRead}
+use Rattle.line_parts.specs.declared.LineValueRead.the-variants.{Good, Fault}
+use Rattle.line_parts.specs.Places.{lineValueAt}
 
 -- Each way out.
 
-pub no-value : (v : List ℕ) → length v ≡ 0 → Fault ≡ valueAt v
-unfolding valueAt
+pub no-value : (v : List ℕ) → length v ≡ 0 → Fault ≡ lineValueAt v
+unfolding lineValueAt
 no-value [] e = refl
 no-value (x ∷ v) e = absurd (omega arith)
 
 pub bare-value :
-    (v : List ℕ) → (length v ≡ 0 → ⊥) → (getD v 0 0 ≡ quote → ⊥) → Good (record { from = 0; end = length v; style = Bare }) ≡ valueAt v
-unfolding valueAt
+    (v : List ℕ) → (length v ≡ 0 → ⊥) → (getD v 0 0 ≡ quote → ⊥) → Good (record { from = 0; end = length v; style = Bare }) ≡ lineValueAt v
+unfolding lineValueAt
 bare-value [] full other = absurd (full refl)
 bare-value (x ∷ v) full other = rw (ne-eqb x quote other)
 
-pub one-quote : (v : List ℕ) → getD v 0 0 ≡ quote → length v ≡ 1 → Fault ≡ valueAt v
-unfolding valueAt
+pub one-quote : (v : List ℕ) → getD v 0 0 ≡ quote → length v ≡ 1 → Fault ≡ lineValueAt v
+unfolding lineValueAt
 one-quote [] first e = refl
 one-quote (x ∷ []) first e = rw (eq-eqb x quote first)
 one-quote (x ∷ y ∷ v) first e = absurd (omega arith)
 
 pub open-quote :
     (v : List ℕ) → (length v ≡ 0 → ⊥) → getD v 0 0 ≡ quote → (length v ≡ 1 → ⊥) → (getD v (length v - 1) 0 ≡ quote → ⊥) →
-    Fault ≡ valueAt v
-unfolding valueAt
+    Fault ≡ lineValueAt v
+unfolding lineValueAt
 open-quote [] full first more other = absurd (full refl)
 open-quote (x ∷ []) full first more other = absurd (more refl)
 open-quote (x ∷ y ∷ v) full first more other =
@@ -53,8 +53,8 @@ open-quote (x ∷ y ∷ v) full first more other =
 
 pub quoted-value :
     (v : List ℕ) (e : ℕ) → (length v ≡ 0 → ⊥) → getD v 0 0 ≡ quote → (length v ≡ 1 → ⊥) → e ≡ length v - 1 → getD v e 0 ≡ quote →
-    Good (record { from = 1; end = e; style = Quoted }) ≡ valueAt v
-unfolding valueAt
+    Good (record { from = 1; end = e; style = Quoted }) ≡ lineValueAt v
+unfolding lineValueAt
 quoted-value [] e full first more last here = absurd (full refl)
 quoted-value (x ∷ []) e full first more last here = absurd (more refl)
 quoted-value (x ∷ y ∷ v) e full first more last here =
@@ -73,13 +73,13 @@ all-but-last (x ∷ y ∷ v) = let place : length (y ∷ v) ≡ suc (length (y �
     step e ih = let whole : length (x ∷ y ∷ v) - 1 ≡ suc (length (y ∷ v) - 1) = omega arith in rw (whole, ih)
 
 module _ (v : List ℕ) where
-  pub record ValueTo (p : ValueAt) : Type 0 where
+  pub record ValueTo (p : LineValueAt) : Type 0 where
     pub read : lineValue v ≡ unescaped (plainIn (p .style)) (take (p .end - p .from) (drop (p .from) v))
     pub starts : p .from ≤ p .end
     pub inside : p .end ≤ length v
 
-value-to : (v : List ℕ) (p : ValueAt) → valueAt v ≡ Good p → ValueTo v p
-unfolding valueAt lineValue
+value-to : (v : List ℕ) (p : LineValueAt) → lineValueAt v ≡ Good p → ValueTo v p
+unfolding lineValueAt lineValue
 value-to [] p e = let z : _≡_ {A = ℕ} 0 1 = cc in absurd (omega arith)
 value-to (x ∷ v) p e = go (eqb x quote) refl (ends (eqb quote) v) refl e
   where
@@ -101,8 +101,8 @@ value-to (x ∷ v) p e = go (eqb x quote) refl (ends (eqb quote) v) refl e
     go true t false u k = let z : _≡_ {A = ℕ} 0 1 = cc in absurd (omega arith)
     go false t u w k = let same : record { from = 0; end = suc (length v); style = Bare } ≡ p = cc in rw same at (bare t)
 
-value-gone : (v : List ℕ) → valueAt v ≡ Fault → lineValue v ≡ none
-unfolding valueAt lineValue
+value-gone : (v : List ℕ) → lineValueAt v ≡ Fault → lineValue v ≡ none
+unfolding lineValueAt lineValue
 value-gone [] e = refl
 value-gone (x ∷ v) e = go (eqb x quote) (ends (eqb quote) v) e
   where
@@ -114,16 +114,16 @@ value-gone (x ∷ v) e = go (eqb x quote) (ends (eqb quote) v) e
     go true false k = refl
     go false u k = let z : _≡_ {A = ℕ} 0 1 = cc in absurd (omega arith)
 
--- a caller of read_value knows its answer o
-module _ (v : List ℕ) (o : ValueRead) (told : o ≡ valueAt v) where
-  pub value-there : (p : ValueAt) → o ≡ Good p → ValueTo v p
+-- a caller of read_line_value knows its answer o
+module _ (v : List ℕ) (o : LineValueRead) (told : o ≡ lineValueAt v) where
+  pub value-there : (p : LineValueAt) → o ≡ Good p → ValueTo v p
   value-there p g = value-to v p (sym told ∙ g)
 
   pub value-missing : o ≡ Fault → lineValue v ≡ none
   value-missing g = value-gone v (sym told ∙ g)
 
-  pub value-starts : (p : ValueAt) → o ≡ Good p → p .from ≤ p .end
+  pub value-starts : (p : LineValueAt) → o ≡ Good p → p .from ≤ p .end
   value-starts p g = value-there p g .starts
 
-  pub value-inside : (p : ValueAt) → o ≡ Good p → p .end ≤ length v
+  pub value-inside : (p : LineValueAt) → o ≡ Good p → p .end ≤ length v
   value-inside p g = value-there p g .inside

@@ -13,8 +13,8 @@ use Rattle.spec_line.specs.Read.{field, isLineTag}
 use Rattle.line_unit.specs.declared.Style.the-variants.{Quoted, Bare}
 use Rattle.line_parts.specs.declared.LineRead.{LineRead}
 use Rattle.line_parts.specs.declared.LineRead.the-variants.{Good as GoodLine, Fault as NoLine}
-use Rattle.line_parts.specs.declared.ValueRead.{ValueRead}
-use Rattle.line_parts.specs.declared.ValueRead.the-variants.{Good as GoodValue, Fault as NoValue}
+use Rattle.line_parts.specs.declared.LineValueRead.{LineValueRead}
+use Rattle.line_parts.specs.declared.LineValueRead.the-variants.{Good as GoodValue, Fault as NoValue}
 
 -- the fields of a line by their places
 abbrev pub linePlaces : List ℕ → Option ℕ → List ℕ → List ℕ → List ℕ → LineRead
@@ -26,8 +26,8 @@ unfoldable pub lineAt : List ℕ → LineRead
 lineAt s = ifRead NoLine (field s) (λ f s₁. ifRead NoLine (field s₁) (λ t s₂. linePlaces s (decimalOctet f) s₁ t s₂))
 
 -- where the units of a value stand
-unfoldable pub valueAt : List ℕ → ValueRead
-valueAt [] = NoValue
-valueAt (x ∷ v) =
+unfoldable pub lineValueAt : List ℕ → LineValueRead
+lineValueAt [] = NoValue
+lineValueAt (x ∷ v) =
     cond (eqb x quote) (cond (ends (eqb quote) v) (GoodValue (record { from = 1; end = length v; style = Quoted })) NoValue)
     (GoodValue (record { from = 0; end = suc (length v); style = Bare }))

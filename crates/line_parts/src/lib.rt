@@ -6,7 +6,7 @@ use text_classes::Class;
 use text_decimal::OctetRead;
 ghost use mathlib.Core.Path.{_≡_};
 ghost use Rattle.spec_line.specs.Read.{isLineTag};
-ghost use Rattle.line_parts.specs.Places.{lineAt, valueAt};
+ghost use Rattle.line_parts.specs.Places.{lineAt, lineValueAt};
 
 // 1 to 255 letters and digits.
 fn is_line_tag(t: &[u8]) -> bool
@@ -62,40 +62,40 @@ pub fn read_fields(s: &[u8]) -> LineRead
 }
 
 // The value of a line: where its units begin and end, and how they are written.
-pub struct ValueAt {
+pub struct LineValueAt {
     pub from: usize,
     pub end: usize,
     pub style: Style,
 }
 
-pub enum ValueRead {
-    Good(ValueAt),
+pub enum LineValueRead {
+    Good(LineValueAt),
     Fault,
 }
 
 // Between two quotes, or bare and not empty.
-pub fn read_value(v: &[u8]) -> ValueRead
-    ensures { λ r. ⌜ r ≡ valueAt (now (v .entry)) ⌝ }
+pub fn read_line_value(v: &[u8]) -> LineValueRead
+    ensures { λ r. ⌜ r ≡ lineValueAt (now (v .entry)) ⌝ }
 {
     let n = v.len();
     if n == 0 {
-        return ValueRead::Fault;
+        return LineValueRead::Fault;
     }
     if v[0] != b'"' {
-        return ValueRead::Good(ValueAt {
+        return LineValueRead::Good(LineValueAt {
             from: 0,
             end: n,
             style: Style::Bare,
         });
     }
     if n == 1 {
-        return ValueRead::Fault;
+        return LineValueRead::Fault;
     }
     let end: usize = n - 1;
     if v[end] != b'"' {
-        return ValueRead::Fault;
+        return LineValueRead::Fault;
     }
-    ValueRead::Good(ValueAt {
+    LineValueRead::Good(LineValueAt {
         from: 1,
         end,
         style: Style::Quoted,

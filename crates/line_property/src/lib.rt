@@ -1,6 +1,6 @@
 // The line of a property, given by its parts: the presentation format of RFC 8659 section 4.1.1.
 use spec_limits::MAX_DATA_OCTETS;
-use spec_line::Made;
+use spec_line::LineAnswer;
 use spec_refusal::Refusal;
 ghost use mathlib.Core.Path.{_≡_};
 ghost use Prim.Native.Nat.{_≤_};
@@ -80,20 +80,20 @@ fn line_length(flags: u8, tag: &[u8], value: &[u8]) -> usize
 
 // A property to its line, at the front of the lent buffer; nothing is written before the room is known to be enough, nor where a part is
 // longer than data may be.
-pub fn write_property(flags: u8, tag: &[u8], value: &[u8], buffer: &mut [u8]) -> Made
+pub fn write_property(flags: u8, tag: &[u8], value: &[u8], buffer: &mut [u8]) -> LineAnswer
     ensures answer { λ r. ⌜ r ≡ writeProperty flags (now (tag .entry)) (now (value .entry)) (now (buffer .entry)) .answer ⌝ }
     ensures octets { λ r. ⌜ now (buffer .exit) ≡ writeProperty flags (now (tag .entry)) (now (value .entry)) (now (buffer .entry)) .buffer ⌝ }
 {
     if MAX_DATA_OCTETS < tag.len() {
-        return Made::Refused(Refusal::LineTooLong);
+        return LineAnswer::Refused(Refusal::LineTooLong);
     }
     if MAX_DATA_OCTETS < value.len() {
-        return Made::Refused(Refusal::LineTooLong);
+        return LineAnswer::Refused(Refusal::LineTooLong);
     }
     let n = line_length(flags, tag, value);
     if buffer.len() < n {
-        return Made::Refused(Refusal::NoRoom(n));
+        return LineAnswer::Refused(Refusal::NoRoom(n));
     }
     put_line(flags, tag, value, buffer);
-    Made::Length(n)
+    LineAnswer::Length(n)
 }

@@ -12,17 +12,17 @@ use Rattle.spec_limits.specs.Limits.{maxLineOctets, maxTagOctets}
 use Rattle.spec_refusal.specs.declared.Refusal.the-variants.{BadLine, LineTooLong}
 use Rattle.spec_octets.specs.Lists.{all, isEmpty}
 use Rattle.spec_octets.specs.Octets.{isLetterOrDigit}
-use Rattle.spec_line.specs.declared.Made.{Made}
+use Rattle.spec_line.specs.declared.LineAnswer.{LineAnswer}
 use Rattle.spec_line.specs.Read.{unescaped, lineValue, isLineTag, readLine, propertyOf}
 use Rattle.spec_line.specs.Calls.{refused, readOf, parseLine}
 use Rattle.line_unit.specs.Places.{plainIn}
 use Rattle.line_parts.specs.declared.LineAt.{LineAt}
 use Rattle.line_parts.specs.declared.LineRead.{LineRead}
 use Rattle.line_parts.specs.declared.LineRead.the-variants.{Good as GoodLine, Fault as NoLine}
-use Rattle.line_parts.specs.declared.ValueAt.{ValueAt}
-use Rattle.line_parts.specs.declared.ValueRead.{ValueRead}
-use Rattle.line_parts.specs.declared.ValueRead.the-variants.{Good as GoodValue, Fault as NoValue}
-use Rattle.line_parts.specs.Places.{lineAt, valueAt}
+use Rattle.line_parts.specs.declared.LineValueAt.{LineValueAt}
+use Rattle.line_parts.specs.declared.LineValueRead.{LineValueRead}
+use Rattle.line_parts.specs.declared.LineValueRead.the-variants.{Good as GoodValue, Fault as NoValue}
+use Rattle.line_parts.specs.Places.{lineAt, lineValueAt}
 use Rattle.line_parts.proofs.LinePlaces.{LineTo, line-found, no-line}
 use Rattle.line_parts.proofs.ValuePlaces.{value-there, value-missing}
 use Rattle.line_data.specs.Places.{taggedProperty, writeData}
@@ -73,11 +73,11 @@ module _ (s : List ℕ) where
             let (front, letters) = and-eq-true-iff (not (isEmpty tag) && leb (length tag) maxTagOctets) (all isLetterOrDigit tag) .0 (to .tag) in
             leb-true (length tag) maxTagOctets (and-eq-true-iff (not (isEmpty tag)) (leb (length tag) maxTagOctets) .0 front .1)
 
-        module _ (q : ValueRead) (read : q ≡ valueAt field₃) where
+        module _ (q : LineValueRead) (read : q ≡ lineValueAt field₃) where
           pub wrong-value : (b : List ℕ) → q ≡ NoValue → parseLine s b ≡ refused BadLine b
           wrong-value b e = unread b (by-value none (value-missing field₃ q read e))
 
-          module _ (p : ValueAt) (e : q ≡ GoodValue p) where
+          module _ (p : LineValueAt) (e : q ≡ GoodValue p) where
             abbrev units : List ℕ
             units = take (p .end - p .from) (drop (p .from) field₃)
 
@@ -93,7 +93,7 @@ module _ (s : List ℕ) where
             unfolding parseLine maxLineOctets writeData
             is-passed b = rw (le-leb (length s) 16384 fits, by-units (unescaped (plainIn (p .style)) units) refl) (as-written b (unescaped (plainIn (p .style)) units))
 
-            pub passed-answer : (b : List ℕ) (m : Made) → m ≡ writeData (l .flags) tag (p .style) units b .answer → m ≡ parseLine s b .answer
+            pub passed-answer : (b : List ℕ) (m : LineAnswer) → m ≡ writeData (l .flags) tag (p .style) units b .answer → m ≡ parseLine s b .answer
             passed-answer b m e = rw (is-passed b) e
 
             pub passed-octets : (b x : List ℕ) → x ≡ writeData (l .flags) tag (p .style) units b .buffer → x ≡ parseLine s b .buffer

@@ -1,27 +1,27 @@
 // A line of text to its CAA data: the presentation format of RFC 8659 section 4.1.1.
 use line_parts::LineRead;
-use line_parts::ValueRead;
+use line_parts::LineValueRead;
 use spec_limits::MAX_LINE_OCTETS;
-use spec_line::Made;
+use spec_line::LineAnswer;
 use spec_refusal::Refusal;
 ghost use mathlib.Core.Path.{_≡_};
 ghost use Rattle.spec_line.specs.Calls.{parseLine};
 
 // A line to its CAA data, at the front of the lent buffer; nothing is written before the room is known to be enough.
-pub fn read_line(line: &[u8], buffer: &mut [u8]) -> Made
+pub fn read_line(line: &[u8], buffer: &mut [u8]) -> LineAnswer
     ensures answer { λ r. ⌜ r ≡ parseLine (now (line .entry)) (now (buffer .entry)) .answer ⌝ }
     ensures octets { λ r. ⌜ now (buffer .exit) ≡ parseLine (now (line .entry)) (now (buffer .entry)) .buffer ⌝ }
 {
     if MAX_LINE_OCTETS < line.len() {
-        return Made::Refused(Refusal::LineTooLong);
+        return LineAnswer::Refused(Refusal::LineTooLong);
     }
     let LineRead::Good(l) = line_parts::read_fields(line) else {
-        return Made::Refused(Refusal::BadLine);
+        return LineAnswer::Refused(Refusal::BadLine);
     };
     let at = l.value;
     let value = &line[at..];
-    let ValueRead::Good(v) = line_parts::read_value(value) else {
-        return Made::Refused(Refusal::BadLine);
+    let LineValueRead::Good(v) = line_parts::read_line_value(value) else {
+        return LineAnswer::Refused(Refusal::BadLine);
     };
     let from = v.from;
     let to = v.end;

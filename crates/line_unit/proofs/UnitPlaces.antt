@@ -1,4 +1,4 @@
--- Units by their places: the laws of escapeAt and unitAt for each way out of the code.
+-- Units by their places: the laws of escapeAt and writtenOctetAt for each way out of the code.
 use Prim.Native.Nat.{ℕ, _+_, _-_, _≤_, _<_}
 use native.Mathlib.Omega.{arith}
 use mathlib.Core.Path.{_≡_, refl, sym, _∙_}
@@ -13,15 +13,15 @@ use Rattle.spec_octets.specs.Octets.{isDigit}
 use Rattle.spec_octets.specs.Decimal.{decimalFrom, decimalOctet}
 use Rattle.spec_octets.proofs.Walks.{drop-step}
 use Rattle.spec_line.specs.Written.{backslash}
-use Rattle.spec_line.specs.Read.{Unit, numbered, valueOf, threeMore, isInQuotes, isBare}
+use Rattle.spec_line.specs.Read.{WrittenOctet, numbered, valueOf, threeMore, isInQuotes, isBare}
 use Rattle.text_decimal.specs.declared.OctetRead.{OctetRead}
 use Rattle.text_decimal.specs.declared.OctetRead.the-variants.{Good as GoodOctet, Fault as NoOctet}
 use Rattle.text_decimal.specs.Places.{decimalIn}
 use Rattle.text_decimal.proofs.DecimalWalk.{octet-there, octet-missing}
 use Rattle.line_unit.specs.declared.Style.{Style}
-use Rattle.line_unit.specs.declared.UnitRead.{UnitRead}
-use Rattle.line_unit.specs.declared.UnitRead.the-variants.{Good, Fault}
-use Rattle.line_unit.specs.Places.{plainIn, escapeAt, unitAt}
+use Rattle.line_unit.specs.declared.WrittenOctetRead.{WrittenOctetRead}
+use Rattle.line_unit.specs.declared.WrittenOctetRead.the-variants.{Good, Fault}
+use Rattle.line_unit.specs.Places.{plainIn, escapeAt, writtenOctetAt}
 
 -- an octet that stands for itself between quotes does so bare too, but for a few
 pub bare-in-quotes :
@@ -57,7 +57,7 @@ module _ (x : ℕ) (digit : isDigit x ≡ true) where
 
   three-there :
       (l : List ℕ) (n : ℕ) → 2 ≤ length l → decimalOctet (take 3 (x ∷ l)) ≡ some n →
-      (u : Unit) × (threeMore x l ≡ some (u, drop 2 l)) × (valueOf u ≡ n)
+      (u : WrittenOctet) × (threeMore x l ≡ some (u, drop 2 l)) × (valueOf u ≡ n)
   unfolding decimalOctet
   three-there [] n h e = absurd (omega arith)
   three-there (b ∷ []) n h e = absurd (omega arith)
@@ -66,7 +66,7 @@ module _ (x : ℕ) (digit : isDigit x ≡ true) where
       go :
           (t : Bool) → t ≡ isDigit b && isDigit c && leb (decimalFrom 0 (x ∷ b ∷ c ∷ [])) 255 →
           cond {A = Option ℕ} t (some (decimalFrom 0 (x ∷ b ∷ c ∷ []))) none ≡ some n →
-          (u : Unit) × (threeMore x (b ∷ c ∷ l) ≡ some (u, l)) × (valueOf u ≡ n)
+          (u : WrittenOctet) × (threeMore x (b ∷ c ∷ l) ≡ some (u, l)) × (valueOf u ≡ n)
       go true e k = (numbered x b c, rw (← e), cc)
       go false e k = let z : _≡_ {A = ℕ} 0 1 = cc in absurd (omega arith)
 
@@ -78,8 +78,8 @@ module _ (s : List ℕ) (at : ℕ) where
   unfolding escapeAt
   escape-cut-off h = rw (drop-of-length-le s h)
 
-  pub unit-cut-off : (style : Style) → length s ≤ at → Fault ≡ unitAt style s at
-  unfolding unitAt
+  pub unit-cut-off : (style : Style) → length s ≤ at → Fault ≡ writtenOctetAt style s at
+  unfolding writtenOctetAt
   unit-cut-off style h = rw (drop-of-length-le s h)
 
   module _ (h : at < length s) where
@@ -113,7 +113,7 @@ module _ (s : List ℕ) (at : ℕ) where
           number-there n g = go (three-there (getD s at 0) is (drop (at + 1) s) n enough (rw digits at (octet-there _ q read n g)))
             where
               go :
-                  ((u : Unit) × (threeMore (getD s at 0) (drop (at + 1) s) ≡ some (u, drop 2 (drop (at + 1) s))) × (valueOf u ≡ n)) →
+                  ((u : WrittenOctet) × (threeMore (getD s at 0) (drop (at + 1) s) ≡ some (u, drop 2 (drop (at + 1) s))) × (valueOf u ≡ n)) →
                   Good (record { octet = n; next = next }) ≡ escapeAt s at
               go (u, found, value) =
                   let behind : at + 1 + 2 ≡ next = omega arith in
@@ -134,15 +134,15 @@ module _ (s : List ℕ) (at : ℕ) where
             rw (step, ← told, no′, le-leb 32 (getD s at 0) low, le-leb (getD s at 0) 126 high, place-back (at + 1) (omega arith))
 
     module _ (style : Style) where
-      pub escape-there : (o : UnitRead) → getD s at 0 ≡ backslash → o ≡ escapeAt s (at + 1) → o ≡ unitAt style s at
-      unfolding escapeAt unitAt
+      pub escape-there : (o : WrittenOctetRead) → getD s at 0 ≡ backslash → o ≡ escapeAt s (at + 1) → o ≡ writtenOctetAt style s at
+      unfolding escapeAt writtenOctetAt
       escape-there o e told = told ∙ rw (step, e)
 
       module _ (other : getD s at 0 ≡ backslash → ⊥) (r : Bool) (told : r ≡ plainIn style (getD s at 0)) where
-        pub wrong-octet : r ≡ false → Fault ≡ unitAt style s at
-        unfolding unitAt
+        pub wrong-octet : r ≡ false → Fault ≡ writtenOctetAt style s at
+        unfolding writtenOctetAt
         wrong-octet e = rw (step, ne-eqb (getD s at 0) backslash other, ← told, e)
 
-        pub octet-itself : r ≡ true → Good (record { octet = getD s at 0; next = at + 1 }) ≡ unitAt style s at
-        unfolding unitAt
+        pub octet-itself : r ≡ true → Good (record { octet = getD s at 0; next = at + 1 }) ≡ writtenOctetAt style s at
+        unfolding writtenOctetAt
         octet-itself e = rw (step, ne-eqb (getD s at 0) backslash other, ← told, e, place-back (at + 1) (omega arith))

@@ -2,7 +2,7 @@
 use text_decimal::OctetRead;
 ghost use mathlib.Core.Path.{_≡_};
 ghost use Rattle.spec_line.specs.Read.{isInQuotes, isBare};
-ghost use Rattle.line_unit.specs.Places.{plainIn, escapeAt, unitAt};
+ghost use Rattle.line_unit.specs.Places.{plainIn, escapeAt, writtenOctetAt};
 
 // How a value is written: between quotes, or bare.
 pub enum Style {
@@ -54,51 +54,51 @@ fn stands_for_itself(b: u8, style: Style) -> bool
 }
 
 // What stands for one octet of a value: that octet, and where it ends.
-pub struct UnitAt {
+pub struct WrittenOctetAt {
     pub octet: u8,
     pub next: usize,
 }
 
-pub enum UnitRead {
-    Good(UnitAt),
+pub enum WrittenOctetRead {
+    Good(WrittenOctetAt),
     Fault,
 }
 
 // What stands behind a backslash: three digits up to 255, or an octet 32 to 126 that is no digit.
-fn read_escape(s: &[u8], at: usize) -> UnitRead
+fn read_escape(s: &[u8], at: usize) -> WrittenOctetRead
     ensures { λ r. ⌜ r ≡ escapeAt (now (s .entry)) at ⌝ }
 {
     if s.len() <= at {
-        return UnitRead::Fault;
+        return WrittenOctetRead::Fault;
     }
     let x = s[at];
     if text_ascii::is_digit(x) {
         if s.len() - at < 3 {
-            return UnitRead::Fault;
+            return WrittenOctetRead::Fault;
         }
         let next: usize = at + 3;
         let OctetRead::Good(octet) = text_decimal::decimal_octet(&s[at..next]) else {
-            return UnitRead::Fault;
+            return WrittenOctetRead::Fault;
         };
-        return UnitRead::Good(UnitAt { octet, next });
+        return WrittenOctetRead::Good(WrittenOctetAt { octet, next });
     }
     if x < 32 {
-        return UnitRead::Fault;
+        return WrittenOctetRead::Fault;
     }
     if 126 < x {
-        return UnitRead::Fault;
+        return WrittenOctetRead::Fault;
     }
-    UnitRead::Good(UnitAt {
+    WrittenOctetRead::Good(WrittenOctetAt {
         octet: x,
         next: at + 1,
     })
 }
 
-pub fn read_unit(s: &[u8], at: usize, style: Style) -> UnitRead
-    ensures { λ r. ⌜ r ≡ unitAt style (now (s .entry)) at ⌝ }
+pub fn read_written_octet(s: &[u8], at: usize, style: Style) -> WrittenOctetRead
+    ensures { λ r. ⌜ r ≡ writtenOctetAt style (now (s .entry)) at ⌝ }
 {
     if s.len() <= at {
-        return UnitRead::Fault;
+        return WrittenOctetRead::Fault;
     }
     let x = s[at];
     let next: usize = at + 1;
@@ -106,7 +106,7 @@ pub fn read_unit(s: &[u8], at: usize, style: Style) -> UnitRead
         return read_escape(s, next);
     }
     if !stands_for_itself(x, style) {
-        return UnitRead::Fault;
+        return WrittenOctetRead::Fault;
     }
-    UnitRead::Good(UnitAt { octet: x, next })
+    WrittenOctetRead::Good(WrittenOctetAt { octet: x, next })
 }

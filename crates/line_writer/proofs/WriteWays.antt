@@ -18,7 +18,7 @@ use Rattle.read_property.specs.declared.PropertyRead.{PropertyRead}
 use Rattle.read_property.specs.declared.PropertyRead.the-variants.{Good, Fault}
 use Rattle.spec_record.proofs.PropertyLaws.{property-is-its-parts}
 use Rattle.read_property.proofs.PropertyPlaces.{PropertyTo, property-there, no-property}
-use Rattle.spec_line.specs.declared.Made.{Made}
+use Rattle.spec_line.specs.declared.LineAnswer.{LineAnswer}
 use Rattle.spec_line.specs.Calls.{refused, placed, writeLine}
 use Rattle.line_property.specs.Places.{lineOf, writeProperty}
 use Rattle.line_property.proofs.PropertyWays.{property-placed}
@@ -72,7 +72,7 @@ module _ (d b : List ℕ) where
           is-passed : writeLine d b ≡ writeProperty (p .flags) t v b
           is-passed = is-placed ∙ sym (property-placed (p .flags) t v b (tag-short t tag) (value-short v value))
 
-          pub passed-answer : (m : Made) → m ≡ writeProperty (p .flags) t v b .answer → m ≡ writeLine d b .answer
+          pub passed-answer : (m : LineAnswer) → m ≡ writeProperty (p .flags) t v b .answer → m ≡ writeLine d b .answer
           passed-answer m e = rw is-passed e
 
           pub passed-octets : (x : List ℕ) → x ≡ writeProperty (p .flags) t v b .buffer → x ≡ writeLine d b .buffer

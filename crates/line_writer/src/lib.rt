@@ -1,26 +1,26 @@
 // CAA data as a line of text: the presentation format of RFC 8659 section 4.1.1.
 use read_property::PropertyRead;
 use spec_limits::MAX_DATA_OCTETS;
-use spec_line::Made;
+use spec_line::LineAnswer;
 use spec_refusal::Refusal;
 use text_classes::Class;
 ghost use mathlib.Core.Path.{_≡_};
 ghost use Rattle.spec_line.specs.Calls.{writeLine};
 
 // CAA data to its line, at the front of the lent buffer; nothing is written before the room is known to be enough.
-pub fn write_line(d: &[u8], buffer: &mut [u8]) -> Made
+pub fn write_line(d: &[u8], buffer: &mut [u8]) -> LineAnswer
     ensures answer { λ r. ⌜ r ≡ writeLine (now (d .entry)) (now (buffer .entry)) .answer ⌝ }
     ensures octets { λ r. ⌜ now (buffer .exit) ≡ writeLine (now (d .entry)) (now (buffer .entry)) .buffer ⌝ }
 {
     if MAX_DATA_OCTETS < d.len() {
-        return Made::Refused(Refusal::LineTooLong);
+        return LineAnswer::Refused(Refusal::LineTooLong);
     }
     let PropertyRead::Good(p) = read_property::read_property(d) else {
-        return Made::Refused(Refusal::BadData);
+        return LineAnswer::Refused(Refusal::BadData);
     };
     let tag = read_property::tag_part(d);
     if !text_classes::all_of(tag, Class::LetterOrDigit) {
-        return Made::Refused(Refusal::BadData);
+        return LineAnswer::Refused(Refusal::BadData);
     }
     let value = read_property::value_part(d);
     line_property::write_property(p.flags, tag, value, buffer)

@@ -6,8 +6,7 @@ use mathlib.Core.List.{List, [], _∷_, map}
 use mathlib.Core.Option.{none}
 use lib.ListN.{length, length-replicate}
 use Rattle.spec_limits.specs.Limits.{maxRecords}
-use Rattle.spec_name.specs.Names.{Name, wire}
-use Rattle.spec_name.specs.Theorems.{GoodName}
+use Rattle.spec_name.specs.Names.{Name, wire, GoodName}
 use Rattle.read_request.specs.declared.Requested.{Requested}
 use Rattle.read_request.specs.declared.RequestedRead.{RequestedRead}
 use Rattle.read_request.specs.declared.RequestedRead.the-variants.{Good, Fault}
@@ -17,7 +16,7 @@ use Rattle.read_request.proofs.RequestPlaces.{next-inside}
 use Rattle.read_request.proofs.AcceptedNames.{NamesLeft, NextName, all-names, names-end, names-good, next-name}
 use Rattle.spec_record.specs.Records.{records, bookRefusal}
 use Rattle.spec_rule.specs.RelevantSet.{caaRecords}
-use Rattle.spec_rule.specs.Authorizations.{Authorization, authorization, decided}
+use Rattle.spec_rule.specs.Authorizations.{Authorization, authorization, authorizationFrom}
 use Rattle.spec_rule.specs.IssuerLists.{Issuers, anyone, listed, issuers}
 use Rattle.list_narrowing.specs.Narrowing.{narrowed}
 use Rattle.spec_rule.specs.Calls.{authorizations}
@@ -51,7 +50,7 @@ narrowed-to-nobody (listed ms) = ap listed (select-nothing ms)
 
 by-place :
     (book : List ℕ) → bookRefusal book ≡ none → (n : Name) → GoodName n → {s : List ℕ} {wildcard : Bool} →
-    s ≡ wire (base n) → wildcard ≡ isWildcard n → decided wildcard (relevantAt book s) ≡ authorization (caaRecords (records book)) n
+    s ≡ wire (base n) → wildcard ≡ isWildcard n → authorizationFrom wildcard (relevantAt book s) ≡ authorization (caaRecords (records book)) n
 by-place book e n good x y = rw (x, y) (sym (authorization-by-place book e n good))
 
 module _ (request book : List ℕ) where

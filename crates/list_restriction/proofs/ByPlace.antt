@@ -8,7 +8,7 @@ use mathlib.Core.List.{List, [], _∷_}
 use lib.ListN.{drop}
 use Rattle.spec_octets.specs.Lists.{any, select, isEmpty}
 use Rattle.spec_rule.specs.RelevantSet.{CaaRecord}
-use Rattle.spec_rule.specs.Authorizations.{Authorization, forbidden, isUnknownCritical, isIssue, isIssueWild, orElse, governing, grantees, governedBy, unlessForbidden, decided}
+use Rattle.spec_rule.specs.Authorizations.{Authorization, forbidden, isUnknownCritical, isIssue, isIssueWild, orElse, governing, grantees, governedBy, unlessForbidden, authorizationFrom}
 use Rattle.spec_rule.specs.IssuerLists.{listed, distinct, issuers}
 use Rattle.book_relevant.specs.declared.Near.{Near}
 use Rattle.book_relevant.specs.declared.Near.the-variants.{At, Nowhere}
@@ -80,7 +80,7 @@ forbidden-by-place request book name wildcard = go (nearestPlace book x)
     x : List ℕ
     x = part request name
 
-    go : (o : Near) → (restrictionFrom book x name wildcard o ≡ Forbidden) ↔ ((r : ℕ) × (decided wildcard (foundAt book x o) ≡ forbidden r))
+    go : (o : Near) → (restrictionFrom book x name wildcard o ≡ Forbidden) ↔ ((r : ℕ) × (authorizationFrom wildcard (foundAt book x o) ≡ forbidden r))
     go Nowhere = (λ e. absurd (let z : _≡_ {A = ℕ} 0 1 = cc in omega arith), λ k. absurd (let e = k .1 in let z : _≡_ {A = ℕ} 0 1 = cc in omega arith))
     go (At at) = forbids (record { from = name .from + at; to = name .to }) wildcard (setOf book (drop at x))
 
@@ -93,7 +93,7 @@ restriction-by-place request book name wildcard = go (nearestPlace book x) refl
 
     go :
         (o : Near) → o ≡ nearestPlace book x →
-        restrictedTo request book (restrictionFrom book x name wildcard o) ≡ issuers (decided wildcard (foundAt book x o) ∷ [])
+        restrictedTo request book (restrictionFrom book x name wildcard o) ≡ issuers (authorizationFrom wildcard (foundAt book x o) ∷ [])
     go Nowhere f = refl
     go (At at) f =
         by-set request book (record { from = name .from + at; to = name .to }) wildcard (setOf book (drop at x))

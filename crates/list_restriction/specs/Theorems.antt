@@ -4,7 +4,7 @@ use mathlib.Core.Path.{_≡_}
 use mathlib.Core.Logic.{_↔_}
 use mathlib.Core.Bool.{Bool}
 use mathlib.Core.List.{List, [], _∷_}
-use Rattle.spec_rule.specs.Authorizations.{forbidden, decided}
+use Rattle.spec_rule.specs.Authorizations.{forbidden, authorizationFrom}
 use Rattle.spec_rule.specs.IssuerLists.{issuers}
 use Rattle.book_relevant.specs.Places.{relevantAt}
 use Rattle.list_names.specs.declared.Span.{Span}
@@ -16,11 +16,11 @@ use Rattle.list_restriction.specs.Places.{restrictionAt, restrictedTo}
 abbrev pub Restriction-by-place : Type 0
 Restriction-by-place =
     (request book : List ℕ) (name : Span) (wildcard : Bool) →
-    restrictedTo request book (restrictionAt request book name wildcard) ≡ issuers (decided wildcard (relevantAt book (part request name)) ∷ [])
+    restrictedTo request book (restrictionAt request book name wildcard) ≡ issuers (authorizationFrom wildcard (relevantAt book (part request name)) ∷ [])
 
 -- Forbidden is said exactly where the rule forbids; so records that grant nobody are never told as an unknown critical property
 abbrev pub Forbidden-by-place : Type 0
 Forbidden-by-place =
     (request book : List ℕ) (name : Span) (wildcard : Bool) →
     (restrictionAt request book name wildcard ≡ Forbidden)
-    ↔ ((r : ℕ) × (decided wildcard (relevantAt book (part request name)) ≡ forbidden r))
+    ↔ ((r : ℕ) × (authorizationFrom wildcard (relevantAt book (part request name)) ≡ forbidden r))

@@ -12,13 +12,13 @@ use Rattle.read_value.specs.declared.ValueRead.{ValueRead}
 use Rattle.read_value.specs.declared.ValueRead.the-variants.{Malformed, Nameless, Named}
 use Rattle.read_value.specs.Places.{valueAt}
 use Rattle.spec_value.specs.IssueValues.{issueValue}
-use Rattle.spec_rule.specs.Authorizations.{holder}
+use Rattle.spec_rule.specs.Authorizations.{granteeOfValue}
 use Rattle.read_grantee.specs.declared.GranteeRead.{GranteeRead}
 use Rattle.read_grantee.specs.declared.GranteeRead.the-variants.{At, Nobody}
 
 -- the issuer that CAA data grants, by its value; nobody where the data is laid out wrongly, and so has none
 unfoldable pub granteeOfData : List ℕ → Option (List ℕ)
-granteeOfData d = holder (issueValue (valuePart d))
+granteeOfData d = granteeOfValue (issueValue (valuePart d))
 
 -- the octets of d at a place
 abbrev pub nameAt : List ℕ → NameAt → List ℕ

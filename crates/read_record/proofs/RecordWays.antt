@@ -39,17 +39,17 @@ module _ (s : List ℕ) (at : ℕ) (o : NameEnd) (f : o ≡ nameEnd s at) where
       data-cut-off h = unread (λ m w. omega (arith, w .data-fits))
 
       module _ (type class : ℕ) (t : type ≡ valueFrom 0 (take 2 (drop e s))) (c : class ≡ valueFrom 0 (take 2 (drop (e + 2) s))) (b : Bool) where
-        abbrev Told : Type 0
-        Told = b ≡ isLaidOut type class (take (e + 10 + n - (e + 10)) (drop (e + 10) s))
+        abbrev AnswerCode : Type 0
+        AnswerCode = b ≡ isLaidOut type class (take (e + 10 + n - (e + 10)) (drop (e + 10) s))
 
-        layout : Told → (m : Name) → b ≡ isLaidOut (recordFrom s m e .type) (recordFrom s m e .class) (recordFrom s m e .rdata)
+        layout : AnswerCode → (m : Name) → b ≡ isLaidOut (recordFrom s m e .type) (recordFrom s m e .class) (recordFrom s m e .rdata)
         layout d m = let long : e + 10 + n - (e + 10) ≡ dataLength s e = omega arith in rw (← t, ← c, ← long) d
 
-        pub wrong-data : not b ≡ true → Told → Fault ≡ recordAt s at
+        pub wrong-data : not b ≡ true → AnswerCode → Fault ≡ recordAt s at
         wrong-data h d = unread (λ m w. true≢false (sym (w .laid-out) ∙ sym (layout d m) ∙ not-true b h))
 
         pub record-read :
-            not b ≡ false → Told → 10 ≤ length s - e → n ≤ length s - (e + 10) →
+            not b ≡ false → AnswerCode → 10 ≤ length s - e → n ≤ length s - (e + 10) →
             Good (record { fixed = e; rtype = type; class = class; rdata = e + 10; next = e + 10 + n }) ≡ recordAt s at
         record-read j d h i =
             let (m, k) = name-there s at o e f g in

@@ -13,8 +13,7 @@ use Rattle.spec_octets.specs.Lists.{isEmpty}
 use Rattle.spec_octets.specs.Items.{Items, whole, broken, over, wholeItems, items}
 use Rattle.spec_octets.proofs.ItemLaws.{items-end, OneMore, one-more}
 use Rattle.spec_octets.proofs.ReaderLaws.{bind-some, given-some, pure-some}
-use Rattle.spec_name.specs.Names.{Name, wire, name}
-use Rattle.spec_name.specs.Theorems.{GoodName}
+use Rattle.spec_name.specs.Names.{Name, wire, name, GoodName}
 use Rattle.spec_name.proofs.NameLaws.{name-is-its-labels}
 use Rattle.read_request.specs.declared.Requested.{Requested}
 use Rattle.read_request.specs.declared.RequestedRead.{RequestedRead}

@@ -8,9 +8,8 @@ use mathlib.Core.List.{List}
 use lib.ListN.{length, drop, take}
 use Rattle.read_name.specs.declared.NameEnd.{NameEnd}
 use Rattle.read_name.specs.declared.NameEnd.the-variants.{At, Fault as NoName}
-use Rattle.spec_name.specs.Names.{Name, wire}
+use Rattle.spec_name.specs.Names.{Name, wire, GoodName}
 use Rattle.read_name.specs.Places.{nameEnd}
-use Rattle.spec_name.specs.Theorems.{GoodName}
 use Rattle.spec_name.proofs.NameLaws.{name-is-its-labels}
 use Rattle.read_name.proofs.PlaceLaws.{NameTo, name-there, name-faults}
 use Rattle.read_request.specs.declared.RequestedRead.the-variants.{Good, Fault}

@@ -11,9 +11,8 @@ use Rattle.spec_octets.specs.Lists.{All, all, isEmpty}
 use Rattle.spec_limits.specs.Limits.{maxLabelOctets}
 use Rattle.spec_octets.specs.Label.{isLabel, isHostLabel}
 use Rattle.spec_octets.proofs.ListLaws.{All-head, All-tail}
-use Rattle.spec_name.specs.Names.{Label, Name, wire}
+use Rattle.spec_name.specs.Names.{Label, Name, wire, GoodName}
 use Rattle.read_name.specs.Places.{parentPlace}
-use Rattle.spec_name.specs.Theorems.{GoodName}
 use Rattle.spec_name.proofs.NameLaws.{GoodLabel}
 use Rattle.read_name.proofs.Parents.{root-stays, behind-label, label-octets, label-passed}
 

@@ -13,8 +13,7 @@ use Rattle.spec_octets.specs.Reader.{given}
 use Rattle.spec_octets.proofs.ListLaws.{All-tail}
 use Rattle.spec_octets.proofs.Texts.{same-equal}
 use Rattle.spec_octets.proofs.ReaderLaws.{fault-told, bind-some, given-some}
-use Rattle.spec_name.specs.Names.{Name, wire, name}
-use Rattle.spec_name.specs.Theorems.{GoodName}
+use Rattle.spec_name.specs.Names.{Name, wire, name, GoodName}
 use Rattle.spec_name.proofs.NameLaws.{name-is-its-labels, fewer-labels}
 use Rattle.read_name.proofs.PlaceLaws.{NameTo, name-to}
 use Rattle.read_request.specs.declared.Requested.{Requested}

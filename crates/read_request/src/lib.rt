@@ -11,8 +11,7 @@ ghost use mathlib.Core.Bool.{not, _&&_};
 ghost use Rattle.spec_refusal.specs.Checks.{checked};
 ghost use Rattle.spec_octets.specs.Lists.{all, isEmpty};
 ghost use Rattle.spec_octets.specs.Label.{isHostLabel};
-ghost use Rattle.spec_name.specs.Names.{Name, wire};
-ghost use Rattle.spec_name.specs.Theorems.{GoodName};
+ghost use Rattle.spec_name.specs.Names.{Name, wire, GoodName};
 ghost use Rattle.spec_request.specs.Request.{isWildcard, requestRefusal};
 ghost use Rattle.read_request.specs.Places.{requestedAt};
 

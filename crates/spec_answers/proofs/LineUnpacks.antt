@@ -16,19 +16,20 @@ use Rattle.spec_octets.specs.Octets.{Octets}
 use Rattle.spec_record.specs.Property.{Property, wireProperty, property}
 use Rattle.spec_record.proofs.PropertyLaws.{property-is-its-parts}
 use Rattle.spec_packed.proofs.Unpacking.{number-small}
-use Rattle.spec_line.specs.declared.Made.{Made}
-use Rattle.spec_line.specs.declared.Made.the-variants.{Length, Refused}
+use Rattle.spec_line.specs.declared.LineAnswer.{LineAnswer}
+use Rattle.spec_line.specs.declared.LineAnswer.the-variants.{Length, Refused}
 use Rattle.spec_line.specs.Written.{line}
 use Rattle.spec_line.specs.Read.{readLine}
 use Rattle.spec_line.specs.Calls.{Output, refused, placed, isWritable, writtenOf, writeLine, readOf, parseLine}
 use Rattle.spec_line.proofs.LineLength.{line-short}
-use Rattle.spec_answers.specs.LineAnswers.{madeTold, packedMade}
-use Rattle.spec_answers.specs.Theorems.{Unpacked, Lines-told, Written-line-unpacks, Read-line-unpacks}
+use Rattle.spec_answers.specs.LineAnswers.{lineCode, packedLine}
+use Rattle.spec_answers.specs.Theorems.{Unpacked, Written-line-unpacks, Read-line-unpacks}
+use Rattle.spec_answers.specs.Pinned.{Line-codes}
 use Rattle.spec_answers.proofs.JudgementUnpacks.{told-unpacks}
 
 -- Each length fits its field.
 
-abbrev MadeFits : Made → Type 0
+abbrev MadeFits : LineAnswer → Type 0
 MadeFits (Length n) = n < 2 ^ 24
 MadeFits (Refused r) = place r < 2 ^ 24
 
@@ -76,16 +77,16 @@ read-fits s b = cond-fits (leb (length s) maxLineOctets) (readOf (readLine s) b)
         cond-fits (leb (length (wireProperty p)) maxDataOctets) (placed (wireProperty p) b) (refused LineTooLong b)
         (λ e. placed-fits (wireProperty p) b (data-small (length (wireProperty p)) e)) (omega arith)
 
-pub lines-told : Lines-told
-unfolding madeTold
-lines-told = (λ n. refl, λ r. refl)
+pub line-codes : Line-codes
+unfolding lineCode
+line-codes = (λ n. refl, λ r. refl)
 
 -- So unpacking gives the number and the length or the place.
 
-fitting-unpacks : (m : Made) → MadeFits m → Unpacked (packedMade m) (madeTold m)
-unfolding packedMade madeTold
-fitting-unpacks (Length n) h = told-unpacks (madeTold (Length n)) (omega arith) h (omega arith)
-fitting-unpacks (Refused r) h = told-unpacks (madeTold (Refused r)) (number-small r) h (omega arith)
+fitting-unpacks : (m : LineAnswer) → MadeFits m → Unpacked (packedLine m) (lineCode m)
+unfolding packedLine lineCode
+fitting-unpacks (Length n) h = told-unpacks (lineCode (Length n)) (omega arith) h (omega arith)
+fitting-unpacks (Refused r) h = told-unpacks (lineCode (Refused r)) (number-small r) h (omega arith)
 
 pub written-line-unpacks : Written-line-unpacks
 written-line-unpacks d b octets = fitting-unpacks (writeLine d b .answer) (write-fits d b octets)

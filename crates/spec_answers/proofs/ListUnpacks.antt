@@ -19,7 +19,7 @@ use Rattle.spec_packed.proofs.Unpacking.{number-small}
 use Rattle.spec_rule.specs.declared.PermittedIssuers.{PermittedIssuers}
 use Rattle.spec_rule.specs.declared.PermittedIssuers.the-variants.{Anyone, Listed, Refused}
 use Rattle.spec_rule.specs.IssuerLists.{Issuers, anyone, listed, issuers, entries}
-use Rattle.spec_rule.specs.Calls.{refusalTold, authorizations, firstRefusal, written, unlessRefused, listIssuers, permittedIssuersTold}
+use Rattle.spec_rule.specs.Calls.{refusalCode, authorizations, firstRefusal, written, unlessRefused, listIssuers, permittedIssuersCode}
 use Rattle.spec_rule.specs.Theorems.{total}
 use Rattle.spec_rule.proofs.BufferLaws.{entries-length}
 use Rattle.spec_rule.proofs.Room.{room-of-the-book}
@@ -61,11 +61,11 @@ module _ (request book buffer : List ℕ) (octets : Octets book) where
       by true h = h
       by false h = h .0
 
-fitting-unpacks : (x : PermittedIssuers) → ListFits x → Unpacked (packedIssuers x) (permittedIssuersTold x)
-unfolding packedIssuers permittedIssuersTold
-fitting-unpacks Anyone h = told-unpacks (permittedIssuersTold Anyone) (omega arith) (omega arith) (omega arith)
-fitting-unpacks (Listed count octets) h = told-unpacks (permittedIssuersTold (Listed count octets)) (omega arith) (h .0) (h .1)
-fitting-unpacks (Refused r) h = told-unpacks (refusalTold r) (number-small r) h (omega arith)
+fitting-unpacks : (x : PermittedIssuers) → ListFits x → Unpacked (packedIssuers x) (permittedIssuersCode x)
+unfolding packedIssuers permittedIssuersCode
+fitting-unpacks Anyone h = told-unpacks (permittedIssuersCode Anyone) (omega arith) (omega arith) (omega arith)
+fitting-unpacks (Listed count octets) h = told-unpacks (permittedIssuersCode (Listed count octets)) (omega arith) (h .0) (h .1)
+fitting-unpacks (Refused r) h = told-unpacks (refusalCode r) (number-small r) h (omega arith)
 
 pub list-unpacks : List-unpacks
 list-unpacks request book buffer octets =

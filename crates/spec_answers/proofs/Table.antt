@@ -2,12 +2,12 @@
 use mathlib.Core.Path.{refl}
 use Rattle.spec_refusal.specs.Refusal.{number, place}
 use Rattle.spec_packed.specs.Packed.{packed}
-use Rattle.spec_rule.specs.Calls.{judgementTold, permittedIssuersTold}
+use Rattle.spec_rule.specs.Calls.{judgementCode, permittedIssuersCode}
 use Rattle.spec_answers.specs.Answers.{packedJudgement}
 use Rattle.spec_answers.specs.ListAnswers.{packedIssuers}
-use Rattle.spec_answers.specs.LineAnswers.{madeTold, packedMade}
+use Rattle.spec_answers.specs.LineAnswers.{lineCode, packedLine}
 use Rattle.spec_answers.specs.Theorems.{Packed-answers}
 
 pub packed-answers : Packed-answers
-unfolding number place packed judgementTold permittedIssuersTold packedJudgement packedIssuers madeTold packedMade
+unfolding number place packed judgementCode permittedIssuersCode packedJudgement packedIssuers lineCode packedLine
 packed-answers = (refl, refl, refl, refl)

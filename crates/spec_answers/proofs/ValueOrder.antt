@@ -1,6 +1,6 @@
 -- The values of an answer stand in their order.
 use mathlib.Core.Path.{refl}
-use Rattle.spec_answers.specs.Theorems.{Values-in-order}
+use Rattle.spec_answers.specs.Pinned.{Values-in-order}
 
 pub values-in-order : Values-in-order
 values-in-order = (λ n a b. (refl, refl), λ n a. (refl, refl), λ n. (refl, refl))

@@ -1,4 +1,5 @@
 pub mod Answers
 pub mod ListAnswers
 pub mod LineAnswers
+pub mod Pinned
 pub mod Theorems

@@ -1,8 +1,8 @@
 -- What the call that lists the permitted issuers answers, packed.
 use Prim.Native.Nat.{ℕ}
 use Rattle.spec_rule.specs.declared.PermittedIssuers.{PermittedIssuers}
-use Rattle.spec_rule.specs.Calls.{permittedIssuersTold}
-use Rattle.spec_answers.specs.Answers.{packedTold}
+use Rattle.spec_rule.specs.Calls.{permittedIssuersCode}
+use Rattle.spec_answers.specs.Answers.{packedCode}
 
 unfoldable pub packedIssuers : PermittedIssuers → ℕ
-packedIssuers a = packedTold (permittedIssuersTold a)
+packedIssuers a = packedCode (permittedIssuersCode a)

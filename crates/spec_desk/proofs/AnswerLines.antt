@@ -5,7 +5,8 @@ use Rattle.spec_limits.specs.Limits.{maxRecords}
 use Rattle.spec_refusal.specs.Refusal.{number, place}
 use Rattle.spec_octets.specs.WrittenDecimal.{decimal}
 use Rattle.spec_desk.specs.Lines.{answerText, deskLine}
-use Rattle.spec_desk.specs.Theorems.{Judged, Line-words, Line-examples}
+use Rattle.spec_desk.specs.Pinned.{Judged}
+use Rattle.spec_desk.specs.Theorems.{Line-words, Line-examples}
 
 pub line-words : Line-words
 unfolding answerText

@@ -20,9 +20,9 @@ use Rattle.spec_rule.specs.declared.Denial.{Denial}
 use Rattle.spec_rule.specs.declared.Judgement.{Judgement}
 use Rattle.spec_rule.specs.declared.Judgement.the-variants.{Permitted, UnknownCritical, NotGranted, Refused}
 use Rattle.spec_rule.specs.Verdicts.{denial}
-use Rattle.spec_rule.specs.Calls.{judge, judgementTold}
+use Rattle.spec_rule.specs.Calls.{judge, judgementCode}
 use Rattle.spec_octets.specs.WrittenDecimal.{decimal}
-use Rattle.spec_desk.specs.Lines.{lineEnd, numbered, denialText, answerText, line, noBook, deskLine}
+use Rattle.spec_desk.specs.Lines.{lineEnd, numbered, denialText, answerText, judgementLine, noBook, deskLine}
 use Rattle.spec_desk.specs.Theorems.{numbersIn, Text-tells, Lines-differ, No-book}
 use Rattle.spec_octets.proofs.WrittenDecimals.{says}
 
@@ -81,7 +81,7 @@ refusal-tells n p =
     ∙ ap (_∷_ n) (number-first p [])
 
 pub text-tells : Text-tells
-unfolding answerText judgementTold isLetterOrDigit isUpper isLower isDigit
+unfolding answerText judgementCode isLetterOrDigit isUpper isLower isDigit
 text-tells Permitted = refl
 text-tells (UnknownCritical d) = denial-tells 20 (text "20") (text "verdict 20 name ") refl (letters (text "20") refl) (λ ws. refl) d
 text-tells (NotGranted d) = denial-tells 21 (text "21") (text "verdict 21 name ") refl (letters (text "21") refl) (λ ws. refl) d
@@ -105,8 +105,8 @@ denial-one : (d e : Denial) → d .name .0 ≡ e .name .0 → d .rr .0 ≡ e .rr
 denial-one d e k r = ap (λ x. denial x (d .rr .0)) k ∙ ap (denial (e .name .0)) r
 
 -- a judgement is known by its number and values
-told-one : (i j : Judgement) → judgementTold i .number ≡ judgementTold j .number → judgementTold i .values ≡ judgementTold j .values → i ≡ j
-unfolding judgementTold
+told-one : (i j : Judgement) → judgementCode i .number ≡ judgementCode j .number → judgementCode i .values ≡ judgementCode j .values → i ≡ j
+unfolding judgementCode
 told-one Permitted Permitted n v = refl
 told-one Permitted (UnknownCritical e) n v = absurd (omega arith)
 told-one Permitted (NotGranted e) n v = absurd (omega arith)
@@ -131,7 +131,7 @@ lines-differ i j e =
     told-one i j (cc) (cc)
 
 -- no answer's text is `no book`: it would tell no number
-bookless : (j : Judgement) → line j ≢ noBook
+bookless : (j : Judgement) → judgementLine j ≢ noBook
 unfolding isLetterOrDigit isUpper isLower isDigit
 bookless j e =
     let same = append-cancel-right (answerText j) (text "no book") (lineEnd ∷ []) e in

@@ -27,12 +27,12 @@ answerText (UnknownCritical d) = denialText (text "verdict 20 name ") d
 answerText (NotGranted d) = denialText (text "verdict 21 name ") d
 answerText (Refused r) = numbered (text "refused ") (number r) (text " at ") (place r)
 
-abbrev pub line : Judgement → List ℕ
-line j = answerText j ++ (lineEnd ∷ [])
+abbrev pub judgementLine : Judgement → List ℕ
+judgementLine j = answerText j ++ (lineEnd ∷ [])
 
 abbrev pub noBook : List ℕ
 noBook = text "no book" ++ (lineEnd ∷ [])
 
 -- "without book.bin the line is `no book`, whatever the others hold"
 unfoldable pub deskLine : Bool → List ℕ → List ℕ → List ℕ → List ℕ
-deskLine found request issuer book = cond found (line (judge request issuer book)) noBook
+deskLine found request issuer book = cond found (judgementLine (judge request issuer book)) noBook

@@ -18,8 +18,8 @@ use Rattle.spec_rule.specs.declared.Judgement.the-variants.{Permitted, UnknownC
 use Rattle.spec_rule.specs.Edges.{ca1, ca2, wholeBook}
 use Rattle.spec_rule.specs.CallEdges.{both, bookOf}
 use Rattle.spec_rule.specs.Verdicts.{denial}
-use Rattle.spec_rule.specs.Calls.{judge, judgementTold}
-use Rattle.spec_desk.specs.Lines.{answerText, line, noBook, deskLine}
+use Rattle.spec_rule.specs.Calls.{judgementCode}
+use Rattle.spec_desk.specs.Lines.{answerText, judgementLine, noBook, deskLine}
 
 -- the numbers among the words of a text
 abbrev pub numbersIn : List ℕ → List ℕ
@@ -27,37 +27,33 @@ numbersIn s = map (decimalFrom 0) (select (begins isDigit) (split (code " ") s))
 
 -- the numbers in an answer's text are the answer's number and its values, in their order
 abbrev pub Text-tells : Type 0
-Text-tells = (j : Judgement) → numbersIn (answerText j) ≡ judgementTold j .number ∷ judgementTold j .values
+Text-tells = (j : Judgement) → numbersIn (answerText j) ≡ judgementCode j .number ∷ judgementCode j .values
 
 -- so different answers have different lines
 abbrev pub Lines-differ : Type 0
-Lines-differ = (i j : Judgement) → line i ≡ line j → i ≡ j
+Lines-differ = (i j : Judgement) → judgementLine i ≡ judgementLine j → i ≡ j
 
 -- `no book` says that there is no book, and nothing else says so
 abbrev pub No-book : Type 0
 No-book = (found : Bool) (request issuer book : List ℕ) → (deskLine found request issuer book ≡ noBook) ↔ (found ≡ false)
 
--- with a book the line is the judgement's
-abbrev pub Judged : Type 0
-Judged = (request issuer book : List ℕ) → deskLine true request issuer book ≡ line (judge request issuer book)
-
 -- the words around the numbers, for every number
 abbrev pub Line-words : Type 0
 Line-words =
-    ((k r : ℕ) → line (UnknownCritical (denial k r)) ≡ text "verdict 20 name " ++ decimal k ++ text " record " ++ decimal r ++ text "\n")
-    × ((k r : ℕ) → line (NotGranted (denial k r)) ≡ text "verdict 21 name " ++ decimal k ++ text " record " ++ decimal r ++ text "\n")
-    × ((r : Refusal) → line (Refused r) ≡ text "refused " ++ decimal (number r) ++ text " at " ++ decimal (place r) ++ text "\n")
+    ((k r : ℕ) → judgementLine (UnknownCritical (denial k r)) ≡ text "verdict 20 name " ++ decimal k ++ text " record " ++ decimal r ++ text "\n")
+    × ((k r : ℕ) → judgementLine (NotGranted (denial k r)) ≡ text "verdict 21 name " ++ decimal k ++ text " record " ++ decimal r ++ text "\n")
+    × ((r : Refusal) → judgementLine (Refused r) ≡ text "refused " ++ decimal (number r) ++ text " at " ++ decimal (place r) ++ text "\n")
 
 -- the lines that the requirements print, and some more
 abbrev pub Line-examples : Type 0
 Line-examples =
-    (line Permitted ≡ text "verdict 0\n")
-    × (line (NotGranted (denial 1 3)) ≡ text "verdict 21 name 1 record 3\n")
-    × (line (UnknownCritical (denial 0 2)) ≡ text "verdict 20 name 0 record 2\n")
-    × (line (UnknownCritical (denial 99 255)) ≡ text "verdict 20 name 99 record 255\n")
-    × (line (Refused (BadRecord (record { 0 = 4 }))) ≡ text "refused 6 at 4\n")
-    × (line (Refused BadIssuer) ≡ text "refused 4 at 0\n")
-    × (line (Refused TooManyRecords) ≡ text "refused 7 at 256\n")
+    (judgementLine Permitted ≡ text "verdict 0\n")
+    × (judgementLine (NotGranted (denial 1 3)) ≡ text "verdict 21 name 1 record 3\n")
+    × (judgementLine (UnknownCritical (denial 0 2)) ≡ text "verdict 20 name 0 record 2\n")
+    × (judgementLine (UnknownCritical (denial 99 255)) ≡ text "verdict 20 name 99 record 255\n")
+    × (judgementLine (Refused (BadRecord (record { 0 = 4 }))) ≡ text "refused 6 at 4\n")
+    × (judgementLine (Refused BadIssuer) ≡ text "refused 4 at 0\n")
+    × (judgementLine (Refused TooManyRecords) ≡ text "refused 7 at 256\n")
     × ((request issuer book : List ℕ) → deskLine false request issuer book ≡ text "no book\n")
 
 -- from what the files hold: the requirements' whole case, a request that is permitted, and one refusal for each file

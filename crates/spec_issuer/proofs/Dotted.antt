@@ -19,8 +19,8 @@ use Rattle.spec_octets.specs.Pieces.{split}
 use Rattle.spec_octets.proofs.ListLaws.{All-imp}
 use Rattle.spec_octets.proofs.Labels.{host-labels}
 use Rattle.spec_octets.proofs.DottedLabels.{pieces-pass, label-dotless}
-use Rattle.spec_issuer.specs.Issuer.{isIssuer, issuerRefusal}
-use Rattle.spec_issuer.specs.Theorems.{WellFormed, Issuer-is-its-labels, Issuer-refusals}
+use Rattle.spec_issuer.specs.Issuer.{isIssuer, issuerRefusal, WellFormed}
+use Rattle.spec_issuer.specs.Theorems.{Issuer-is-its-labels, Issuer-refusals}
 
 host-dotless : (l : List ℕ) → isHostLabel l ≡ true → All (λ x. x ≢ code ".") l
 unfolding isHostLabel

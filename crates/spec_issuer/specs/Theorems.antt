@@ -1,27 +1,15 @@
 -- What the definitions of this crate mean. Each statement is proved under its name in proofs/.
-use Prim.Native.Nat.{ℕ, _≤_}
-use Prim.Native.Char.{code}
+use Prim.Native.Nat.{ℕ}
 use mathlib.Core.Path.{_≡_}
-use mathlib.Core.Logic.{_↔_, _≢_}
+use mathlib.Core.Logic.{_↔_}
 use mathlib.Core.Bool.{true}
-use mathlib.Core.List.{List, [], map}
+use mathlib.Core.List.{List, map}
 use mathlib.Core.Option.{none, some}
-use lib.ListN.{length}
-use Rattle.spec_limits.specs.Limits.{maxIssuerOctets}
 use Rattle.spec_refusal.specs.declared.Refusal.{Refusal}
 use Rattle.spec_refusal.specs.declared.Refusal.the-variants.{BadIssuer}
-use Rattle.spec_octets.specs.Lists.{All}
 use Rattle.spec_octets.specs.Octets.{lowered}
-use Rattle.spec_octets.specs.Pieces.{join}
-use Rattle.spec_octets.specs.Theorems.{Host-label}
 use Rattle.spec_issuer.specs.IssuerEdges.{issuerEdges}
-use Rattle.spec_issuer.specs.Issuer.{isIssuer, issuerRefusal}
-
--- one or more good labels joined by single dots, 1 to 253 octets
-abbrev pub WellFormed : List ℕ → Type 0
-WellFormed d =
-    (1 ≤ length d) × (length d ≤ maxIssuerOctets)
-    × ((ls : List (List ℕ)) × (d ≡ join (code ".") ls) × (ls ≢ []) × All Host-label ls)
+use Rattle.spec_issuer.specs.Issuer.{isIssuer, issuerRefusal, WellFormed}
 
 abbrev pub Issuer-is-its-labels : Type 0
 Issuer-is-its-labels = (d : List ℕ) → (isIssuer d ≡ true) ↔ WellFormed d

@@ -12,7 +12,7 @@ use borrow.Author.Tests.{leb-true, leb-false, le-leb, lt-leb}
 use Rattle.spec_refusal.specs.declared.Refusal.{Refusal}
 use Rattle.spec_refusal.specs.declared.Refusal.the-variants.{NoRoom, LineTooLong}
 use Rattle.spec_record.specs.Property.{Property}
-use Rattle.spec_line.specs.declared.Made.the-variants.{Length, Refused}
+use Rattle.spec_line.specs.declared.LineAnswer.the-variants.{Length, Refused}
 use Rattle.spec_line.specs.Calls.{Output, refused, placed}
 
 placed-tight : (m buffer : List ℕ) → length buffer < length m → placed m buffer ≡ refused (NoRoom (length m)) buffer
@@ -54,22 +54,22 @@ module _ (n limit room : ℕ) (size : Property → ℕ) (made : Property → Lis
     why : (r : Refusal) → call found .answer ≡ Refused r → Why r × (call found .buffer ≡ buffer)
     why r = within (leb n limit) refl
       where
-        Told : Output → Type 0
-        Told o = o .answer ≡ Refused r → Why r × (o .buffer ≡ buffer)
+        AnswerCode : Output → Type 0
+        AnswerCode o = o .answer ≡ Refused r → Why r × (o .buffer ≡ buffer)
 
         fitting :
             (p : Property) → n ≤ limit → found ≡ some p → (t : Bool) → leb (size p) room ≡ t →
-            Told (cond t (placed (made p) buffer) (refused LineTooLong buffer))
+            AnswerCode (cond t (placed (made p) buffer) (refused LineTooLong buffer))
         fitting p short e true t h =
             let (is, less, kept) = placed-refused (made p) buffer r h in
             (tight p is short e (leb-true _ _ t) less, kept)
         fitting p short e false t h = (large (cc) short p e (leb-false _ _ t), refl)
 
-        standing : n ≤ limit → (o : Option Property) → found ≡ o → Told (outcome o)
+        standing : n ≤ limit → (o : Option Property) → found ≡ o → AnswerCode (outcome o)
         standing short none e h = (nothing (cc) short e, refl)
         standing short (some p) e h = fitting p short e (leb (size p) room) refl h
 
-        within : (t : Bool) → leb n limit ≡ t → Told (cond t (outcome found) (refused LineTooLong buffer))
+        within : (t : Bool) → leb n limit ≡ t → AnswerCode (cond t (outcome found) (refused LineTooLong buffer))
         within true t h = standing (leb-true _ _ t) found refl h
         within false t h = (long (cc) (leb-false _ _ t), refl)
 

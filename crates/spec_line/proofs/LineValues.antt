@@ -12,8 +12,8 @@ use Rattle.spec_octets.specs.Octets.{isBlank}
 use Rattle.spec_octets.proofs.ListLaws.{told-apart, All-head, ends-append}
 use Rattle.spec_octets.proofs.Runs.{not-blank}
 use Rattle.spec_line.specs.Written.{quote, backslash}
-use Rattle.spec_line.specs.Read.{Unit, plain, quoted, numbered, unescaped, isInQuotes, isBare, lineValue}
-use Rattle.spec_line.specs.Grammar.{wireUnit, GoodUnit, UnitsFor, ValueField}
+use Rattle.spec_line.specs.Read.{WrittenOctet, plain, quoted, numbered, unescaped, isInQuotes, isBare, lineValue}
+use Rattle.spec_line.specs.Grammar.{asWritten, GoodWrittenOctet, WrittenFor, ValueField}
 use Rattle.spec_line.proofs.Units.{unescaped-units}
 
 -- A list that ends in c is all but its last octet, and c.
@@ -32,10 +32,10 @@ all-but-last (x ∷ y ∷ s) c = ap (_∷_ x) (all-but-last (y ∷ s) c)
 abbrev isFirst : ℕ → Bool
 isFirst x = isBare x || eqb x backslash
 
-bare-first : (v : List ℕ) (x : ℕ) (s : List ℕ) → UnitsFor isBare v (x ∷ s) → isFirst x ≡ true
+bare-first : (v : List ℕ) (x : ℕ) (s : List ℕ) → WrittenFor isBare v (x ∷ s) → isFirst x ≡ true
 bare-first v x s units = go (units .0) (units .1) (units .2)
   where
-    go : (us : List Unit) → x ∷ s ≡ flatten (map wireUnit us) → All (GoodUnit isBare) us → isFirst x ≡ true
+    go : (us : List WrittenOctet) → x ∷ s ≡ flatten (map asWritten us) → All (GoodWrittenOctet isBare) us → isFirst x ≡ true
     go [] e good = absurd (cons≢nil e)
     go (plain y ∷ us) e good = rw (head-eq-of-cons-eq e, All-head good .0)
     go (quoted y ∷ us) e good = rw (head-eq-of-cons-eq e, or-true)

@@ -18,21 +18,21 @@ use Rattle.spec_octets.proofs.Runs.{Blankless, not-blank}
 use Rattle.spec_record.specs.Property.{Property}
 use Rattle.spec_octets.specs.Reader.{ifRead}
 use Rattle.spec_line.specs.Read.{field, lineValue, isLineTag, propertyOf, readLine}
-use Rattle.spec_line.specs.Grammar.{someBlanks, FlagsField, TagField, ValueField, LineOf}
+use Rattle.spec_line.specs.Grammar.{someBlanks, OctetField, TagField, ValueField, LineOf}
 use Rattle.spec_line.specs.Theorems.{Line-is-the-grammar}
 use Rattle.spec_line.proofs.Fields.{field-apart}
 use Rattle.spec_line.proofs.LineValues.{value-field, value-unblank}
 
 -- Flags.
 
-flags-field : (s : List ℕ) (n : ℕ) → (decimalOctet s ≡ some n) ↔ FlagsField n s
+flags-field : (s : List ℕ) (n : ℕ) → (decimalOctet s ≡ some n) ↔ OctetField n s
 unfolding decimalOctet
 flags-field s n = (λ h. go _ refl h, stand)
   where
     isFlags : Bool
     isFlags = between 1 3 (length s) && all isDigit s && leb (decimalFrom 0 s) 255
 
-    go : (t : Bool) → isFlags ≡ t → cond t (some (decimalFrom 0 s)) none ≡ some n → FlagsField n s
+    go : (t : Bool) → isFlags ≡ t → cond t (some (decimalFrom 0 s)) none ≡ some n → OctetField n s
     go true e h =
         let (front, small) = and-eq-true-iff (between 1 3 (length s) && all isDigit s) (leb (decimalFrom 0 s) 255) .0 e in
         let (long, digits) = and-eq-true-iff (between 1 3 (length s)) (all isDigit s) .0 front in
@@ -41,12 +41,12 @@ flags-field s n = (λ h. go _ refl h, stand)
         (leb-true 1 _ low, leb-true _ 3 high, all-true isDigit s .0 digits, value, rw value at (leb-true (decimalFrom 0 s) 255 small))
     go false e h = absurd (Option·none-ne-some _ h)
 
-    stand : FlagsField n s → decimalOctet s ≡ some n
+    stand : OctetField n s → decimalOctet s ≡ some n
     stand k =
         let (low, high, digits, value, small) = k in
         rw (le-leb 1 (length s) low, le-leb (length s) 3 high, all-true isDigit s .1 digits, value, le-leb n 255 small)
 
-flags-blankless : {s : List ℕ} {n : ℕ} → FlagsField n s → Blankless s
+flags-blankless : {s : List ℕ} {n : ℕ} → OctetField n s → Blankless s
 unfolding isDigit
 flags-blankless k = All-imp (not-blank isDigit refl refl) (k .2)
 
@@ -119,7 +119,7 @@ line-is-the-grammar s p = (
         )
 
     stand :
-        (f b₁ t b₂ s₂ : List ℕ) → s ≡ f ++ (b₁ ++ (t ++ (b₂ ++ s₂))) → FlagsField (p .flags) f → someBlanks b₁ →
+        (f b₁ t b₂ s₂ : List ℕ) → s ≡ f ++ (b₁ ++ (t ++ (b₂ ++ s₂))) → OctetField (p .flags) f → someBlanks b₁ →
         (t ≡ p .tag) × TagField t → someBlanks b₂ → ValueField (p .value) s₂ → readLine s ≡ some p
     stand f b₁ t b₂ s₂ e flags blanks₁ tag blanks₂ value =
         let s₁ = t ++ (b₂ ++ s₂) in

@@ -6,7 +6,7 @@ use lib.ListN.{length}
 use borrow.Author.Tests.{le-leb, lt-leb}
 use Rattle.spec_refusal.specs.declared.Refusal.the-variants.{NoRoom}
 use Rattle.spec_octets.specs.Buffer.{Put}
-use Rattle.spec_line.specs.declared.Made.the-variants.{Length}
+use Rattle.spec_line.specs.declared.LineAnswer.the-variants.{Length}
 use Rattle.spec_line.specs.Calls.{Output, refused, placed}
 
 pub placed-there : (e b x : List ℕ) (n k : ℕ) → n ≡ length e → n ≤ length b → Put e b x k → placed e b ≡ record { answer = Length n; buffer = x }

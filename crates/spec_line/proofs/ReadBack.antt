@@ -10,7 +10,7 @@ use Rattle.spec_octets.specs.Octets.{isLetterOrDigit}
 use Rattle.spec_octets.proofs.ListLaws.{all-true}
 use Rattle.spec_record.specs.Property.{wireProperty}
 use Rattle.spec_record.proofs.PropertyLaws.{property-is-its-parts}
-use Rattle.spec_line.specs.declared.Made.the-variants.{Length}
+use Rattle.spec_line.specs.declared.LineAnswer.the-variants.{Length}
 use Rattle.spec_line.specs.Written.{line}
 use Rattle.spec_line.specs.Calls.{Output, placed, writeLine, parseLine}
 use Rattle.spec_line.specs.Theorems.{smallTag, Line-placed, Data-placed, Written-reads-back}

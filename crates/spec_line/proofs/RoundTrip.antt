@@ -10,20 +10,20 @@ use borrow.Author.Tests.{leb-true}
 use Rattle.spec_octets.specs.Octets.{Octets, between}
 use Rattle.spec_octets.proofs.ListLaws.{All-map}
 use Rattle.spec_record.specs.Property.{Property}
-use Rattle.spec_line.specs.Read.{Unit, plain, quoted, numbered, valueOf, isInQuotes, isBare}
-use Rattle.spec_line.specs.Grammar.{TagField, GoodUnit, UnitsFor, ValueField, LineOf}
-use Rattle.spec_line.specs.Theorems.{HasLine, There-and-back, Back-and-there}
+use Rattle.spec_line.specs.Read.{WrittenOctet, plain, quoted, numbered, valueOf, isInQuotes, isBare}
+use Rattle.spec_line.specs.Grammar.{TagField, GoodWrittenOctet, WrittenFor, ValueField, LineOf, HasLine}
+use Rattle.spec_line.specs.Theorems.{There-and-back, Back-and-there}
 use Rattle.spec_line.proofs.Lines.{line-is-the-grammar}
 use Rattle.spec_line.proofs.WrittenParts.{line-written}
 
 -- where a class holds only octets, units stand for octets
 module _ {class : ℕ → Bool} (small : (x : ℕ) → class x ≡ true → x < 256) where
-  unit-octet : (u : Unit) → GoodUnit class u → valueOf u < 256
+  unit-octet : (u : WrittenOctet) → GoodWrittenOctet class u → valueOf u < 256
   unit-octet (plain x) (h, n) = small x h
   unit-octet (quoted x) h = omega arith
   unit-octet (numbered a b c) h = omega arith
 
-  units-octets : (v s : List ℕ) → UnitsFor class v s → Octets v
+  units-octets : (v s : List ℕ) → WrittenFor class v s → Octets v
   units-octets v s (us, e, goods, are) = subst Octets are (All-map valueOf unit-octet goods)
 
 -- what is at most 126 is an octet, whatever else is asked of it

@@ -16,20 +16,20 @@ use Rattle.spec_octets.specs.Items.{Items, whole, broken, over, items}
 use Rattle.spec_octets.proofs.Fields.{given-read}
 use Rattle.spec_octets.proofs.ItemLaws.{items-whole}
 use Rattle.spec_line.specs.Written.{backslash}
-use Rattle.spec_line.specs.Read.{Unit, plain, quoted, numbered, valueOf, threeMore, escape, unit, values, unescaped}
-use Rattle.spec_line.specs.Grammar.{wireUnit, GoodUnit, UnitsFor}
+use Rattle.spec_line.specs.Read.{WrittenOctet, plain, quoted, numbered, valueOf, threeMore, escape, writtenOctet, values, unescaped}
+use Rattle.spec_line.specs.Grammar.{asWritten, GoodWrittenOctet, WrittenFor}
 
-unit-full : (u : Unit) → wireUnit u ≢ []
+unit-full : (u : WrittenOctet) → asWritten u ≢ []
 unit-full (plain x) = cons≢nil
 unit-full (quoted x) = cons≢nil
 unit-full (numbered a b c) = cons≢nil
 
 module _ (class : ℕ → Bool) where
   -- the good unit u stands at the front of s, and rest follows
-  abbrev pub Stands : List ℕ → Unit → List ℕ → Type 0
-  Stands s u rest = (s ≡ wireUnit u ++ rest) × GoodUnit class u
+  abbrev pub Stands : List ℕ → WrittenOctet → List ℕ → Type 0
+  Stands s u rest = (s ≡ asWritten u ++ rest) × GoodWrittenOctet class u
 
-  module _ (u : Unit) (rest : List ℕ) where
+  module _ (u : WrittenOctet) (rest : List ℕ) where
     three-read : (a : ℕ) (s : List ℕ) → isDigit a ≡ true → threeMore a s ≡ some (u, rest) → Stands (backslash ∷ a ∷ s) u rest
     three-read a [] first h = absurd (Option·none-ne-some _ h)
     three-read a (b ∷ []) first h = absurd (Option·none-ne-some _ h)
@@ -50,7 +50,7 @@ module _ (class : ℕ → Bool) where
             let (low, high) = and-eq-true-iff (leb 32 x) (leb x 126) .0 t in
             (refl, (leb-true 32 x low, leb-true x 126 high, d)))
 
-    unit-read : (s : List ℕ) → unit class s ≡ some (u, rest) → Stands s u rest
+    unit-read : (s : List ℕ) → writtenOctet class s ≡ some (u, rest) → Stands s u rest
     unit-read [] h = absurd (Option·none-ne-some _ h)
     unit-read (x ∷ s) h = go (eqb x backslash) refl h
       where
@@ -58,27 +58,27 @@ module _ (class : ℕ → Bool) where
         go true e h = rw (eqb-true x backslash e) (escape-read s h)
         go false e h = given-read (Stands (x ∷ s)) {t = class x} {a = plain x} {s = s} h (λ t. (refl, (t, eqb-false x backslash e)))
 
-  unit-stand : (u : Unit) (rest : List ℕ) → GoodUnit class u → unit class (wireUnit u ++ rest) ≡ some (u, rest)
+  unit-stand : (u : WrittenOctet) (rest : List ℕ) → GoodWrittenOctet class u → writtenOctet class (asWritten u ++ rest) ≡ some (u, rest)
   unit-stand (plain x) rest g = rw (ne-eqb x backslash (g .1), g .0)
   unit-stand (quoted x) rest g = rw (g .2, le-leb 32 x (g .0), le-leb x 126 (g .1))
   unit-stand (numbered a b c) rest g = rw (g .0, g .1, g .2, le-leb (decimalFrom 0 (a ∷ b ∷ c ∷ [])) 255 (g .3))
 
-  pub unit-reads : (s : List ℕ) (u : Unit) (rest : List ℕ) → (unit class s ≡ some (u, rest)) ↔ Stands s u rest
+  pub unit-reads : (s : List ℕ) (u : WrittenOctet) (rest : List ℕ) → (writtenOctet class s ≡ some (u, rest)) ↔ Stands s u rest
   unit-reads s u rest = (unit-read u rest s, λ h. rw (h .0) (unit-stand u rest (h .1)))
 
-  values-some : (i : Items Unit) (v : List ℕ) → values i ≡ some v → (us : List Unit) × (i ≡ whole us) × (map valueOf us ≡ v)
+  values-some : (i : Items WrittenOctet) (v : List ℕ) → values i ≡ some v → (us : List WrittenOctet) × (i ≡ whole us) × (map valueOf us ≡ v)
   values-some (whole us) v h = (us, refl, Option·some-injective _ _ h)
   values-some (broken k) v h = absurd (Option·none-ne-some _ h)
   values-some over v h = absurd (Option·none-ne-some _ h)
 
-  pub unescaped-units : (s v : List ℕ) → (unescaped class s ≡ some v) ↔ UnitsFor class v s
+  pub unescaped-units : (s v : List ℕ) → (unescaped class s ≡ some v) ↔ WrittenFor class v s
   unfolding unescaped
   unescaped-units s v = (
-    λ h. let (us, e, w) = values-some (items (unit class) (length s) s) v h in
+    λ h. let (us, e, w) = values-some (items (writtenOctet class) (length s) s) v h in
         let (stand, good) = law us .0 e in
         (us, stand, good, w),
     λ h. let (us, stand, good, w) = h in rw (law us .1 (stand, good), w),
   )
     where
-      law : (us : List Unit) → (items (unit class) (length s) s ≡ whole us) ↔ ((s ≡ flatten (map wireUnit us)) × All (GoodUnit class) us)
-      law = items-whole wireUnit (GoodUnit class) unit-full (unit class) unit-reads s
+      law : (us : List WrittenOctet) → (items (writtenOctet class) (length s) s ≡ whole us) ↔ ((s ≡ flatten (map asWritten us)) × All (GoodWrittenOctet class) us)
+      law = items-whole asWritten (GoodWrittenOctet class) unit-full (writtenOctet class) unit-reads s

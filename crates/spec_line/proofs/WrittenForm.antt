@@ -14,7 +14,8 @@ use Rattle.spec_octets.proofs.WrittenDecimals.{digit-is, decimals}
 use Rattle.spec_octets.specs.WrittenDecimal.{threeDigits}
 use Rattle.spec_line.specs.Written.{escaped, line}
 use Rattle.spec_line.specs.Read.{isInQuotes, isBare}
-use Rattle.spec_line.specs.Theorems.{Plain-octets, Unit-values, Octet-as-written, Line-as-written}
+use Rattle.spec_line.specs.Theorems.{Plain-octets, Octet-as-written}
+use Rattle.spec_line.specs.Pinned.{Written-octet-values, Line-as-written}
 use Rattle.spec_line.proofs.WrittenParts.{flags-written}
 
 -- a range of octets, and a test that none of the others passes
@@ -44,8 +45,8 @@ plain-octets x = (
   ),
 )
 
-pub unit-values : Unit-values
-unit-values x a b c = (refl, refl, omega arith)
+pub written-octet-values : Written-octet-values
+written-octet-values x a b c = (refl, refl, omega arith)
 
 pub octet-as-written : Octet-as-written
 unfolding escaped

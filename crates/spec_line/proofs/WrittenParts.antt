@@ -17,31 +17,31 @@ use Rattle.spec_octets.proofs.SmallLetters.{lower-letter}
 use Rattle.spec_record.specs.Property.{Property}
 use Rattle.spec_line.specs.Written.{space, quote, backslash, escaped, line}
 use Rattle.spec_octets.specs.WrittenDecimal.{threeDigits, digit, decimal}
-use Rattle.spec_line.specs.Read.{Unit, plain, quoted, numbered, valueOf, isInQuotes}
-use Rattle.spec_line.specs.Grammar.{someBlanks, FlagsField, TagField, wireUnit, GoodUnit, UnitsFor, LineOf}
-use Rattle.spec_line.specs.Theorems.{smallTag, HasLine}
+use Rattle.spec_line.specs.Read.{WrittenOctet, plain, quoted, numbered, valueOf, isInQuotes}
+use Rattle.spec_line.specs.Grammar.{someBlanks, OctetField, TagField, asWritten, GoodWrittenOctet, WrittenFor, LineOf, HasLine}
+use Rattle.spec_line.specs.Theorems.{smallTag}
 
-pub flags-written : (n : ℕ) → n < 256 → FlagsField n (decimal n)
+pub flags-written : (n : ℕ) → n < 256 → OctetField n (decimal n)
 flags-written n h = (decimal-some n, decimal-within 2 n (omega arith), says n .digits, says n .back, omega arith)
 
 tag-written : (t : List ℕ) → TagField t → TagField (lowered t)
 tag-written t (some, few, letters) = rw (length-map t lower) (some, few, All-map lower (λ x h. lower-letter x ∙ h) letters)
 
 -- s is one good unit inside quotes, and stands for x
-abbrev UnitFor : ℕ → List ℕ → Type 0
-UnitFor x s = (u : Unit) × (s ≡ wireUnit u) × GoodUnit isInQuotes u × (valueOf u ≡ x)
+abbrev WrittenOctetFor : ℕ → List ℕ → Type 0
+WrittenOctetFor x s = (u : WrittenOctet) × (s ≡ asWritten u) × GoodWrittenOctet isInQuotes u × (valueOf u ≡ x)
 
-octet-written : (x : ℕ) → x < 256 → UnitFor x (escaped x)
+octet-written : (x : ℕ) → x < 256 → WrittenOctetFor x (escaped x)
 unfolding escaped isInQuotes isDigit
 octet-written x h = go (eqb x quote || eqb x backslash) refl (between 32 126 x) refl
   where
-    special : (eqb x quote ≡ true) ⊎ (eqb x backslash ≡ true) → GoodUnit isInQuotes (quoted x)
+    special : (eqb x quote ≡ true) ⊎ (eqb x backslash ≡ true) → GoodWrittenOctet isInQuotes (quoted x)
     special (inl e) = rw (eqb-true x quote e) (omega arith, omega arith, refl)
     special (inr e) = rw (eqb-true x backslash e) (omega arith, omega arith, refl)
 
     go :
         (t : Bool) → eqb x quote || eqb x backslash ≡ t → (u : Bool) → between 32 126 x ≡ u →
-        UnitFor x (cond t (backslash ∷ x ∷ []) (cond u (x ∷ []) (backslash ∷ threeDigits x)))
+        WrittenOctetFor x (cond t (backslash ∷ x ∷ []) (cond u (x ∷ []) (backslash ∷ threeDigits x)))
     go true t u e = (quoted x, refl, special (or-eq-true (eqb x quote) (eqb x backslash) .0 t), refl)
     go false t true u =
         (plain x, refl, (rw (u, t) refl, eqb-false x backslash (or-eq-false (eqb x quote) (eqb x backslash) .0 t .1)), refl)
@@ -52,7 +52,7 @@ octet-written x h = go (eqb x quote || eqb x backslash) refl (between 32 126 x) 
       omega arith,
     )
 
-pub value-written : {v : List ℕ} → Octets v → UnitsFor isInQuotes v (flatten (map escaped v))
+pub value-written : {v : List ℕ} → Octets v → WrittenFor isInQuotes v (flatten (map escaped v))
 value-written all-nil = ([], refl, all-nil, refl)
 value-written (all-cons {x} h hs) =
     let (u, e, good, is) = octet-written x h in

@@ -11,14 +11,14 @@ use Rattle.spec_refusal.specs.declared.Refusal.the-variants.{NoRoom, BadLine, L
 use Rattle.spec_octets.specs.Lists.{all}
 use Rattle.spec_octets.specs.Octets.{isLetterOrDigit}
 use Rattle.spec_record.specs.Property.{Property, wireProperty, property}
-use Rattle.spec_line.specs.declared.Made.{Made}
-use Rattle.spec_line.specs.declared.Made.the-variants.{Length, Refused}
+use Rattle.spec_line.specs.declared.LineAnswer.{LineAnswer}
+use Rattle.spec_line.specs.declared.LineAnswer.the-variants.{Length, Refused}
 use Rattle.spec_line.specs.Written.{line}
 use Rattle.spec_line.specs.Read.{readLine}
 
 -- the answer, and the buffer afterwards
 pub record Output : Type 0 where
-  pub answer : Made
+  pub answer : LineAnswer
   pub buffer : List ℕ
 
 abbrev pub refused : Refusal → List ℕ → Output

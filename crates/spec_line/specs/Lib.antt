@@ -4,4 +4,5 @@ pub mod Calls
 pub mod Grammar
 pub mod LineEdges
 pub mod LineCalls
+pub mod Pinned
 pub mod Theorems

@@ -4,7 +4,7 @@ use mathlib.Core.List.{[], _∷_, _++_}
 use lib.ListN.{replicate}
 use Rattle.spec_refusal.specs.declared.Refusal.the-variants.{NoRoom, BadLine, BadData}
 use Rattle.spec_octets.specs.Octets.{text}
-use Rattle.spec_line.specs.declared.Made.the-variants.{Length, Refused}
+use Rattle.spec_line.specs.declared.LineAnswer.the-variants.{Length, Refused}
 use Rattle.spec_line.specs.Calls.{writeLine, parseLine}
 
 abbrev pub Line-calls : Type 0

@@ -16,42 +16,42 @@ use Rattle.spec_record.specs.Property.{Property}
 use Rattle.spec_line.specs.Written.{quote, backslash}
 
 -- what stands for one octet of a value: itself, a backslash and an octet, or a backslash and three digits
-pub data Unit : Type 0 where
-  plain : ℕ → Unit
-  quoted : ℕ → Unit
-  numbered : ℕ → ℕ → ℕ → Unit
+pub data WrittenOctet : Type 0 where
+  plain : ℕ → WrittenOctet
+  quoted : ℕ → WrittenOctet
+  numbered : ℕ → ℕ → ℕ → WrittenOctet
 
-abbrev pub valueOf : Unit → ℕ
+abbrev pub valueOf : WrittenOctet → ℕ
 valueOf (plain x) = x
 valueOf (quoted x) = x
 valueOf (numbered a b c) = decimalFrom 0 (a ∷ b ∷ c ∷ [])
 
 -- three digits up to 255, of which the first is read; or an octet 32 to 126 that is no digit
-abbrev pub threeMore : ℕ → Reader Unit
+abbrev pub threeMore : ℕ → Reader WrittenOctet
 threeMore a = do
   b ← octet
   c ← octet
   given (isDigit b && isDigit c && leb (decimalFrom 0 (a ∷ b ∷ c ∷ [])) 255) (numbered a b c)
 
-abbrev pub escape : Reader Unit
+abbrev pub escape : Reader WrittenOctet
 escape = do
   x ← octet
   cond (isDigit x) (threeMore x) (given (between 32 126 x) (quoted x))
 
 -- one unit, where octets of the class stand for themselves
-abbrev pub unit : (ℕ → Bool) → Reader Unit
-unit class = do
+abbrev pub writtenOctet : (ℕ → Bool) → Reader WrittenOctet
+writtenOctet class = do
   x ← octet
   cond (eqb x backslash) escape (given (class x) (plain x))
 
-abbrev pub values : Items Unit → Option (List ℕ)
+abbrev pub values : Items WrittenOctet → Option (List ℕ)
 values (whole us) = some (map valueOf us)
 values (broken k) = none
 values over = none
 
 -- all of s as units
 unfoldable pub unescaped : (ℕ → Bool) → List ℕ → Option (List ℕ)
-unescaped class s = values (items (unit class) (length s) s)
+unescaped class s = values (items (writtenOctet class) (length s) s)
 
 -- inside quotes 32 to 126 except quote and backslash; bare 33 to 126 except quote, backslash, semicolon and brackets
 unfoldable pub isInQuotes : ℕ → Bool

@@ -1,5 +1,5 @@
 -- What the definitions of this crate mean. Each statement is proved under its name in proofs/.
-use Prim.Native.Nat.{ℕ, _+_, _*_, _≤_, _<_}
+use Prim.Native.Nat.{ℕ, _≤_, _<_}
 use mathlib.Core.Path.{_≡_}
 use mathlib.Core.Logic.{_↔_, _≢_, _⊎_}
 use mathlib.Core.Bool.{true}
@@ -9,25 +9,20 @@ use lib.ListN.{length, take, drop}
 use Rattle.spec_limits.specs.Limits.{maxDataOctets, maxLineOctets}
 use Rattle.spec_refusal.specs.declared.Refusal.{Refusal}
 use Rattle.spec_refusal.specs.declared.Refusal.the-variants.{NoRoom, BadLine, LineTooLong, BadData}
-use Rattle.spec_octets.specs.Lists.{All, flatten}
+use Rattle.spec_octets.specs.Lists.{All}
 use Rattle.spec_octets.specs.Octets.{Octets, lowered, isDigit, isLetterOrDigit}
 use Rattle.spec_octets.specs.Decimal.{decimalFrom}
-use Rattle.spec_octets.specs.WrittenDecimal.{decimal}
 use Rattle.spec_record.specs.Property.{Property, wireProperty}
-use Rattle.spec_line.specs.declared.Made.the-variants.{Length, Refused}
+use Rattle.spec_line.specs.declared.LineAnswer.the-variants.{Length, Refused}
 use Rattle.spec_line.specs.Written.{escaped, line}
-use Rattle.spec_line.specs.Read.{plain, quoted, numbered, valueOf, isInQuotes, isBare, readLine}
+use Rattle.spec_line.specs.Read.{isInQuotes, isBare, readLine}
 use Rattle.spec_line.specs.Calls.{writeLine, parseLine}
-use Rattle.spec_line.specs.Grammar.{LineOf, FlagsField, TagField}
+use Rattle.spec_line.specs.Grammar.{LineOf, HasLine}
 use Rattle.spec_line.specs.LineEdges.{lineEdges}
 
 -- the same data with its tag in small letters
 abbrev pub smallTag : Property → Property
 smallTag p = record { flags = p .flags; tag = lowered (p .tag); value = p .value }
-
--- data that has a line: its tag is 1 to 255 letters and digits, and all its parts are octets
-abbrev pub HasLine : Property → Type 0
-HasLine p = (p .flags < 256) × TagField (p .tag) × Octets (p .value)
 
 -- the reader accepts exactly the lines that the requirements describe, each for the one property that it stands for
 abbrev pub Line-is-the-grammar : Type 0
@@ -45,12 +40,6 @@ Plain-octets =
     ((isInQuotes x ≡ true) ↔ ((32 ≤ x) × (x ≤ 126) × (x ≢ 34) × (x ≢ 92)))
     × ((isBare x ≡ true) ↔ ((33 ≤ x) × (x ≤ 126) × (x ≢ 34) × (x ≢ 92) × (x ≢ 59) × (x ≢ 40) × (x ≢ 41)))
 
--- what a unit stands for: the octet, alone or behind a backslash, or the number of the three digits
-abbrev pub Unit-values : Type 0
-Unit-values =
-    (x a b c : ℕ) →
-    (valueOf (plain x) ≡ x) × (valueOf (quoted x) ≡ x) × (valueOf (numbered (48 + a) (48 + b) (48 + c)) ≡ a * 100 + b * 10 + c)
-
 -- what is written: 32 to 126 stand as they are, but quote and backslash take a backslash; all others are backslash and three digits
 abbrev pub Octet-as-written : Type 0
 Octet-as-written =
@@ -59,13 +48,6 @@ Octet-as-written =
     × ((x ≡ 34) ⊎ (x ≡ 92) → escaped x ≡ 92 ∷ x ∷ [])
     × (x < 256 → (x < 32) ⊎ (126 < x) → (a b c : ℕ) × (escaped x ≡ 92 ∷ a ∷ b ∷ c ∷ [])
     × All (λ y. isDigit y ≡ true) (a ∷ b ∷ c ∷ []) × (decimalFrom 0 (a ∷ b ∷ c ∷ []) ≡ x))
-
--- flags with no needless zero, one space, tag in small letters, one space, the value in quotes
-abbrev pub Line-as-written : Type 0
-Line-as-written =
-    (p : Property) →
-    (line p ≡ decimal (p .flags) ++ ((32 ∷ lowered (p .tag)) ++ ((32 ∷ 34 ∷ flatten (map escaped (p .value))) ++ (34 ∷ []))))
-    × (p .flags < 256 → FlagsField (p .flags) (decimal (p .flags)) × ((s : List ℕ) → decimal (p .flags) ≡ 48 ∷ s → s ≡ []))
 
 -- reading the written line gives the data with its tag in small letters
 abbrev pub There-and-back : Type 0

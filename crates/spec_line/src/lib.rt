@@ -2,7 +2,7 @@
 use spec_refusal::Refusal;
 
 // What making a line or data comes to: how many octets now stand at the front of the lent buffer, or the refusal.
-pub enum Made {
+pub enum LineAnswer {
     Length(usize),
     Refused(Refusal),
 }

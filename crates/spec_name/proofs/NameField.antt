@@ -2,8 +2,7 @@
 use mathlib.Core.Logic.{_≢_}
 use mathlib.Core.List.{[], _∷_, cons≢nil}
 use Rattle.spec_octets.proofs.Fields.{Field}
-use Rattle.spec_name.specs.Names.{Name, wire, name}
-use Rattle.spec_name.specs.Theorems.{GoodName}
+use Rattle.spec_name.specs.Names.{Name, wire, name, GoodName}
 use Rattle.spec_name.proofs.NameLaws.{name-is-its-labels}
 
 abbrev pub name-field : Field Name

@@ -13,8 +13,9 @@ use Rattle.spec_limits.specs.Limits.{maxLabelOctets, maxNameOctets}
 use Rattle.spec_octets.specs.Lists.{All, all-nil, all-cons}
 use Rattle.spec_octets.specs.Reader.{Reader, pure, fault, _>>=_, octets}
 use Rattle.spec_octets.proofs.ReaderLaws.{pure-some, bind-some, given-some, octets-some}
-use Rattle.spec_name.specs.Names.{Label, Name, wire, labels, name}
-use Rattle.spec_name.specs.Theorems.{GoodName, Name-is-its-labels, Wire-form, Wire-example}
+use Rattle.spec_name.specs.Names.{Label, Name, wire, labels, name, GoodName}
+use Rattle.spec_name.specs.Theorems.{Name-is-its-labels, Wire-example}
+use Rattle.spec_name.specs.Pinned.{Wire-form}
 
 pub wire-form : Wire-form
 wire-form = (refl, λ l ls. refl)

@@ -11,8 +11,8 @@ use Rattle.spec_octets.specs.Octets.{lower, lowered, equalIgnoringCase}
 use Rattle.spec_octets.proofs.ListLaws.{alike}
 use Rattle.spec_octets.proofs.Classes.{letter-case}
 use Rattle.spec_octets.proofs.Texts.{whole-texts}
-use Rattle.spec_name.specs.Names.{Label, Name, wire, sameName}
-use Rattle.spec_name.specs.Theorems.{GoodName, Whole-names}
+use Rattle.spec_name.specs.Names.{Label, Name, wire, sameName, GoodName}
+use Rattle.spec_name.specs.Theorems.{Whole-names}
 use Rattle.spec_name.proofs.NameLaws.{GoodLabel, one-name}
 use Rattle.spec_octets.proofs.WholeLists.{not-a-tail, not-a-front}
 

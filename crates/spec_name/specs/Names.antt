@@ -1,5 +1,5 @@
 -- Domain names (RFC 1035 section 3.1): a name is its labels, the leftmost first; the root has none.
-use Prim.Native.Nat.{ℕ, zero, suc}
+use Prim.Native.Nat.{ℕ, zero, suc, _≤_}
 use mathlib.Core.Bool.{Bool, true, false, cond, _&&_}
 use mathlib.Core.List.{List, [], _∷_, _++_}
 use lib.Dec.{leb, eqb}
@@ -7,6 +7,7 @@ use lib.ListN.{length}
 use Rattle.spec_limits.specs.Limits.{maxLabelOctets, maxNameOctets}
 use Rattle.spec_octets.specs.Octets.{equalIgnoringCase}
 use Rattle.spec_octets.specs.Reader.{Reader, pure, fault, given, _>>=_, octet, octets}
+use Rattle.spec_octets.specs.Lists.{All}
 
 abbrev pub Label : Type 0
 Label = List ℕ
@@ -50,3 +51,7 @@ sameName (x ∷ xs) (y ∷ ys) = equalIgnoringCase x y && sameName xs ys
 abbrev pub ancestors : Name → List Name
 ancestors [] = []
 ancestors (l ∷ ls) = (l ∷ ls) ∷ ancestors ls
+
+-- labels of 1 to 63 octets, 255 octets in all with the closing zero (RFC 1035 section 2.3.4)
+abbrev pub GoodName : Name → Type 0
+GoodName n = All (λ l. (1 ≤ length l) × (length l ≤ maxLabelOctets)) n × (length (wire n) ≤ maxNameOctets)

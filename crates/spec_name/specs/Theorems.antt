@@ -1,23 +1,13 @@
 -- What the definitions of this crate mean. Each statement is proved under its name in proofs/.
-use Prim.Native.Nat.{ℕ, _≤_, _<_}
+use Prim.Native.Nat.{ℕ, _<_}
 use mathlib.Core.Path.{_≡_}
 use mathlib.Core.Logic.{_↔_, _≢_}
 use mathlib.Core.Bool.{true, false}
 use mathlib.Core.List.{List, [], _∷_, _++_, map}
 use mathlib.Core.Option.{some}
 use lib.ListN.{length, drop, getD}
-use Rattle.spec_limits.specs.Limits.{maxLabelOctets, maxNameOctets}
-use Rattle.spec_octets.specs.Lists.{All}
 use Rattle.spec_octets.specs.Octets.{text, lowered, equalIgnoringCase}
-use Rattle.spec_name.specs.Names.{Label, Name, wire, name, sameName, ancestors}
-
--- labels of 1 to 63 octets, 255 octets in all with the closing zero (RFC 1035 section 2.3.4)
-abbrev pub GoodName : Name → Type 0
-GoodName n = All (λ l. (1 ≤ length l) × (length l ≤ maxLabelOctets)) n × (length (wire n) ≤ maxNameOctets)
-
--- each label has its own length before it, and a zero closes the name
-abbrev pub Wire-form : Type 0
-Wire-form = (wire [] ≡ 0 ∷ []) × ((l : Label) (ls : Name) → wire (l ∷ ls) ≡ length l ∷ (l ++ wire ls))
+use Rattle.spec_name.specs.Names.{Name, wire, name, sameName, ancestors, GoodName}
 
 -- RFC 1035 section 4.1.4's example, octet for octet
 abbrev pub Wire-example : Type 0

@@ -10,8 +10,9 @@ use lib.Dec.{ltb, eqb}
 use borrow.Author.Tests.{le-leb, lt-leb, ltb-true, ltb-false, eqb-true, eqb-false, ne-eqb}
 use Rattle.spec_octets.specs.Lists.{all, any}
 use Rattle.spec_octets.specs.Octets.{text, between, isDigit, isUpper, isLower, isLetterOrDigit, isBlank, lower}
-use Rattle.spec_octets.specs.Theorems.{Octets-below-256, Letter-case, Octet-classes}
-use Rattle.spec_octets.proofs.ListLaws.{beq-true, decided, all-true, any-false, All-imp}
+use Rattle.spec_octets.specs.Pinned.{Octets-below-256}
+use Rattle.spec_octets.specs.Theorems.{Letter-case, Octet-classes}
+use Rattle.spec_octets.proofs.ListLaws.{beq-true, true-or-false, all-true, any-false, All-imp}
 
 between-outside : (low high x : ℕ) → (x < low) ⊎ (high < x) → between low high x ≡ false
 between-outside low high x (inl h) = rw (lt-leb low x h)
@@ -30,7 +31,7 @@ below : (f : ℕ → Bool) (n : ℕ) → allBelow f n ≡ true → (k : ℕ) →
 below f zero e k h = absurd (not-suc-le-zero h)
 below f (suc n) e k h =
     let both = and-eq-true-iff (f n) (allBelow f n) .0 e in
-    ⊎-elim (λ t. rw (eqb-true k n t) (both .0)) (λ t. below f n (both .1) k (omega (arith, eqb-false k n t))) (decided (eqb k n))
+    ⊎-elim (λ t. rw (eqb-true k n t) (both .0)) (λ t. below f n (both .1) k (omega (arith, eqb-false k n t))) (true-or-false (eqb k n))
 
 -- a class of ASCII octets is the list of them: below 128 by one test, computed; past it neither holds x
 module _ (f : ℕ → Bool) (s : List ℕ) where
@@ -41,7 +42,7 @@ module _ (f : ℕ → Bool) (s : List ℕ) where
   class table ascii x past = ⊎-elim
       (λ t. beq-true (f x) (any (eqb x) s) (below agree 128 table x (ltb-true x 128 t)))
       (λ t. past (ltb-false x 128 t) ∙ sym (any-false (eqb x) s .1 (All-imp (other (ltb-false x 128 t)) (all-true (λ y. ltb y 128) s .0 ascii))))
-      (decided (ltb x 128))
+      (true-or-false (ltb x 128))
     where
       other : 128 ≤ x → (y : ℕ) → ltb y 128 ≡ true → eqb x y ≡ false
       other far y h = ne-eqb x y (λ e. omega (arith, ltb-true y 128 h))

@@ -13,7 +13,8 @@ use Rattle.spec_octets.specs.Lists.{all, begins, ends, All, all-nil, all
 use Rattle.spec_octets.specs.Octets.{isLetterOrDigit, isUpper, isLower, isDigit, hyphen}
 use Rattle.spec_octets.specs.Label.{isLetterDigitHyphen, isLabel, isHostLabel}
 use Rattle.spec_octets.specs.Grammar.{Production, one, lit, _⊕_, many, many-none, many-more, label}
-use Rattle.spec_octets.specs.Theorems.{Label-is-the-production, Hyphen-octet, Label-octets, Host-labels}
+use Rattle.spec_octets.specs.Theorems.{Label-is-the-production, Label-octets, Host-labels}
+use Rattle.spec_octets.specs.Pinned.{Hyphen-octet}
 use Rattle.spec_octets.proofs.ListLaws.{or-eq-true, all-true, All-head, All-tail, All-append, ends-append}
 
 -- made of letters, digits and hyphens

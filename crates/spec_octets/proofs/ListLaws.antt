@@ -18,9 +18,9 @@ or-eq-false true b = (λ e. absurd (true≢false e), λ k. k .0)
 or-eq-false false b = (λ e. (refl, e), λ k. k .1)
 
 -- a test passes or fails, with the equation kept
-pub decided : (t : Bool) → (t ≡ true) ⊎ (t ≡ false)
-decided true = inl refl
-decided false = inr refl
+pub true-or-false : (t : Bool) → (t ≡ true) ⊎ (t ≡ false)
+true-or-false true = inl refl
+true-or-false false = inr refl
 
 -- two tests that pass alike are one
 pub alike : (a b : Bool) → (a ≡ true) ↔ (b ≡ true) → a ≡ b

@@ -10,7 +10,8 @@ use Rattle.spec_octets.specs.Lists.{all-nil, all-cons}
 use Rattle.spec_octets.specs.Octets.{between, isParameterOctet}
 use Rattle.spec_octets.specs.WrittenDecimal.{digit, threeDigits}
 use Rattle.spec_octets.specs.Buffer.{filled, filledLength}
-use Rattle.spec_octets.specs.Theorems.{Parameter-octets, Three-digits, Buffer-filled}
+use Rattle.spec_octets.specs.Theorems.{Parameter-octets, Three-digits}
+use Rattle.spec_octets.specs.Pinned.{Buffer-filled}
 use Rattle.spec_octets.proofs.WrittenDecimals.{digit-is}
 
 pub parameter-octets : Parameter-octets

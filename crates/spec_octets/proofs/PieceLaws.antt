@@ -8,7 +8,8 @@ use lib.Dec.{eqb}
 use borrow.Author.Tests.{eqb-true, eqb-false, eq-eqb, ne-eqb}
 use Rattle.spec_octets.specs.Lists.{All, all-nil, all-cons}
 use Rattle.spec_octets.specs.Pieces.{extend, split, join}
-use Rattle.spec_octets.specs.Theorems.{Pieces-join, Join-form, Pieces-example}
+use Rattle.spec_octets.specs.Theorems.{Pieces-join, Pieces-example}
+use Rattle.spec_octets.specs.Pinned.{Join-form}
 use Rattle.spec_octets.proofs.ListLaws.{All-head, All-tail}
 
 module _ (c : ℕ) where

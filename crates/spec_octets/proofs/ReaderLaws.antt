@@ -11,7 +11,7 @@ use lib.ListN.{length, take, drop, length-append, take-append-drop}
 use lib.Seq.{length-take-le, take-at, drop-at}
 use borrow.Author.Tests.{leb-true, le-leb}
 use Rattle.spec_octets.specs.Reader.{Reader, pure, given, andThen, _>>=_, octet, octets}
-use Rattle.spec_octets.specs.Theorems.{Remainder-whole}
+use Rattle.spec_octets.specs.Pinned.{Remainder-whole}
 
 module _ {A : Type 0} where
   -- what can't have found anything has found nothing

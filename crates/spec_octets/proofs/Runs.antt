@@ -10,7 +10,7 @@ use borrow.Author.Tests.{eqb-true}
 use Rattle.spec_octets.specs.Lists.{All, all-nil, all-cons}
 use Rattle.spec_octets.specs.Octets.{isBlank}
 use Rattle.spec_octets.specs.Grammar.{one, many, many-none, many-more}
-use Rattle.spec_octets.specs.Theorems.{Optional-form}
+use Rattle.spec_octets.specs.Pinned.{Optional-form}
 use Rattle.spec_octets.proofs.ListLaws.{told-apart, or-eq-true, not-passed}
 
 -- every octet is of the class

@@ -5,7 +5,7 @@ use mathlib.Core.Bool.{Bool, true, false, true≢false, false≢true}
 use mathlib.Core.List.{List, [], _∷_, _++_, map, nil≢cons, cons≢nil, head-eq-of-cons-eq, tail-eq-of-cons-eq}
 use Rattle.spec_octets.specs.Lists.{consIf, select, isEmpty, All, all-nil, all-cons, Any, any-here, any-there, Selects, selects-nil, selects-take, selects-pass, First}
 use Rattle.spec_octets.specs.Theorems.{List-folds, List-tests}
-use Rattle.spec_octets.proofs.ListLaws.{decided, not-passed, all-true, any-true, All-head, All-tail, ends-append}
+use Rattle.spec_octets.proofs.ListLaws.{true-or-false, not-passed, all-true, any-true, All-head, All-tail, ends-append}
 
 -- where one test says of f x what the other says of x
 pub select-map :
@@ -80,7 +80,7 @@ module _ {A : Type 0} {P : A → Type 0} where
     selected (x ∷ xs) = ⊎-elim
         (λ e. rw e (selects-take (decides x .0 e) (selected xs)))
         (λ e. rw e (selects-pass (fails x .0 e) (selected xs)))
-        (decided (p x))
+        (true-or-false (p x))
 
     pub selects-exactly : (xs ys : List A) → (select p xs ≡ ys) ↔ Selects P xs ys
     selects-exactly xs ys = (λ e. rw e at (selected xs), selects-unique (selected xs))

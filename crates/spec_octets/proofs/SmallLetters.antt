@@ -8,7 +8,7 @@ use mathlib.Core.List.{List, [], _∷_}
 use lib.Dec.{leb}
 use borrow.Author.Tests.{leb-true, le-leb, lt-leb}
 use Rattle.spec_octets.specs.Octets.{isUpper, isLower, isLetterOrDigit, lower, lowered}
-use Rattle.spec_octets.specs.Theorems.{Small-letters}
+use Rattle.spec_octets.specs.Pinned.{Small-letters}
 use Rattle.spec_octets.proofs.Classes.{letter-case}
 
 pub small-letters : Small-letters

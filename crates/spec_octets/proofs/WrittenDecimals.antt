@@ -13,7 +13,7 @@ use borrow.Author.Tests.{ltb-true, ltb-false, lt-ltb, le-ltb, le-leb}
 use Rattle.spec_octets.specs.Lists.{All, all-nil, all-cons}
 use Rattle.spec_octets.specs.Octets.{isDigit}
 use Rattle.spec_octets.specs.Decimal.{decimalFrom}
-use Rattle.spec_octets.proofs.ListLaws.{decided, All-join}
+use Rattle.spec_octets.proofs.ListLaws.{true-or-false, All-join}
 use Rattle.spec_octets.proofs.Decimals.{from-last}
 use Rattle.spec_octets.specs.WrittenDecimal.{digit, decimalWithin, decimal}
 use Rattle.spec_octets.specs.Theorems.{Decimals}
@@ -63,7 +63,7 @@ by-tens P small more n = go n n (omega arith)
   where
     go : (f n : ℕ) → n ≤ f → P n
     go zero n h = small n (omega arith)
-    go (suc f) n h = ⊎-elim (λ e. small n (ltb-true n 10 e)) (λ e. let m = ltb-false n 10 e in more n (omega arith) (go f (n / 10) (omega arith))) (decided (ltb n 10))
+    go (suc f) n h = ⊎-elim (λ e. small n (ltb-true n 10 e)) (λ e. let m = ltb-false n 10 e in more n (omega arith) (go f (n / 10) (omega arith))) (true-or-false (ltb n 10))
 
 -- a front that is not empty begins what it is the front of
 begun : (a b s : List ℕ) (x : ℕ) → a ≢ [] → a ++ b ≡ x ∷ s → (r : List ℕ) × (a ≡ x ∷ r)

@@ -8,4 +8,5 @@ pub mod Decimal
 pub mod WrittenDecimal
 pub mod Grammar
 pub mod Buffer
+pub mod Pinned
 pub mod Theorems

@@ -9,22 +9,16 @@ use mathlib.Core.Bool.{Bool, true, false}
 use mathlib.Core.List.{List, [], _∷_, _++_, map, List·Memᴰ}
 use mathlib.Core.Option.{none, some}
 use lib.Dec.{eqb}
-use lib.ListN.{length, drop}
-use Rattle.spec_limits.specs.Limits.{maxLabelOctets}
+use lib.ListN.{length}
 use Rattle.spec_octets.specs.Lists.{any, all, select, isEmpty, begins, ends, flatten, All, Selects}
-use Rattle.spec_octets.specs.Octets.{Octets, text, isDigit, isLetterOrDigit, isBlank, hyphen, trimStart, trimEnd, isParameterOctet, lower, lowered, equalIgnoringCase}
-use Rattle.spec_octets.specs.Label.{isLetterDigitHyphen, isLabel, isHostLabel}
+use Rattle.spec_octets.specs.Octets.{Octets, text, isDigit, isLetterOrDigit, isBlank, trimStart, trimEnd, isParameterOctet, lower, lowered, equalIgnoringCase}
+use Rattle.spec_octets.specs.Label.{isLetterDigitHyphen, isLabel, isHostLabel, Host-label}
 use Rattle.spec_octets.specs.Pieces.{split, join}
-use Rattle.spec_octets.specs.Reader.{Reader, remainder, valueFrom, number, inOctets}
+use Rattle.spec_octets.specs.Reader.{Reader, valueFrom, number, inOctets}
 use Rattle.spec_octets.specs.Items.{Items, whole, broken, over, wholeItems, itemFault, items, BrokenAt, Beyond}
 use Rattle.spec_octets.specs.Decimal.{decimalFrom, decimalOctet}
 use Rattle.spec_octets.specs.WrittenDecimal.{decimal, threeDigits}
-use Rattle.spec_octets.specs.Buffer.{filled, filledLength}
-use Rattle.spec_octets.specs.Grammar.{Production, optional, label}
-
--- octets are the numbers below 256, all of them: any slice of octets is such a list
-abbrev pub Octets-below-256 : Type 0
-Octets-below-256 = (s : List ℕ) → Octets s ↔ All (λ x. x < 256) s
+use Rattle.spec_octets.specs.Grammar.{label}
 
 -- a text is the number of each of its characters, in their order; and those that the rules name, in numbers
 abbrev pub Text-octets : Type 0
@@ -36,10 +30,6 @@ Text-octets =
 -- only the 26 capital letters fold, each to its small letter
 abbrev pub Letter-case : Type 0
 Letter-case = (x : ℕ) → ((65 ≤ x) × (x ≤ 90) → lower x ≡ x + 32) × ((x < 65) ⊎ (90 < x) → lower x ≡ x)
-
--- a text in small letters is that text octet for octet, however long
-abbrev pub Small-letters : Type 0
-Small-letters = (s : List ℕ) → lowered s ≡ map lower s
 
 -- the classes, spelled out
 abbrev pub Octet-classes : Type 0
@@ -76,15 +66,6 @@ Label-is-the-production = (l : List ℕ) → (isLabel l ≡ true) ↔ label l
 abbrev pub Label-octets : Type 0
 Label-octets = (x : ℕ) → (isLetterDigitHyphen x ≡ true) ↔ ((isLetterOrDigit x ≡ true) ⊎ (x ≡ 45))
 
-abbrev pub Hyphen-octet : Type 0
-Hyphen-octet = hyphen ≡ 45
-
--- "1 to 63 letters, digits and hyphens", and neither first nor last a hyphen
-abbrev pub Host-label : List ℕ → Type 0
-Host-label l =
-    (1 ≤ length l) × (length l ≤ maxLabelOctets) × All (λ x. isLetterDigitHyphen x ≡ true) l
-    × ((s : List ℕ) → l ≢ hyphen ∷ s) × ((s : List ℕ) → l ≢ s ++ (hyphen ∷ []))
-
 abbrev pub Host-labels : Type 0
 Host-labels = (l : List ℕ) → (isHostLabel l ≡ true) ↔ Host-label l
 
@@ -104,12 +85,6 @@ List-folds =
     ((any p xs ≡ true) ↔ ((y : A) × List·Memᴰ y xs × (p y ≡ true))) × ((all p xs ≡ true) ↔ All (λ y. p y ≡ true) xs)
     × (flatten {A = A} [] ≡ []) × (flatten (xs ∷ xss) ≡ xs ++ flatten xss)
 
--- one piece is the text; of more, the first has c behind it, and then come the others
-abbrev pub Join-form : Type 0
-Join-form =
-    (c : ℕ) → (join c [] ≡ []) × ((p : List ℕ) → join c (p ∷ []) ≡ p)
-    × ((p q : List ℕ) (ps : List (List ℕ)) → join c (p ∷ q ∷ ps) ≡ p ++ (c ∷ join c (q ∷ ps)))
-
 -- the pieces of a text are the one way to make it by joining texts without the octet c
 abbrev pub Pieces-join : Type 0
 Pieces-join =
@@ -119,14 +94,6 @@ Pieces-join =
 -- in the order in which they stand
 abbrev pub Pieces-example : Type 0
 Pieces-example = split (code ".") (text "ca1.example.net") ≡ text "ca1" ∷ text "example" ∷ text "net" ∷ []
-
--- all that is left is read, and nothing stays
-abbrev pub Remainder-whole : Type 0
-Remainder-whole = (s : List ℕ) → remainder s ≡ some (s, [])
-
--- what may be left out matches the empty text, and whatever else the production matches
-abbrev pub Optional-form : Type 1
-Optional-form = (p : Production) (s : List ℕ) → optional p s ↔ ((s ≡ []) ⊎ p s)
 
 -- a number of k octets is read exactly where it is written
 abbrev pub Numbers-high-octet-first : Type 0
@@ -163,13 +130,6 @@ Decimals =
 abbrev pub Three-digits : Type 0
 Three-digits =
     (n : ℕ) → n < 1000 → (length (threeDigits n) ≡ 3) × All (λ x. isDigit x ≡ true) (threeDigits n) × (decimalFrom 0 (threeDigits n) ≡ n)
-
--- with room the octets stand at the front of a buffer and the rest stays; without, nothing is put and all of it stays
-abbrev pub Buffer-filled : Type 0
-Buffer-filled =
-    (e d : List ℕ) →
-    (length e ≤ length d → (filled e d ≡ e ++ drop (length e) d) × (filledLength e d ≡ length e))
-    × (length d < length e → (filled e d ≡ d) × (filledLength e d ≡ 0))
 
 -- the items if they are whole; else the fault, with the place of a broken one
 abbrev pub Item-faults : Type 1

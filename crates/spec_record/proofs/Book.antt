@@ -10,8 +10,8 @@ use Rattle.spec_octets.specs.Theorems.{Items-are-read}
 use Rattle.spec_octets.proofs.ItemLaws.{items-end-to-end}
 use Rattle.spec_octets.proofs.ItemRefusals.{Rows, acceptance, refusals}
 use Rattle.spec_name.proofs.NameField.{wire-full}
-use Rattle.spec_record.specs.Records.{Record, wireRecord, resourceRecord, recordItems, recordRefusal, records, bookRefusal}
-use Rattle.spec_record.specs.Theorems.{GoodRecord, Book-is-its-records, Book-refusals}
+use Rattle.spec_record.specs.Records.{Record, wireRecord, resourceRecord, recordItems, recordRefusal, records, bookRefusal, GoodRecord}
+use Rattle.spec_record.specs.Theorems.{Book-is-its-records, Book-refusals}
 use Rattle.spec_record.proofs.RecordLaws.{record-is-its-fields}
 
 full : (r : Record) → wireRecord r ≢ []

@@ -17,7 +17,8 @@ use Rattle.spec_octets.proofs.Texts.{whole-texts}
 use Rattle.spec_record.specs.declared.PropertyTag.{PropertyTag}
 use Rattle.spec_record.specs.declared.PropertyTag.the-variants.{Issue, IssueWild, Iodef, Unknown}
 use Rattle.spec_record.specs.Property.{Property, wireProperty, readProperty, found, property, isCritical, tagOf}
-use Rattle.spec_record.specs.Theorems.{Property-form, Property-is-its-parts, Critical-bit, Known-tags, Unknown-tags}
+use Rattle.spec_record.specs.Pinned.{Property-form}
+use Rattle.spec_record.specs.Theorems.{Property-is-its-parts, Critical-bit, Known-tags, Unknown-tags}
 
 -- what is left of the data after its property is empty, and `found` leaves it out
 found-some : (o : Option (Property × List ℕ)) (p : Property) → found o ≡ some p → (rest : List ℕ) × (o ≡ some (p, rest))

@@ -10,14 +10,15 @@ use lib.Dec.{eqb}
 use lib.ListN.{length}
 use borrow.Author.Tests.{eqb-true}
 use Rattle.spec_octets.specs.Reader.{inOctets}
-use Rattle.spec_octets.proofs.ListLaws.{decided}
+use Rattle.spec_octets.proofs.ListLaws.{true-or-false}
 use Rattle.spec_octets.proofs.ReaderLaws.{given-some}
 use Rattle.spec_octets.proofs.Fields.{number-field, octets-field, then-read, then-stand, given-read}
 use Rattle.spec_name.specs.Names.{wire}
 use Rattle.spec_name.proofs.NameField.{name-field}
 use Rattle.spec_record.specs.Property.{Property, wireProperty, property}
-use Rattle.spec_record.specs.Records.{Record, wireRecord, isCaa, isSome, isLaidOut, resourceRecord}
-use Rattle.spec_record.specs.Theorems.{GoodRecord, Record-is-its-fields, Record-form, Record-example}
+use Rattle.spec_record.specs.Records.{Record, wireRecord, isCaa, isSome, isLaidOut, resourceRecord, GoodRecord}
+use Rattle.spec_record.specs.Theorems.{Record-is-its-fields, Record-example}
+use Rattle.spec_record.specs.Pinned.{Record-form}
 use Rattle.spec_record.proofs.PropertyLaws.{property-is-its-parts}
 
 pub is-some : {A : Type 0} (o : Option A) → isSome o ≡ true → (a : A) × (o ≡ some a)
@@ -30,7 +31,7 @@ Fits type class d = type ≡ 257 → class ≡ 1 → (p : Property) × (d ≡ wi
 
 laid-out : (type class : ℕ) (d : List ℕ) → (isLaidOut type class d ≡ true) ↔ Fits type class d
 unfolding isLaidOut isCaa
-laid-out type class d = (found, λ h. go h (decided (isCaa type class)))
+laid-out type class d = (found, λ h. go h (true-or-false (isCaa type class)))
   where
     found : isLaidOut type class d ≡ true → Fits type class d
     found h caa one =

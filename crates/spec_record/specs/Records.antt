@@ -1,5 +1,5 @@
 -- Resource records (RFC 1035 section 3.2.1) without compression, and the records to decide by (the requirements' "book").
-use Prim.Native.Nat.{ℕ}
+use Prim.Native.Nat.{ℕ, _≤_, _<_, _^_}
 use mathlib.Core.Bool.{Bool, true, false, cond, not, _&&_, _||_}
 use mathlib.Core.List.{List, _++_}
 use mathlib.Core.Option.{Option, none, some}
@@ -10,8 +10,9 @@ use Rattle.spec_refusal.specs.declared.Refusal.{Refusal}
 use Rattle.spec_refusal.specs.declared.Refusal.the-variants.{BookTooLong, BadRecord, TooManyRecords}
 use Rattle.spec_octets.specs.Reader.{Reader, given, _>>=_, octets, number, inOctets}
 use Rattle.spec_octets.specs.Items.{Items, wholeItems, itemFault, items}
-use Rattle.spec_name.specs.Names.{Name, wire, name}
-use Rattle.spec_record.specs.Property.{property}
+use Rattle.spec_name.specs.Names.{Name, wire, name, GoodName}
+use Rattle.spec_record.specs.Property.{property, Property, wireProperty}
+use mathlib.Core.Path.{_≡_}
 
 pub record Record : Type 0 where
   pub owner : Name
@@ -61,3 +62,9 @@ recordRefusal i = itemFault (λ k. BadRecord (record { 0 = k })) TooManyRecords 
 
 unfoldable pub bookRefusal : List ℕ → Option Refusal
 bookRefusal b = cond (ltb maxBookOctets (length b)) (some BookTooLong) (recordRefusal (recordItems b))
+
+-- each field fits its octets, and the data of type 257 and class 1 holds a property
+abbrev pub GoodRecord : Record → Type 0
+GoodRecord r =
+    GoodName (r .owner) × (r .type < 2 ^ 16) × (r .class < 2 ^ 16) × (r .ttl < 2 ^ 32) × (length (r .rdata) < 2 ^ 16)
+    × (r .type ≡ 257 → r .class ≡ 1 → (p : Property) × (r .rdata ≡ wireProperty p) × (1 ≤ length (p .tag)))

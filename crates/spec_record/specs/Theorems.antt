@@ -1,5 +1,5 @@
 -- What the definitions of this crate mean. Each statement is proved under its name in proofs/.
-use Prim.Native.Nat.{ℕ, _+_, _≤_, _<_, _^_}
+use Prim.Native.Nat.{ℕ, _≤_, _<_}
 use mathlib.Core.Path.{_≡_}
 use mathlib.Core.Logic.{_↔_, _≢_}
 use mathlib.Core.Bool.{true}
@@ -14,17 +14,10 @@ use Rattle.spec_octets.specs.Lists.{All, flatten}
 use Rattle.spec_octets.specs.Octets.{Octets, text, lowered}
 use Rattle.spec_octets.specs.Items.{BrokenAt, Beyond}
 use Rattle.spec_octets.specs.Theorems.{Reads}
-use Rattle.spec_octets.specs.Reader.{inOctets}
-use Rattle.spec_name.specs.Names.{wire}
-use Rattle.spec_name.specs.Theorems.{GoodName}
 use Rattle.spec_record.specs.declared.PropertyTag.the-variants.{Issue, IssueWild, Iodef, Unknown}
 use Rattle.spec_record.specs.Property.{Property, wireProperty, property, isCritical, tagOf}
 use Rattle.spec_record.specs.BookEdges.{bookEdges}
-use Rattle.spec_record.specs.Records.{Record, wireRecord, resourceRecord, records, bookRefusal}
-
--- flags, the length of the tag, tag and value
-abbrev pub Property-form : Type 0
-Property-form = (p : Property) → wireProperty p ≡ p .flags ∷ length (p .tag) ∷ (p .tag ++ p .value)
+use Rattle.spec_record.specs.Records.{Record, wireRecord, resourceRecord, records, bookRefusal, GoodRecord}
 
 -- data holds a property exactly when it is written so with a tag of one octet or more
 abbrev pub Property-is-its-parts : Type 0
@@ -45,19 +38,6 @@ Known-tags =
 abbrev pub Unknown-tags : Type 0
 Unknown-tags =
     (t : List ℕ) → (tagOf t ≡ Unknown) ↔ ((lowered t ≢ text "issue") × (lowered t ≢ text "issuewild") × (lowered t ≢ text "iodef"))
-
--- each field fits its octets, and the data of type 257 and class 1 holds a property
-abbrev pub GoodRecord : Record → Type 0
-GoodRecord r =
-    GoodName (r .owner) × (r .type < 2 ^ 16) × (r .class < 2 ^ 16) × (r .ttl < 2 ^ 32) × (length (r .rdata) < 2 ^ 16)
-    × (r .type ≡ 257 → r .class ≡ 1 → (p : Property) × (r .rdata ≡ wireProperty p) × (1 ≤ length (p .tag)))
-
--- the owner, then type and class in two octets each, the time to live in four, the length of the data in two, and the data
-abbrev pub Record-form : Type 0
-Record-form =
-    (r : Record) →
-    wireRecord r
-    ≡ wire (r .owner) ++ inOctets 2 (r .type) ++ inOctets 2 (r .class) ++ inOctets 4 (r .ttl) ++ inOctets 2 (length (r .rdata)) ++ r .rdata
 
 -- a record octet for octet: the owner; type 257, class 1, time to live 3600, data length 22; flags 128, a tag of 5 octets, tag and value
 abbrev pub Record-example : Type 0

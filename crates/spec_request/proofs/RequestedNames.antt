@@ -9,18 +9,16 @@ use mathlib.Core.Option.{some}
 use lib.ListN.{length-append}
 use Rattle.spec_octets.specs.Lists.{All, all, isEmpty}
 use Rattle.spec_octets.specs.Octets.{text, isUpper, isLower, isDigit, isLetterOrDigit}
-use Rattle.spec_octets.specs.Label.{isLetterDigitHyphen, isHostLabel}
-use Rattle.spec_octets.specs.Theorems.{Host-label}
-use Rattle.spec_octets.proofs.ListLaws.{decided, not-passed, all-true, All-head, All-tail, All-imp}
+use Rattle.spec_octets.specs.Label.{isLetterDigitHyphen, isHostLabel, Host-label}
+use Rattle.spec_octets.proofs.ListLaws.{true-or-false, not-passed, all-true, All-head, All-tail, All-imp}
 use Rattle.spec_octets.proofs.Texts.{same-equal}
 use Rattle.spec_octets.proofs.Labels.{host-labels}
 use Rattle.spec_octets.proofs.ReaderLaws.{given-some}
 use Rattle.spec_octets.proofs.Fields.{then-read, then-stand, given-read}
-use Rattle.spec_name.specs.Names.{Label, Name, wire}
-use Rattle.spec_name.specs.Theorems.{GoodName}
+use Rattle.spec_name.specs.Names.{Label, Name, wire, GoodName}
 use Rattle.spec_name.proofs.NameField.{name-field}
-use Rattle.spec_request.specs.Request.{isAsterisk, isWildcard, base, isRequestable, requestedName}
-use Rattle.spec_request.specs.Theorems.{Wildcard-form, GoodRequested, Requested-name-is-its-labels}
+use Rattle.spec_request.specs.Request.{isAsterisk, isWildcard, base, isRequestable, requestedName, GoodRequested}
+use Rattle.spec_request.specs.Theorems.{Wildcard-form, Requested-name-is-its-labels}
 
 pub wildcard-form : Wildcard-form
 unfolding isWildcard base
@@ -32,7 +30,7 @@ wildcard-form = (λ x. (refl, refl), λ l x other. let e = plain l other in (e, 
 base-form : (n : Name) → (n ≡ base n) ⊎ (n ≡ text "*" ∷ base n)
 unfolding base
 base-form [] = inl refl
-base-form (l ∷ n) = go (decided (isAsterisk l))
+base-form (l ∷ n) = go (true-or-false (isAsterisk l))
   where
     go : (isAsterisk l ≡ true) ⊎ (isAsterisk l ≡ false) → (l ∷ n ≡ base (l ∷ n)) ⊎ (l ∷ n ≡ text "*" ∷ base (l ∷ n))
     go (inl e) = inr (rw (e, same-equal l (text "*") .0 e))

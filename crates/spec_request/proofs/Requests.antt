@@ -17,8 +17,8 @@ use Rattle.spec_octets.proofs.ItemLaws.{items-end-to-end}
 use Rattle.spec_octets.proofs.ItemRefusals.{Rows, refusalOf, acceptance, refusals}
 use Rattle.spec_name.specs.Names.{Name, wire}
 use Rattle.spec_name.proofs.NameField.{wire-full}
-use Rattle.spec_request.specs.Request.{requestedName, nameItems, requestedNames, nameRefusal, requestRefusal}
-use Rattle.spec_request.specs.Theorems.{GoodRequested, Request-is-its-names, Row-2, Row-3, Request-refusals}
+use Rattle.spec_request.specs.Request.{requestedName, nameItems, requestedNames, nameRefusal, requestRefusal, GoodRequested}
+use Rattle.spec_request.specs.Theorems.{Request-is-its-names, Row-2, Row-3, Request-refusals}
 use Rattle.spec_request.proofs.RequestedNames.{requested-name-is-its-labels}
 
 items-read : Items-are-read requestedName wire GoodRequested

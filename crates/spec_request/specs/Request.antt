@@ -8,12 +8,14 @@ use lib.ListN.{length}
 use Rattle.spec_limits.specs.Limits.{maxRequestOctets, maxNames}
 use Rattle.spec_refusal.specs.declared.Refusal.{Refusal}
 use Rattle.spec_refusal.specs.declared.Refusal.the-variants.{RequestTooLong, BadName, TooManyNames}
-use Rattle.spec_octets.specs.Lists.{all, isEmpty}
+use Rattle.spec_octets.specs.Lists.{all, isEmpty, All}
 use Rattle.spec_octets.specs.Octets.{text, same}
-use Rattle.spec_octets.specs.Label.{isHostLabel}
+use Rattle.spec_octets.specs.Label.{isHostLabel, Host-label}
 use Rattle.spec_octets.specs.Reader.{Reader, given, _>>=_}
 use Rattle.spec_octets.specs.Items.{Items, wholeItems, itemFault, items}
-use Rattle.spec_name.specs.Names.{Label, Name, name}
+use Rattle.spec_name.specs.Names.{Label, Name, name, GoodName}
+use mathlib.Core.Path.{_≡_}
+use mathlib.Core.Logic.{_≢_, _⊎_}
 
 -- RFC 8659 section 2.2, Wildcard Domain Name: an asterisk as the first label (the requirements' "star name" *.X)
 abbrev pub isAsterisk : Label → Bool
@@ -52,3 +54,7 @@ unfoldable pub requestRefusal : List ℕ → Option Refusal
 requestRefusal s =
     cond (ltb maxRequestOctets (length s)) (some RequestTooLong)
     (cond (isEmpty s) (some (BadName (record { 0 = 0 }))) (nameRefusal (nameItems s)))
+
+-- a name that may be asked for: X or *.X, where X has one or more labels, each of 1 to 63 letters, digits and inner hyphens
+abbrev pub GoodRequested : Name → Type 0
+GoodRequested n = GoodName n × ((x : Name) × ((n ≡ x) ⊎ (n ≡ text "*" ∷ x)) × (x ≢ []) × All Host-label x)

@@ -13,11 +13,10 @@ use Rattle.spec_refusal.specs.declared.Refusal.the-variants.{RequestTooLong, Ba
 use Rattle.spec_octets.specs.Lists.{All, flatten}
 use Rattle.spec_octets.specs.Octets.{Octets, text}
 use Rattle.spec_octets.specs.Items.{BrokenAt, Beyond}
-use Rattle.spec_octets.specs.Theorems.{Host-label, Reads}
+use Rattle.spec_octets.specs.Theorems.{Reads}
 use Rattle.spec_name.specs.Names.{Label, Name, wire}
-use Rattle.spec_name.specs.Theorems.{GoodName}
 use Rattle.spec_request.specs.RequestEdges.{requestEdges}
-use Rattle.spec_request.specs.Request.{isWildcard, base, requestedName, requestedNames, requestRefusal}
+use Rattle.spec_request.specs.Request.{isWildcard, base, requestedName, requestedNames, requestRefusal, GoodRequested}
 
 -- a name is a wildcard of X exactly when it is an asterisk label before X; any other name, the root too, is its own X
 abbrev pub Wildcard-form : Type 0
@@ -25,10 +24,6 @@ Wildcard-form =
     ((x : Name) → (isWildcard (text "*" ∷ x) ≡ true) × (base (text "*" ∷ x) ≡ x))
     × ((l : Label) (x : Name) → l ≢ text "*" → (isWildcard (l ∷ x) ≡ false) × (base (l ∷ x) ≡ l ∷ x))
     × (isWildcard [] ≡ false) × (base [] ≡ [])
-
--- a name that may be asked for: X or *.X, where X has one or more labels, each of 1 to 63 letters, digits and inner hyphens
-abbrev pub GoodRequested : Name → Type 0
-GoodRequested n = GoodName n × ((x : Name) × ((n ≡ x) ⊎ (n ≡ text "*" ∷ x)) × (x ≢ []) × All Host-label x)
 
 abbrev pub Requested-name-is-its-labels : Type 0
 Requested-name-is-its-labels = Reads requestedName wire GoodRequested

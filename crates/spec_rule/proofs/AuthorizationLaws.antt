@@ -22,7 +22,7 @@ use Rattle.spec_value.specs.IssueValues.{IssueValue, malformed, nameless, named
 use Rattle.spec_value.specs.Productions.{valueWithName}
 use Rattle.spec_value.proofs.Values.{value-is-the-grammar}
 use Rattle.spec_rule.specs.RelevantSet.{CaaRecord, Lookup, empty, found, relevantSet}
-use Rattle.spec_rule.specs.Authorizations.{Authorization, unrestricted, forbidden, granted, isIssueTag, isIssueWildTag, isUnknownTag, propertyTag, isUnknownCritical, isIssue, isIssueWild, orElse, governing, holder, grantee, consSome, grantees, governedBy, unlessForbidden, decided, authorization, permits}
+use Rattle.spec_rule.specs.Authorizations.{Authorization, unrestricted, forbidden, granted, isIssueTag, isIssueWildTag, isUnknownTag, propertyTag, isUnknownCritical, isIssue, isIssueWild, orElse, governing, granteeOfValue, grantee, consSome, grantees, governedBy, unlessForbidden, authorizationFrom, authorization, permits}
 use Rattle.spec_rule.specs.Meaning.{Tagged, UnknownCriticalRecord, Governs, Grants, Relevant, Unrestricted, GrantedTo, PermittedTo, ForbiddenBy, GovernedFrom, GoverningRecords}
 
 -- each test of a tag passes one tag only
@@ -87,14 +87,14 @@ grantee-exactly r d = (
     grammar : (n : List ℕ) → (issueValue (r .property .value) ≡ named n) ↔ valueWithName n (r .property .value)
     grammar = value-is-the-grammar (r .property .value) .0
 
-    holds : (v : IssueValue) → issueValue (r .property .value) ≡ v → holder v ≡ some d → Grants d r
+    holds : (v : IssueValue) → issueValue (r .property .value) ≡ v → granteeOfValue v ≡ some d → Grants d r
     holds malformed e h = absurd (Option·none-ne-some d h)
     holds nameless e h = absurd (Option·none-ne-some d h)
     holds (named n) e h =
         ⊎-elim
         (λ t. (n, grammar n .0 e, issuer-is-its-labels n .0 t, Option·some-injective (lowered n) d (rw t at h)))
         (λ t. absurd (Option·none-ne-some d (rw t at h)))
-        (ListLaws.decided (isIssuer n))
+        (ListLaws.true-or-false (isIssuer n))
 
 listed-granted : (gs : List CaaRecord) (d : List ℕ) → List·Memᴰ d (grantees gs) → Any (Grants d) gs
 listed-granted [] d m = absurd (List·Memᴰ·not-nil m)
@@ -143,7 +143,7 @@ module _ (book : List CaaRecord) (n : Name) where
           let none-critical = selects-none (critical-selects rs) .0 i in
           ((rs, g, e, none-critical, selects-first s j, refl), (g ∷ gs, (rs, e, none-critical, rw j at s), refl))
 
-      of : (l : Lookup) → relevantSet book (base n) ≡ l → Says (decided (isWildcard n) l)
+      of : (l : Lookup) → relevantSet book (base n) ≡ l → Says (authorizationFrom (isWildcard n) l)
       of empty e = inl e
       of (found rs) e = among rs e (select isUnknownCritical rs) (governing (isWildcard n) rs) refl refl
 

@@ -9,11 +9,12 @@ use lib.Dec.{leb}
 use lib.ListN.{length, length-append}
 use borrow.Author.Tests.{leb-true, le-leb}
 use Rattle.spec_octets.specs.Items.{follow}
-use Rattle.spec_octets.proofs.ListLaws.{decided}
+use Rattle.spec_octets.proofs.ListLaws.{true-or-false}
 use Rattle.spec_octets.proofs.ReaderLaws.{octets-some}
 use Rattle.spec_rule.specs.IssuerLists.{listed, entries, readEntry}
 use Rattle.spec_rule.specs.Calls.{roomRefusal, listIssuers}
-use Rattle.spec_rule.specs.Theorems.{total, List-in-the-buffer, Entries-laid-out, Entries-read-back}
+use Rattle.spec_rule.specs.Theorems.{total, List-in-the-buffer, Entries-read-back}
+use Rattle.spec_rule.specs.Pinned.{Entries-laid-out}
 
 pub entries-laid-out : Entries-laid-out
 entries-laid-out = (refl, λ n ns. refl)
@@ -31,7 +32,7 @@ entries-length (n ∷ ns) = omega (arith, length-append n (entries ns), entries-
 -- "room is enough when the buffer has that many"
 pub room-exactly : (ns : List (List ℕ)) (buffer : List ℕ) → (roomRefusal (listed ns) buffer ≡ none) ↔ (total ns ≤ length buffer)
 room-exactly ns buffer = rw (← entries-length ns) (
-  λ e. ⊎-elim (leb-true _ _) (λ k. absurd (Option·none-ne-some _ (sym (rw k at e)))) (decided (leb (length (entries ns)) (length buffer))),
+  λ e. ⊎-elim (leb-true _ _) (λ k. absurd (Option·none-ne-some _ (sym (rw k at e)))) (true-or-false (leb (length (entries ns)) (length buffer))),
   λ h. rw (le-leb (length (entries ns)) (length buffer) h) refl,
 )
 

@@ -10,7 +10,7 @@ use lib.ListN.{length}
 use borrow.Author.Tests.{leb-true, leb-false, le-leb, lt-leb}
 use Rattle.spec_refusal.specs.declared.Refusal.{Refusal}
 use Rattle.spec_refusal.specs.declared.Refusal.the-variants.{NoRoom}
-use Rattle.spec_octets.proofs.ListLaws.{decided}
+use Rattle.spec_octets.proofs.ListLaws.{true-or-false}
 use Rattle.spec_request.specs.Request.{requestRefusal}
 use Rattle.spec_record.specs.Records.{bookRefusal}
 use Rattle.spec_rule.specs.declared.PermittedIssuers.the-variants.{Anyone, Listed, Refused as ListRefused}
@@ -48,7 +48,7 @@ module _ (buffer : List ℕ) where
   has-room (listed ns) h = ⊎-elim
       (λ e. leb-true _ _ e)
       (λ e. absurd (h (length (entries ns)) (ap (λ (l : Listing). l .answer) (no-room ns (leb-false _ _ e)))))
-      (decided (leb (length (entries ns)) (length buffer)))
+      (true-or-false (leb (length (entries ns)) (length buffer)))
 
 pub call-lists-the-permitted : Call-lists-the-permitted
 call-lists-the-permitted request book buffer r b h =
@@ -77,7 +77,7 @@ answered-list :
 answered-list buffer ns = ⊎-map
     (λ e. ap (λ (l : Listing). l .answer) (room buffer (listed ns) (leb-true _ _ e)))
     (λ e. (NoRoom (length (entries ns)), ap (λ (l : Listing). l .answer) (no-room buffer ns (leb-false _ _ e))))
-    (decided (leb (length (entries ns)) (length buffer)))
+    (true-or-false (leb (length (entries ns)) (length buffer)))
 
 module _ (buffer other : List ℕ) where
   abbrev Needed : Issuers → Type 0

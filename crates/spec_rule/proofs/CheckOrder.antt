@@ -9,7 +9,7 @@ use lib.Dec.{leb}
 use borrow.Author.Tests.{leb-true, leb-false}
 use Rattle.spec_refusal.specs.declared.Refusal.{Refusal}
 use Rattle.spec_refusal.specs.Refusal.{number}
-use Rattle.spec_octets.proofs.ListLaws.{decided}
+use Rattle.spec_octets.proofs.ListLaws.{true-or-false}
 use Rattle.spec_rule.specs.Calls.{firstRefusal}
 use Rattle.spec_rule.specs.Theorems.{FirstRow}
 
@@ -51,7 +51,7 @@ limited {c} {long} {r} {row} {size} {limit} over law less = record {
   reached = λ h. ⊎-elim
       (λ t. inl (law .1 (leb-true size limit t, h)))
       (λ t. inr (long, over .1 (leb-false size limit t), less))
-      (decided (leb size limit));
+      (true-or-false (leb size limit));
 }
 
 -- the numbers that a check gives

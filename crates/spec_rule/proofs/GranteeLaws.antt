@@ -9,7 +9,7 @@ use Rattle.spec_octets.specs.Lists.{any, All, all-nil, all-cons}
 use Rattle.spec_octets.specs.Octets.{same, lowered}
 use Rattle.spec_octets.proofs.Texts.{same-equal}
 use Rattle.spec_octets.proofs.SmallLetters.{lowered-twice}
-use Rattle.spec_issuer.specs.Theorems.{WellFormed}
+use Rattle.spec_issuer.specs.Issuer.{WellFormed}
 use Rattle.spec_issuer.proofs.Dotted.{issuer-is-its-labels}
 use Rattle.spec_issuer.proofs.AnyCase.{issuer-in-any-case}
 use Rattle.spec_rule.specs.RelevantSet.{CaaRecord}

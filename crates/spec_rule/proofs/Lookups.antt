@@ -7,12 +7,11 @@ use mathlib.Core.List.{List, [], _∷_, cons≢nil}
 use lib.Dec.{eqb}
 use borrow.Author.Tests.{eqb-true, eq-eqb}
 use Rattle.spec_octets.specs.Lists.{All, all-nil, all-cons}
-use Rattle.spec_octets.proofs.ListLaws.{decided}
+use Rattle.spec_octets.proofs.ListLaws.{true-or-false}
 use Rattle.spec_octets.proofs.SelectLaws.{selects-none, selected, selects-exactly}
 use Rattle.spec_name.specs.Names.{sameName}
 use Rattle.spec_name.proofs.WholeNames.{whole-names}
-use Rattle.spec_record.specs.Records.{Record, isCaa}
-use Rattle.spec_record.specs.Theorems.{GoodRecord}
+use Rattle.spec_record.specs.Records.{Record, isCaa, GoodRecord}
 use Rattle.spec_record.proofs.PropertyLaws.{property-is-its-parts}
 use Rattle.spec_rule.specs.RelevantSet.{CaaRecord, empty, found, asLookup, lookup, caaRecordsFrom}
 use Rattle.spec_rule.specs.Meaning.{CaaRecordsOf, at-end, is-caa, is-other, OwnedBy}
@@ -27,7 +26,7 @@ caa-exactly type class = (
 
 caa-from : (k : ℕ) (rs : List Record) → All GoodRecord rs → CaaRecordsOf k rs (caaRecordsFrom k rs)
 caa-from k [] all-nil = at-end
-caa-from k (r ∷ rs) (all-cons good goods) = go (decided (isCaa (r .type) (r .class))) (caa-from (suc k) rs goods)
+caa-from k (r ∷ rs) (all-cons good goods) = go (true-or-false (isCaa (r .type) (r .class))) (caa-from (suc k) rs goods)
   where
     go :
         (isCaa (r .type) (r .class) ≡ true) ⊎ (isCaa (r .type) (r .class) ≡ false) →

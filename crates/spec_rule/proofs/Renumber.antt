@@ -9,7 +9,7 @@ use Rattle.spec_name.specs.Names.{Name, sameName, ancestors}
 use Rattle.spec_request.specs.Request.{isWildcard, base}
 use Rattle.spec_rule.specs.declared.Judgement.{Judgement}
 use Rattle.spec_rule.specs.RelevantSet.{CaaRecord, Lookup, empty, found, asLookup, lookup, firstFound, relevantSet}
-use Rattle.spec_rule.specs.Authorizations.{Authorization, unrestricted, forbidden, granted, isUnknownCritical, isIssue, isIssueWild, orElse, governing, grantee, grantees, governedBy, unlessForbidden, decided, authorization, permits}
+use Rattle.spec_rule.specs.Authorizations.{Authorization, unrestricted, forbidden, granted, isUnknownCritical, isIssue, isIssueWild, orElse, governing, grantee, grantees, governedBy, unlessForbidden, authorizationFrom, authorization, permits}
 use Rattle.spec_rule.specs.Verdicts.{denied, verdictFrom, verdict}
 use Rattle.spec_rule.specs.IssuerLists.{listed, distinct, issuers}
 use Rattle.spec_rule.specs.Theorems.{renumbered, renumberedAuthorization, renumberedVerdict, Renumbering}
@@ -73,7 +73,7 @@ module _ (f : ℕ → ℕ) where
   unless-forbidden [] a = refl
   unless-forbidden (u ∷ us) a = refl
 
-  same-decision : (wildcard : Bool) (l : Lookup) → decided wildcard (otherLookup l) ≡ renumberedAuthorization f (decided wildcard l)
+  same-decision : (wildcard : Bool) (l : Lookup) → authorizationFrom wildcard (otherLookup l) ≡ renumberedAuthorization f (authorizationFrom wildcard l)
   unfolding isUnknownCritical
   same-decision wildcard empty = refl
   same-decision wildcard (found rs) =

@@ -14,10 +14,10 @@ use Rattle.spec_value.specs.IssueValues.{isDomainName, isParameterTag, isParame
 use Rattle.spec_rule.specs.RelevantSet.{lookup, relevantSet}
 use Rattle.spec_rule.specs.Authorizations.{isUnknownCritical, governing, grantee, authorization}
 use Rattle.spec_rule.specs.Verdicts.{verdict}
-use Rattle.spec_rule.specs.Calls.{judgementTold, permittedIssuersTold, authorizations, judge, listIssuers}
+use Rattle.spec_rule.specs.Calls.{judgementCode, permittedIssuersCode, authorizations, judge, listIssuers}
 use Rattle.spec_rule.specs.Edges.{Edges-agree, Whole-case}
 use Rattle.spec_rule.specs.CallEdges.{Calls-agree, Lists-agree}
-use Rattle.spec_rule.specs.Theorems.{Answers-told, List-told}
+use Rattle.spec_rule.specs.Pinned.{Answer-codes, List-codes}
 
 pub edges-agree : Edges-agree
 unfolding maxLabelOctets maxIssuerOctets isDigit isUpper isLower isLetterOrDigit isBlank lower equalIgnoringCase
@@ -49,10 +49,10 @@ unfolding maxLabelOctets maxIssuerOctets maxNameOctets maxRequestOctets maxNames
     issuerRefusal isLaidOut resourceRecord recordItems records bookRefusal number authorizations listIssuers
 lists-agree = (refl, refl, refl, refl, refl, refl, refl, refl, refl)
 
-pub answers-told : Answers-told
-unfolding judgementTold permittedIssuersTold
-answers-told = (refl, λ k r. (refl, refl), λ r. (refl, refl))
+pub answer-codes : Answer-codes
+unfolding judgementCode permittedIssuersCode
+answer-codes = (refl, λ k r. (refl, refl), λ r. (refl, refl))
 
-pub list-told : List-told
-unfolding permittedIssuersTold
-list-told = (refl, λ count octets. refl)
+pub list-codes : List-codes
+unfolding permittedIssuersCode
+list-codes = (refl, λ count octets. refl)

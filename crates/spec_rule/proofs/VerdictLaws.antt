@@ -7,7 +7,7 @@ use mathlib.Core.Bool.{Bool, true}
 use mathlib.Core.List.{List, [], _∷_, _++_, map}
 use lib.ListN.{length}
 use Rattle.spec_octets.specs.Lists.{All, all-nil, all-cons}
-use Rattle.spec_octets.proofs.ListLaws.{decided}
+use Rattle.spec_octets.proofs.ListLaws.{true-or-false}
 use Rattle.spec_octets.proofs.SelectLaws.{fails}
 use Rattle.spec_name.specs.Names.{Name}
 use Rattle.spec_request.specs.Request.{requestedNames}
@@ -30,7 +30,7 @@ all-or-lowest p decides [] = inl all-nil
 all-or-lowest {P} p decides (n ∷ ns) = ⊎-elim
     (λ t. ⊎-elim (λ h. inl (all-cons (decides n .0 t) h)) (λ l. inr (later (decides n .0 t) l)) (all-or-lowest p decides ns))
     (λ t. inr (0, n, ([], ns, refl, refl, all-nil, fails p decides n .0 t)))
-    (decided (p n))
+    (true-or-false (p n))
   where
     later : P n → (k : ℕ) × (m : Name) × LowestNot P ns k m → (k : ℕ) × (m : Name) × LowestNot P (n ∷ ns) k m
     later h (k, m, (before, after, e, l, hs, q)) = (suc k, m, (n ∷ before, after, ap (_∷_ n) e, ap suc l, all-cons h hs, q))

@@ -64,13 +64,13 @@ governing wildcard rs = cond wildcard (orElse (select isIssueWild rs) (select is
 
 -- the one issuer that a governing record grants: the name that its value holds, in small letters. A value that doesn't fit the
 -- grammar, holds no name, or holds one beyond the limits of issuer names grants nobody
-abbrev pub holder : IssueValue → Option (List ℕ)
-holder malformed = none
-holder nameless = none
-holder (named n) = cond (isIssuer n) (some (lowered n)) none
+abbrev pub granteeOfValue : IssueValue → Option (List ℕ)
+granteeOfValue malformed = none
+granteeOfValue nameless = none
+granteeOfValue (named n) = cond (isIssuer n) (some (lowered n)) none
 
 unfoldable pub grantee : CaaRecord → Option (List ℕ)
-grantee r = holder (issueValue (r .property .value))
+grantee r = granteeOfValue (issueValue (r .property .value))
 
 -- there is a grantee, and it is d
 abbrev pub isGrantee : List ℕ → Option (List ℕ) → Bool
@@ -95,13 +95,13 @@ abbrev pub unlessForbidden : List CaaRecord → Authorization → Authorization
 unlessForbidden [] a = a
 unlessForbidden (u ∷ us) a = forbidden (u .number)
 
-abbrev pub decided : Bool → Lookup → Authorization
-decided wildcard empty = unrestricted
-decided wildcard (found rs) = unlessForbidden (select isUnknownCritical rs) (governedBy (governing wildcard rs))
+abbrev pub authorizationFrom : Bool → Lookup → Authorization
+authorizationFrom wildcard empty = unrestricted
+authorizationFrom wildcard (found rs) = unlessForbidden (select isUnknownCritical rs) (governedBy (governing wildcard rs))
 
 -- for X or *.X the search starts at X
 unfoldable pub authorization : List CaaRecord → Name → Authorization
-authorization book n = decided (isWildcard n) (relevantSet book (base n))
+authorization book n = authorizationFrom (isWildcard n) (relevantSet book (base n))
 
 -- the issuer d may issue for a name of which CAA says this
 abbrev pub permits : List ℕ → Authorization → Bool

@@ -70,20 +70,20 @@ listIssuers request book buffer =
     unlessRefused (firstRefusal (listChecks request book buffer)) (written (issuers (authorizations request book)) buffer) buffer
 
 -- The requirements' number and values of each answer. Numbers 30 and 31 are this project's own: the requirements give none.
-pub record Told : Type 0 where
+pub record AnswerCode : Type 0 where
   pub number : ℕ
   pub values : List ℕ
 
-abbrev pub refusalTold : Refusal → Told
-refusalTold r = record { number = number r; values = place r ∷ [] }
+abbrev pub refusalCode : Refusal → AnswerCode
+refusalCode r = record { number = number r; values = place r ∷ [] }
 
-unfoldable pub judgementTold : Judgement → Told
-judgementTold Permitted = record { number = 0; values = [] }
-judgementTold (UnknownCritical d) = record { number = 20; values = d .name .0 ∷ d .rr .0 ∷ [] }
-judgementTold (NotGranted d) = record { number = 21; values = d .name .0 ∷ d .rr .0 ∷ [] }
-judgementTold (Refused r) = refusalTold r
+unfoldable pub judgementCode : Judgement → AnswerCode
+judgementCode Permitted = record { number = 0; values = [] }
+judgementCode (UnknownCritical d) = record { number = 20; values = d .name .0 ∷ d .rr .0 ∷ [] }
+judgementCode (NotGranted d) = record { number = 21; values = d .name .0 ∷ d .rr .0 ∷ [] }
+judgementCode (Refused r) = refusalCode r
 
-unfoldable pub permittedIssuersTold : PermittedIssuers → Told
-permittedIssuersTold Anyone = record { number = 30; values = [] }
-permittedIssuersTold (Listed count octets) = record { number = 31; values = octets ∷ count ∷ [] }
-permittedIssuersTold (ListRefused r) = refusalTold r
+unfoldable pub permittedIssuersCode : PermittedIssuers → AnswerCode
+permittedIssuersCode Anyone = record { number = 30; values = [] }
+permittedIssuersCode (Listed count octets) = record { number = 31; values = octets ∷ count ∷ [] }
+permittedIssuersCode (ListRefused r) = refusalCode r

@@ -4,6 +4,7 @@ pub mod Verdicts
 pub mod IssuerLists
 pub mod Calls
 pub mod Meaning
+pub mod Pinned
 pub mod Theorems
 pub mod Edges
 pub mod CallEdges

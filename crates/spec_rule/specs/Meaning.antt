@@ -9,7 +9,7 @@ use Rattle.spec_octets.specs.Lists.{All, Any, First, Selects}
 use Rattle.spec_octets.specs.Octets.{lowered}
 use Rattle.spec_name.specs.Names.{Name}
 use Rattle.spec_request.specs.Request.{isWildcard, base}
-use Rattle.spec_issuer.specs.Theorems.{WellFormed}
+use Rattle.spec_issuer.specs.Issuer.{WellFormed}
 use Rattle.spec_record.specs.declared.PropertyTag.{PropertyTag}
 use Rattle.spec_record.specs.declared.PropertyTag.the-variants.{Issue, IssueWild, Unknown}
 use Rattle.spec_record.specs.Property.{Property, wireProperty, isCritical, tagOf}

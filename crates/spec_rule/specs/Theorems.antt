@@ -7,17 +7,17 @@ use mathlib.Core.Option.{none}
 use lib.ListN.{length, take, drop}
 use Rattle.spec_refusal.specs.declared.Refusal.{Refusal}
 use Rattle.spec_refusal.specs.declared.Refusal.the-variants.{RequestTooLong, BadName, TooManyNames, BadIssuer, BookTooLong, BadRecord, TooManyRecords, NoRoom, BadLine, LineTooLong, BadData}
-use Rattle.spec_refusal.specs.Refusal.{number, place}
+use Rattle.spec_refusal.specs.Refusal.{number}
 use Rattle.spec_octets.specs.Lists.{All, Any, Distinct, Selects}
 use Rattle.spec_octets.specs.Octets.{Octets, lowered}
 use Rattle.spec_octets.specs.Items.{whole, items}
 use Rattle.spec_name.specs.Names.{Name}
 use Rattle.spec_request.specs.Request.{requestedNames, requestRefusal}
 use Rattle.spec_request.specs.Theorems.{Row-1, Row-2, Row-3}
-use Rattle.spec_issuer.specs.Issuer.{issuerRefusal}
-use Rattle.spec_issuer.specs.Theorems.{WellFormed, Row-4}
-use Rattle.spec_record.specs.Records.{Record, records, bookRefusal}
-use Rattle.spec_record.specs.Theorems.{GoodRecord, Row-5, Row-6, Row-7}
+use Rattle.spec_issuer.specs.Issuer.{issuerRefusal, WellFormed}
+use Rattle.spec_issuer.specs.Theorems.{Row-4}
+use Rattle.spec_record.specs.Records.{Record, records, bookRefusal, GoodRecord}
+use Rattle.spec_record.specs.Theorems.{Row-5, Row-6, Row-7}
 use Rattle.spec_rule.specs.declared.Judgement.{Judgement}
 use Rattle.spec_rule.specs.declared.Judgement.the-variants.{Permitted, UnknownCritical, NotGranted, Refused}
 use Rattle.spec_rule.specs.declared.PermittedIssuers.the-variants.{Anyone, Listed, Refused as ListRefused}
@@ -25,7 +25,7 @@ use Rattle.spec_rule.specs.RelevantSet.{CaaRecord, empty, found, caaReco
 use Rattle.spec_rule.specs.Authorizations.{Authorization, unrestricted, forbidden, granted, authorization}
 use Rattle.spec_rule.specs.Verdicts.{denial, verdict}
 use Rattle.spec_rule.specs.IssuerLists.{Issuers, anyone, listed, issuers, entries, readEntry}
-use Rattle.spec_rule.specs.Calls.{authorizations, judge, Listing, listIssuers, judgementTold, permittedIssuersTold}
+use Rattle.spec_rule.specs.Calls.{authorizations, judge, Listing, listIssuers}
 use Rattle.spec_rule.specs.Meaning.{CaaRecordsOf, OwnedBy, NearestAt, UnknownCriticalRecord, Relevant, Unrestricted, PermittedTo, ForbiddenBy, GovernedFrom, GoverningRecords, LowestNot, Before, GrantedBefore}
 
 -- the CAA records are those of type 257 and class 1, numbered from 0 over all records
@@ -153,10 +153,6 @@ Room-of-the-book =
     (request book : List ℕ) → Octets book → bookRefusal book ≡ none → (ns : List (List ℕ)) →
     issuers (authorizations request book) ≡ listed ns → total ns ≤ length book
 
--- each entry has its own length before it
-abbrev pub Entries-laid-out : Type 0
-Entries-laid-out = (entries [] ≡ []) × ((n : List ℕ) (ns : List (List ℕ)) → entries (n ∷ ns) ≡ length n ∷ (n ++ entries ns))
-
 -- the names of a list are read back from its octets
 abbrev pub Entries-read-back : Type 0
 Entries-read-back = (ns : List (List ℕ)) → items readEntry (length ns) (entries ns) ≡ whole ns
@@ -211,21 +207,6 @@ Room-needed =
     × ((count octets : ℕ) → listIssuers request book other .answer ≡ Listed count octets →
     (octets ≤ length buffer → listIssuers request book buffer .answer ≡ Listed count octets)
     × (length buffer < octets → listIssuers request book buffer ≡ record { answer = ListRefused (NoRoom octets); buffer = buffer }))
-
--- the numbers of the answers: 0; 20 and 21 with a name's and a record's number; a refusal's own
-abbrev pub Answers-told : Type 0
-Answers-told =
-    (judgementTold Permitted ≡ record { number = 0; values = [] })
-    × ((k r : ℕ) → (judgementTold (UnknownCritical (denial k r)) ≡ record { number = 20; values = k ∷ r ∷ [] })
-    × (judgementTold (NotGranted (denial k r)) ≡ record { number = 21; values = k ∷ r ∷ [] }))
-    × ((r : Refusal) → (judgementTold (Refused r) ≡ record { number = number r; values = place r ∷ [] })
-    × (permittedIssuersTold (ListRefused r) ≡ record { number = number r; values = place r ∷ [] }))
-
--- those of the list are this project's own: 30, and 31 with octets and count
-abbrev pub List-told : Type 0
-List-told =
-    (permittedIssuersTold Anyone ≡ record { number = 30; values = [] })
-    × ((count octets : ℕ) → permittedIssuersTold (Listed count octets) ≡ record { number = 31; values = octets ∷ count ∷ [] })
 
 -- Deciding never computes with record numbers: other numbers change those in the answer and nothing else.
 abbrev pub renumbered : (ℕ → ℕ) → CaaRecord → CaaRecord

@@ -3,19 +3,19 @@ use Prim.Native.Nat.{ℕ}
 use mathlib.Core.Path.{_≡_}
 use Rattle.spec_refusal.specs.declared.Refusal.{Refusal}
 use Rattle.spec_packed.specs.Packed.{packed, packedRefusal}
-use Rattle.spec_line.specs.declared.Made.{Made}
-use Rattle.spec_line.specs.declared.Made.the-variants.{Length, Refused}
-use Rattle.spec_answers.specs.LineAnswers.{madeTold, packedMade}
+use Rattle.spec_line.specs.declared.LineAnswer.{LineAnswer}
+use Rattle.spec_line.specs.declared.LineAnswer.the-variants.{Length, Refused}
+use Rattle.spec_answers.specs.LineAnswers.{lineCode, packedLine}
 
-module _ (r : ℕ) (m : Made) where
-  pub length-packed : (n : ℕ) → r ≡ packed 0 n 0 0 → m ≡ Length n → r ≡ packedMade m
-  unfolding packedMade madeTold
+module _ (r : ℕ) (m : LineAnswer) where
+  pub length-packed : (n : ℕ) → r ≡ packed 0 n 0 0 → m ≡ Length n → r ≡ packedLine m
+  unfolding packedLine lineCode
   length-packed n p e = rw e p
 
-  pub refusal-packed : (q : Refusal) → r ≡ packedRefusal q → m ≡ Refused q → r ≡ packedMade m
-  unfolding packedMade madeTold packedRefusal
+  pub refusal-packed : (q : Refusal) → r ≡ packedRefusal q → m ≡ Refused q → r ≡ packedLine m
+  unfolding packedLine lineCode packedRefusal
   refusal-packed q p e = rw e p
 
 -- an answer passed on
-pub made-told : (r : ℕ) (m n : Made) → r ≡ packedMade m → m ≡ n → r ≡ packedMade n
+pub made-told : (r : ℕ) (m n : LineAnswer) → r ≡ packedLine m → m ≡ n → r ≡ packedLine n
 made-told r m n e f = rw (← f) e

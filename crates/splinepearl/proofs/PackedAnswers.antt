@@ -6,22 +6,22 @@ use Rattle.spec_packed.specs.Packed.{packed, packedRefusal}
 use Rattle.spec_rule.specs.declared.Denial.{Denial}
 use Rattle.spec_rule.specs.declared.Judgement.{Judgement}
 use Rattle.spec_rule.specs.declared.Judgement.the-variants.{Permitted, UnknownCritical, NotGranted, Refused}
-use Rattle.spec_rule.specs.Calls.{judgementTold}
+use Rattle.spec_rule.specs.Calls.{judgementCode}
 use Rattle.spec_answers.specs.Answers.{packedJudgement}
 
 module _ (x j : Judgement) (is : x ≡ j) where
   pub permitted-packed : x ≡ Permitted → 0 ≡ packedJudgement j
-  unfolding packedJudgement judgementTold packed
+  unfolding packedJudgement judgementCode packed
   permitted-packed e = rw (← is, e) refl
 
   pub critical-packed : (r : ℕ) (d : Denial) → r ≡ packed 20 (d .name .0) (d .rr .0) 0 → x ≡ UnknownCritical d → r ≡ packedJudgement j
-  unfolding packedJudgement judgementTold
+  unfolding packedJudgement judgementCode
   critical-packed r d p e = rw (← is, e) p
 
   pub not-granted-packed : (r : ℕ) (d : Denial) → r ≡ packed 21 (d .name .0) (d .rr .0) 0 → x ≡ NotGranted d → r ≡ packedJudgement j
-  unfolding packedJudgement judgementTold
+  unfolding packedJudgement judgementCode
   not-granted-packed r d p e = rw (← is, e) p
 
   pub refused-packed : (r : ℕ) (q : Refusal) → r ≡ packedRefusal q → x ≡ Refused q → r ≡ packedJudgement j
-  unfolding packedJudgement judgementTold packedRefusal
+  unfolding packedJudgement judgementCode packedRefusal
   refused-packed r q p e = rw (← is, e) p

@@ -1,5 +1,5 @@
 // The calls for C and Rust. Each answers one number of 64 bits: the answer's number in bits 0 to 7, and fields behind it.
-use spec_line::Made;
+use spec_line::LineAnswer;
 use spec_rule::Judgement;
 use spec_rule::PermittedIssuers;
 ghost use mathlib.Core.Path.{_≡_};
@@ -7,7 +7,7 @@ ghost use Rattle.spec_line.specs.Calls.{writeLine, parseLine};
 ghost use Rattle.spec_rule.specs.Calls.{judge, listIssuers};
 ghost use Rattle.spec_answers.specs.Answers.{packedJudgement};
 ghost use Rattle.spec_answers.specs.ListAnswers.{packedIssuers};
-ghost use Rattle.spec_answers.specs.LineAnswers.{packedMade};
+ghost use Rattle.spec_answers.specs.LineAnswers.{packedLine};
 
 // May this issuer sign? 0 permitted; 20 and 21 with the name's number in a and the record's in b; a refusal with its place in a.
 #[no_mangle]
@@ -50,19 +50,19 @@ pub extern "C" fn caa_permitted_issuers(request: &[u8], book: &[u8], buffer: &mu
 }
 
 // What was made: 0 with its length in a, or a refusal with its place in a.
-fn pack_made(m: Made) -> u64
-    ensures { λ r. ⌜ r ≡ packedMade m ⌝ }
+fn pack_made(m: LineAnswer) -> u64
+    ensures { λ r. ⌜ r ≡ packedLine m ⌝ }
 {
     match m {
-        Made::Length(n) => spec_packed::pack(0, n as u64, 0, 0),
-        Made::Refused(r) => spec_packed::pack_refusal(r),
+        LineAnswer::Length(n) => spec_packed::pack(0, n as u64, 0, 0),
+        LineAnswer::Refused(r) => spec_packed::pack_refusal(r),
     }
 }
 
 // CAA data to its line, at the front of the lent buffer.
 #[no_mangle]
 pub extern "C" fn caa_write_line(d: &[u8], buffer: &mut [u8]) -> u64
-    ensures answer { λ r. ⌜ r ≡ packedMade (writeLine (now (d .entry)) (now (buffer .entry)) .answer) ⌝ }
+    ensures answer { λ r. ⌜ r ≡ packedLine (writeLine (now (d .entry)) (now (buffer .entry)) .answer) ⌝ }
     ensures octets { λ r. ⌜ now (buffer .exit) ≡ writeLine (now (d .entry)) (now (buffer .entry)) .buffer ⌝ }
 {
     pack_made(line_writer::write_line(d, buffer))
@@ -71,7 +71,7 @@ pub extern "C" fn caa_write_line(d: &[u8], buffer: &mut [u8]) -> u64
 // A line to its CAA data, at the front of the lent buffer.
 #[no_mangle]
 pub extern "C" fn caa_read_line(line: &[u8], buffer: &mut [u8]) -> u64
-    ensures answer { λ r. ⌜ r ≡ packedMade (parseLine (now (line .entry)) (now (buffer .entry)) .answer) ⌝ }
+    ensures answer { λ r. ⌜ r ≡ packedLine (parseLine (now (line .entry)) (now (buffer .entry)) .answer) ⌝ }
     ensures octets { λ r. ⌜ now (buffer .exit) ≡ parseLine (now (line .entry)) (now (buffer .entry)) .buffer ⌝ }
 {
     pack_made(line_reader::read_line(line, buffer))

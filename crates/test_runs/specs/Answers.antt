@@ -7,15 +7,15 @@ use Rattle.spec_line.specs.Calls.{writeLine, parseLine}
 use Rattle.spec_rule.specs.Calls.{judge, listIssuers}
 use Rattle.spec_answers.specs.Answers.{packedJudgement}
 use Rattle.spec_answers.specs.ListAnswers.{packedIssuers}
-use Rattle.spec_answers.specs.LineAnswers.{packedMade}
+use Rattle.spec_answers.specs.LineAnswers.{packedLine}
 
 -- what it answers, packed; a line or its data stands in the request's place
 unfoldable pub answerOf : ℕ → List ℕ → List ℕ → List ℕ → List ℕ → ℕ
 answerOf call request issuer book buffer =
     cond (eqb call 1) (packedJudgement (judge request issuer book))
     (cond (eqb call 2) (packedIssuers (listIssuers request book buffer .answer))
-    (cond (eqb call 3) (packedMade (writeLine request buffer .answer))
-    (packedMade (parseLine request buffer .answer))))
+    (cond (eqb call 3) (packedLine (writeLine request buffer .answer))
+    (packedLine (parseLine request buffer .answer))))
 
 -- what the lent buffer then holds; judging is lent none
 unfoldable pub bufferAfter : ℕ → List ℕ → List ℕ → List ℕ → List ℕ

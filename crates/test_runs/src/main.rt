@@ -20,7 +20,7 @@ const ISSUER_ROOM: usize = 300;
 // How much of a buffer is shown.
 const SHOWN: usize = 64;
 
-// Told where the file ends too early: more than three octets can say, and than any room.
+// AnswerCode where the file ends too early: more than three octets can say, and than any room.
 const CUT_OFF: usize = 16777216;
 
 // A part as it was read: whether it is whole, and how many octets of it stand at the front of the buffer.

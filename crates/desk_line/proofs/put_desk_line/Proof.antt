@@ -17,8 +17,8 @@ returns c = search (needs, bookless-put, not-true)
 judge-requires : tie.Need-judge-requires
 judge-requires c κs = search needs
 
-put-line-requires : tie.Need-put-line-requires
-put-line-requires c κs = search needs
+put-judgement-requires : tie.Need-put-judgement-requires
+put-judgement-requires c κs = search needs
 
 returns-2 : tie.Need-returns-2
 returns-2 c = search (needs, judged-put, not-false)
@@ -31,5 +31,5 @@ put-desk-line-spec =
     put-octets-requires
     returns
     judge-requires
-    put-line-requires
+    put-judgement-requires
     returns-2)

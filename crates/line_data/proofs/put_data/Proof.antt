@@ -10,14 +10,14 @@ put-tag-requires c κs = search (needs, head-room)
 sub-put-units : tie.Need-sub-put-units
 sub-put-units c = search (needs, value-from)
 
-part-put-units-start : tie.Need-part-put-units-start
-part-put-units-start c = search (needs, value-from)
+part-put-unescaped-start : tie.Need-part-put-unescaped-start
+part-put-unescaped-start c = search (needs, value-from)
 
-part-put-units-end : tie.Need-part-put-units-end
-part-put-units-end c = search needs
+part-put-unescaped-end : tie.Need-part-put-unescaped-end
+part-put-unescaped-end c = search needs
 
-put-units-requires : tie.Need-put-units-requires
-put-units-requires c κs = search (needs, value-room)
+put-unescaped-requires : tie.Need-put-unescaped-requires
+put-unescaped-requires c κs = search (needs, value-room)
 
 add-result : tie.Need-add-result
 add-result c = search (needs, data-fits)
@@ -34,9 +34,9 @@ put-data-spec =
     (tie.spec
     put-tag-requires
     sub-put-units
-    part-put-units-start
-    part-put-units-end
-    put-units-requires
+    part-put-unescaped-start
+    part-put-unescaped-end
+    put-unescaped-requires
     add-result
     same-length
     returns)

@@ -1,7 +1,7 @@
 -- `write_data` meets its contract: a law of writeData for each way out.
 use borrow.Author.Needs.{needs}
 use Rattle.spec_refusal.specs.declared.Refusal.the-variants.{NoRoom, BadLine, LineTooLong}
-use Rattle.spec_line.specs.declared.Made.the-variants.{Length}
+use Rattle.spec_line.specs.declared.LineAnswer.the-variants.{Length}
 use Rattle.spec_line.specs.Calls.{refused}
 use Rattle.spec_line.proofs.Placed.{told}
 use Rattle.line_data.specs.Places.{writeData}
@@ -12,8 +12,8 @@ use Rattle.line_data.proofs.write_data.Tie as tie
 returns : tie.Need-returns
 returns c = told (writeData _ _ _) _ _ (refused BadLine _) (search (needs, long-tag))
 
-count-units-requires : tie.Need-count-units-requires
-count-units-requires c κs = search needs
+count-unescaped-requires : tie.Need-count-unescaped-requires
+count-unescaped-requires c κs = search needs
 
 enum-known-k : tie.Need-enum-known-k
 enum-known-k c = search needs
@@ -59,7 +59,7 @@ write-data-spec =
     tie.close
     (tie.spec
     returns
-    count-units-requires
+    count-unescaped-requires
     enum-known-k
     enum-told
     returns-2

@@ -1,7 +1,7 @@
 -- `write_property` meets its contract: a law of writeProperty for each way out.
 use borrow.Author.Needs.{needs}
 use Rattle.spec_refusal.specs.declared.Refusal.the-variants.{NoRoom, LineTooLong}
-use Rattle.spec_line.specs.declared.Made.the-variants.{Length}
+use Rattle.spec_line.specs.declared.LineAnswer.the-variants.{Length}
 use Rattle.spec_line.specs.Calls.{refused}
 use Rattle.spec_line.proofs.Placed.{told}
 use Rattle.line_property.specs.Places.{writeProperty}

@@ -32,8 +32,8 @@ part-value-start c = search (needs, value-begins)
 part-value-end : tie.Need-part-value-end
 part-value-end c = search needs
 
-read-value-requires : tie.Need-read-value-requires
-read-value-requires c κs = search needs
+read-line-value-requires : tie.Need-read-line-value-requires
+read-line-value-requires c κs = search needs
 
 enum-known-v : tie.Need-enum-known-v
 enum-known-v c = search needs
@@ -83,7 +83,7 @@ read-line-spec =
     sub-value
     part-value-start
     part-value-end
-    read-value-requires
+    read-line-value-requires
     enum-known-v
     enum-told-2
     returns-3

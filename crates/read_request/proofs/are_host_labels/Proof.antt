@@ -4,8 +4,7 @@ use mathlib.Core.Path.{_≡_}
 use lib.ListN.{length}
 use borrow.Author.Needs.{needs}
 use borrow.Author.Tests.{not-true, not-false}
-use Rattle.spec_name.specs.Names.{Name, wire}
-use Rattle.spec_name.specs.Theorems.{GoodName}
+use Rattle.spec_name.specs.Names.{Name, wire, GoodName}
 use Rattle.read_name.proofs.Parents.{up-inside, up-less}
 use Rattle.read_request.proofs.HostNames.{LabelsLeft, labels-start, labels-end, labels-stop, labels-turn}
 use Rattle.read_request.proofs.are_host_labels.Statement.{statement}

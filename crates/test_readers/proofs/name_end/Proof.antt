@@ -1,7 +1,7 @@
 -- `name_end` meets its contract, by cases of what was read.
 use borrow.Author.Needs.{needs}
 use Rattle.test_readers.specs.Packs.{packedEnd}
-use Rattle.test_readers.proofs.Told.{told}
+use Rattle.test_readers.proofs.AnswerCode.{told}
 use Rattle.test_readers.proofs.name_end.Statement.{statement}
 use Rattle.test_readers.proofs.name_end.Tie as tie
 

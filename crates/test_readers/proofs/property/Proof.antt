@@ -1,7 +1,7 @@
 -- `property` meets its contract, by cases of what was read.
 use borrow.Author.Needs.{needs}
 use Rattle.test_readers.specs.Packs.{packedProperty}
-use Rattle.test_readers.proofs.Told.{told}
+use Rattle.test_readers.proofs.AnswerCode.{told}
 use Rattle.test_readers.proofs.property.Statement.{statement}
 use Rattle.test_readers.proofs.property.Tie as tie
 

@@ -2,7 +2,7 @@
 use borrow.Author.Needs.{needs}
 use Rattle.spec_octets.proofs.Tests.{tests}
 use Rattle.test_readers.specs.Answers.{readerAnswer}
-use Rattle.test_readers.proofs.Told.{told-of}
+use Rattle.test_readers.proofs.AnswerCode.{told-of}
 use Rattle.test_readers.proofs.readers_answer.Statement.{statement}
 use Rattle.test_readers.proofs.readers_answer.Tie as tie
 

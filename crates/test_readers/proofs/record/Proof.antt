@@ -1,7 +1,7 @@
 -- `record` meets its contract, by cases of what was read.
 use borrow.Author.Needs.{needs}
 use Rattle.test_readers.specs.Packs.{packedRecord}
-use Rattle.test_readers.proofs.Told.{told}
+use Rattle.test_readers.proofs.AnswerCode.{told}
 use Rattle.test_readers.proofs.record.Statement.{statement}
 use Rattle.test_readers.proofs.record.Tie as tie
 

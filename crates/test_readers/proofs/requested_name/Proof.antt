@@ -1,7 +1,7 @@
 -- `requested_name` meets its contract, by cases of what was read, a wildcard and any other name apart.
 use borrow.Author.Needs.{needs}
 use Rattle.test_readers.specs.Packs.{packedRequested}
-use Rattle.test_readers.proofs.Told.{told, told-requested}
+use Rattle.test_readers.proofs.AnswerCode.{told, told-requested}
 use Rattle.test_readers.proofs.requested_name.Statement.{statement}
 use Rattle.test_readers.proofs.requested_name.Tie as tie
 

@@ -1,7 +1,7 @@
 -- `same` meets its contract, by cases of the answer.
 use borrow.Author.Needs.{needs}
 use Rattle.test_readers.specs.Packs.{packedBool}
-use Rattle.test_readers.proofs.Told.{told}
+use Rattle.test_readers.proofs.AnswerCode.{told}
 use Rattle.test_readers.proofs.same.Statement.{statement}
 use Rattle.test_readers.proofs.same.Tie as tie
 

@@ -1,7 +1,7 @@
 -- `tag` meets its contract, by cases of the tag.
 use borrow.Author.Needs.{needs}
 use Rattle.test_readers.specs.Packs.{packedTag}
-use Rattle.test_readers.proofs.Told.{told}
+use Rattle.test_readers.proofs.AnswerCode.{told}
 use Rattle.test_readers.proofs.tag.Statement.{statement}
 use Rattle.test_readers.proofs.tag.Tie as tie
 

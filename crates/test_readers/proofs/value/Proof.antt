@@ -1,7 +1,7 @@
 -- `value` meets its contract, by cases of what was read.
 use borrow.Author.Needs.{needs}
 use Rattle.test_readers.specs.Packs.{packedValue}
-use Rattle.test_readers.proofs.Told.{told}
+use Rattle.test_readers.proofs.AnswerCode.{told}
 use Rattle.test_readers.proofs.value.Statement.{statement}
 use Rattle.test_readers.proofs.value.Tie as tie
 

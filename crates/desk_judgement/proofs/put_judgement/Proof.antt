@@ -1,8 +1,8 @@
--- `put_line` meets its contract, by cases of the judgement.
+-- `put_judgement` meets its contract, by cases of the judgement.
 use borrow.Author.Needs.{needs}
 use Rattle.desk_judgement.proofs.Answers.{permitted-put, critical-put, not-granted-put, refused-put}
-use Rattle.desk_judgement.proofs.put_line.Statement.{statement}
-use Rattle.desk_judgement.proofs.put_line.Tie as tie
+use Rattle.desk_judgement.proofs.put_judgement.Statement.{statement}
+use Rattle.desk_judgement.proofs.put_judgement.Tie as tie
 
 enum-told : tie.Need-enum-told
 enum-told c = search needs
@@ -61,8 +61,8 @@ returns-3 c = search (needs, not-granted-put)
 returns-4 : tie.Need-returns-4
 returns-4 c = search (needs, refused-put)
 
-pub put-line-spec : {M : Type 1} → statement M
-put-line-spec =
+pub put-judgement-spec : {M : Type 1} → statement M
+put-judgement-spec =
     tie.close
     (tie.spec
     enum-told

@@ -1,11 +1,11 @@
--- `count_units` meets its contract. The loop's invariant: the count so far and the units left give the answer.
+-- `count_unescaped` meets its contract. The loop's invariant: the count so far and the units left give the answer.
 use Prim.Native.Nat.{_-_}
 use lib.ListN.{length}
 use borrow.Author.Needs.{needs}
 use Rattle.line_unit.proofs.UnitWalk.{unit-less}
 use Rattle.line_data.proofs.UnitLoops.{Counted, count-start, count-fault, count-turn, count-end}
-use Rattle.line_data.proofs.count_units.Statement.{statement}
-use Rattle.line_data.proofs.count_units.Tie as tie
+use Rattle.line_data.proofs.count_unescaped.Statement.{statement}
+use Rattle.line_data.proofs.count_unescaped.Tie as tie
 
 abbrev Inv-loop : tie.InvT-loop
 Inv-loop s style at₀ n₀ at n = Counted style s at n
@@ -16,8 +16,8 @@ abbrev μ-loop : tie.MeasureT-loop
 loop-holds : tie.Need-loop-holds Inv-loop μ-loop
 loop-holds c = search (needs, count-start)
 
-read-unit-requires : tie.Need-read-unit-requires Inv-loop μ-loop
-read-unit-requires c κs = search needs
+read-written-octet-requires : tie.Need-read-written-octet-requires Inv-loop μ-loop
+read-written-octet-requires c κs = search needs
 
 enum-known-u : tie.Need-enum-known-u Inv-loop μ-loop
 enum-known-u c = search needs
@@ -40,14 +40,14 @@ loop-again c = search (needs, count-turn)
 returns-2 : tie.Need-returns-2 Inv-loop μ-loop
 returns-2 c = search (needs, count-end)
 
-pub count-units-spec : {M : Type 1} → statement M
-count-units-spec =
+pub count-unescaped-spec : {M : Type 1} → statement M
+count-unescaped-spec =
     tie.close
     (tie.spec
     Inv-loop
     μ-loop
     loop-holds
-    read-unit-requires
+    read-written-octet-requires
     enum-known-u
     enum-told
     returns

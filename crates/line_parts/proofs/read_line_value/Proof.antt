@@ -1,8 +1,8 @@
--- `read_value` meets its contract: a law of valueAt for each way out.
+-- `read_line_value` meets its contract: a law of lineValueAt for each way out.
 use borrow.Author.Needs.{needs}
 use Rattle.line_parts.proofs.ValuePlaces.{no-value, bare-value, one-quote, open-quote, quoted-value}
-use Rattle.line_parts.proofs.read_value.Statement.{statement}
-use Rattle.line_parts.proofs.read_value.Tie as tie
+use Rattle.line_parts.proofs.read_line_value.Statement.{statement}
+use Rattle.line_parts.proofs.read_line_value.Tie as tie
 
 returns : tie.Need-returns
 returns c = search (needs, no-value)
@@ -28,8 +28,8 @@ returns-4 c = search (needs, open-quote)
 returns-5 : tie.Need-returns-5
 returns-5 c = search (needs, quoted-value)
 
-pub read-value-spec : {M : Type 1} → statement M
-read-value-spec =
+pub read-line-value-spec : {M : Type 1} → statement M
+read-line-value-spec =
     tie.close
     (tie.spec
     returns

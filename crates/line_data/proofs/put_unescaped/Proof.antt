@@ -1,11 +1,11 @@
--- `put_units` meets its contract. The loop's invariant: the octets put and those of the units left are the whole value.
+-- `put_unescaped` meets its contract. The loop's invariant: the octets put and those of the units left are the whole value.
 use Prim.Native.Nat.{_-_}
 use lib.ListN.{length}
 use borrow.Author.Needs.{needs}
 use Rattle.line_unit.proofs.UnitWalk.{unit-less}
 use Rattle.line_data.proofs.UnitLoops.{fill-fits, Filled, fill-start, fill-fault, fill-room, fill-turn, fill-end}
-use Rattle.line_data.proofs.put_units.Statement.{statement}
-use Rattle.line_data.proofs.put_units.Tie as tie
+use Rattle.line_data.proofs.put_unescaped.Statement.{statement}
+use Rattle.line_data.proofs.put_unescaped.Tie as tie
 
 abbrev Inv-loop : tie.InvT-loop
 Inv-loop s style out₀ at₀ w₀ out at w = Filled style s out₀ out at w
@@ -16,8 +16,8 @@ abbrev μ-loop : tie.MeasureT-loop
 loop-holds : tie.Need-loop-holds Inv-loop μ-loop
 loop-holds c = search (needs, fill-start)
 
-read-unit-requires : tie.Need-read-unit-requires Inv-loop μ-loop
-read-unit-requires c κs = search needs
+read-written-octet-requires : tie.Need-read-written-octet-requires Inv-loop μ-loop
+read-written-octet-requires c κs = search needs
 
 enum-known-u : tie.Need-enum-known-u Inv-loop μ-loop
 enum-known-u c = search needs
@@ -49,14 +49,14 @@ same-length-2 c = search needs
 returns-2 : tie.Need-returns-2 Inv-loop μ-loop
 returns-2 c = search (needs, fill-end)
 
-pub put-units-spec : {M : Type 1} → statement M
-put-units-spec =
+pub put-unescaped-spec : {M : Type 1} → statement M
+put-unescaped-spec =
     tie.close
     (tie.spec
     Inv-loop
     μ-loop
     loop-holds
-    read-unit-requires
+    read-written-octet-requires
     enum-known-u
     enum-told
     same-length

@@ -1,9 +1,9 @@
--- `read_unit` meets its contract: a law of unitAt for each way out.
+-- `read_written_octet` meets its contract: a law of writtenOctetAt for each way out.
 use borrow.Author.Needs.{needs}
 use borrow.Author.Tests.{not-true, not-false}
 use Rattle.line_unit.proofs.UnitPlaces.{unit-cut-off, escape-there, wrong-octet, octet-itself}
-use Rattle.line_unit.proofs.read_unit.Statement.{statement}
-use Rattle.line_unit.proofs.read_unit.Tie as tie
+use Rattle.line_unit.proofs.read_written_octet.Statement.{statement}
+use Rattle.line_unit.proofs.read_written_octet.Tie as tie
 
 returns : tie.Need-returns
 returns c = search (needs, unit-cut-off)
@@ -29,8 +29,8 @@ returns-3 c = search (needs, wrong-octet, not-true)
 returns-4 : tie.Need-returns-4
 returns-4 c = search (needs, octet-itself, not-false)
 
-pub read-unit-spec : {M : Type 1} → statement M
-read-unit-spec =
+pub read-written-octet-spec : {M : Type 1} → statement M
+read-written-octet-spec =
     tie.close
     (tie.spec
     returns

@@ -1,0 +1,31 @@
+-- Statements that only say a definition again, so that its text cannot change unseen. Each is proved under its name in proofs/.
+use Prim.Native.Nat.{ℕ}
+use mathlib.Core.Path.{_≡_}
+use mathlib.Core.List.{List, [], _∷_, _++_}
+use lib.ListN.{length}
+use Rattle.spec_rule.specs.IssuerLists.{entries}
+use Rattle.spec_refusal.specs.declared.Refusal.{Refusal}
+use Rattle.spec_refusal.specs.Refusal.{number, place}
+use Rattle.spec_rule.specs.declared.Judgement.the-variants.{Permitted, UnknownCritical, NotGranted, Refused}
+use Rattle.spec_rule.specs.declared.PermittedIssuers.the-variants.{Refused as ListRefused, Anyone, Listed}
+use Rattle.spec_rule.specs.Verdicts.{denial}
+use Rattle.spec_rule.specs.Calls.{judgementCode, permittedIssuersCode}
+
+-- each entry has its own length before it
+abbrev pub Entries-laid-out : Type 0
+Entries-laid-out = (entries [] ≡ []) × ((n : List ℕ) (ns : List (List ℕ)) → entries (n ∷ ns) ≡ length n ∷ (n ++ entries ns))
+
+-- the numbers of the answers: 0; 20 and 21 with a name's and a record's number; a refusal's own
+abbrev pub Answer-codes : Type 0
+Answer-codes =
+    (judgementCode Permitted ≡ record { number = 0; values = [] })
+    × ((k r : ℕ) → (judgementCode (UnknownCritical (denial k r)) ≡ record { number = 20; values = k ∷ r ∷ [] })
+    × (judgementCode (NotGranted (denial k r)) ≡ record { number = 21; values = k ∷ r ∷ [] }))
+    × ((r : Refusal) → (judgementCode (Refused r) ≡ record { number = number r; values = place r ∷ [] })
+    × (permittedIssuersCode (ListRefused r) ≡ record { number = number r; values = place r ∷ [] }))
+
+-- those of the list are this project's own: 30, and 31 with octets and count
+abbrev pub List-codes : Type 0
+List-codes =
+    (permittedIssuersCode Anyone ≡ record { number = 30; values = [] })
+    × ((count octets : ℕ) → permittedIssuersCode (Listed count octets) ≡ record { number = 31; values = octets ∷ count ∷ [] })
