@@ -9,9 +9,10 @@ usage() {
     cat <<'end'
 usage: bash examples/link.sh [LIBS]
 
-Builds the C and Rust examples against libsplinepearl.a in the folder LIBS (target/staticlib), runs the
-tests of the Rust crate, compiles the header as C++, and checks what the examples print and their exit
-statuses. Takes about 20 seconds. `rt staticlib splinepearl` builds the library.
+Builds the C and Rust examples against libsplinepearl.a in the folder LIBS (target/staticlib), and checks
+what they print and their exit statuses. Measures the stack that each call takes, compiles the header as
+C++, and runs the tests of the Rust crate. Takes about 10 seconds. `rt staticlib splinepearl` builds the
+library.
 
 Exit status: 0 all as expected; 1 something else was printed, or a test failed; 2 wrong use, or no
 library. A compiler that fails ends this with its own status.
@@ -146,6 +147,9 @@ refused 11 at 0 [0]' "$work/caa-lines" write <<< '8003544253556E6B225C006E
 expect '0005697373756563613B
 refused 9 at 0 [0]' "$work/caa-lines" read <<< '0 issue "ca;"
 256 issue x'
+
+build examples/c/stack.c "$libs" "$work/stack"
+"$work/stack"
 
 if command -v "${CXX:-c++}" > /dev/null; then
     # shellcheck disable=SC2086
