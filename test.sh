@@ -1,28 +1,66 @@
 #!/usr/bin/env bash
-# All tests: the proofs from nothing, the must-fail edits and the programs, by `rt ci`; then, on the library that it proved, the second
-# program, linking from C and Rust, the desk program on its folders, the tools and the stored runs. The last line of `rt ci` is held
-# back until all else has passed, and is the last line.
+# All tests. The proofs, the deliberately wrong versions and the stored runs come first, by `rt ci`. The rest works on the library
+# and the program that `rt ci` has just proved. The last line of `rt ci` is held back until all else has passed.
 set -euo pipefail
+script='test'
 cd "$(dirname "$0")"
+root=$PWD
+. scripts/common.sh
 
-# rt starts so many checks and waits for all of them: four times the processors keep these busy.
+usage() {
+    cat <<'end'
+usage: bash test.sh
+
+Runs everything, in about 20 minutes: proves every crate from scratch, checks that each deliberately
+wrong version is rejected, runs the stored cases; then compares an independent Rust implementation with
+the proved library on stored and random inputs, links the library from C and Rust, and runs the desk
+program, the scripts and the tools. Removes target/ first. Progress goes to standard error.
+
+The last line is `N passed, 0 failed` exactly when everything has passed. RT_JOBS is the number of
+checks that run at a time (four for each processor).
+
+Exit status: 0 everything passed; 2 wrong use, or a command is missing; any other: something failed.
+end
+}
+
+case ${1-} in
+-h | --help)
+    usage
+    exit
+    ;;
+esac
+[ $# -eq 0 ] || fail "takes no arguments; see --help"
+for command in rt cargo cc python3; do
+    command -v $command > /dev/null || fail "$command is not on the path"
+done
+check_kit
+
+# rt starts that many checks and waits for all of them: four for each processor keep the processors busy.
 export RT_JOBS="${RT_JOBS:-$((4 * $(nproc)))}"
 
-second_program() {
-    SPLINEPEARL_LIBS="$PWD/target/staticlib" cargo run --quiet --offline --locked --release --manifest-path compare/Cargo.toml "$@"
+independent() {
+    SPLINEPEARL_LIBS="$root/target/staticlib" cargo run --quiet --offline --locked --release --manifest-path compare/Cargo.toml "$@"
 }
 
 said=$(mktemp)
-rt ci 2>&1 | tee "$said" | sed '$d' || { tail -n 1 "$said"; exit 1; }
+trap 'rm -f "$said"' EXIT
+crates=$(crates_for "")
+edits=$(find crates -path '*/must-fail/*.edit' | wc -l)
+note "proving $crates crates from scratch and trying $edits wrong versions; about 20 minutes"
+rt ci 2>&1 | tee "$said" | progress "$crates" "$edits" | sed '$d' || { tail -n 1 "$said"; exit 1; }
 
+note "the independent implementation on its stored cases"
 cargo test --quiet --offline --locked --manifest-path compare/Cargo.toml
-second_program -- cases
+independent -- cases
+note "the library against the independent implementation"
 rt staticlib test_readers
 rt staticlib splinepearl
-second_program --features readers,judge,list,lines -- library
+independent --features readers,judge,list,lines -- library
+note "linking"
 bash examples/link.sh
-
+note "the desk program and the scripts"
 bash desk-runs/test.sh
+note "the tools and the stored runs"
 python3 tools/test_caa_files.py
 python3 crates/test_runs/make.py --check
 

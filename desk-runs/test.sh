@@ -1,11 +1,37 @@
 #!/usr/bin/env bash
-# Runs the desk program on folders made here, and holds each line to the one that the requirements give.
-#   bash desk-runs/test.sh [PROGRAM]      PROGRAM: target/bin/desk, which `rt check desk` builds
+# Runs the desk program, and the scripts around it, and checks what they print and their exit statuses.
 set -euf
+script='desk-runs'
 here=$(cd "$(dirname "$0")" && pwd)
-program=$(realpath "${1:-$here/../target/bin/desk}")
-[ -x "$program" ] || { echo "desk-runs: no program $program: run rt check desk" >&2; exit 1; }
-whole=$here/../examples/whole-case
+root=$(cd "$here/.." && pwd)
+. "$root/scripts/common.sh"
+
+usage() {
+    cat <<'end'
+usage: bash desk-runs/test.sh [PROGRAM]
+
+Runs PROGRAM (target/bin/desk, which `rt check desk` builds) on folders made here, and checks each line
+against the one that the requirements give. Then checks the exit statuses of examples/run.sh, and what
+every script does with --help and with unknown arguments. Takes about 15 seconds.
+
+Exit status: 0 all as expected; 1 a run failed; 2 wrong use, or no program.
+end
+}
+
+case ${1-} in
+-h | --help)
+    usage
+    exit
+    ;;
+-*) fail "unknown option $1; see --help" ;;
+esac
+[ $# -le 1 ] || fail "one program at most; see --help"
+program=${1-$root/target/bin/desk}
+if [ ! -f "$program" ] || [ ! -x "$program" ]; then
+    fail "there is no program $program; run first, in $root: rt check desk"
+fi
+program=$(realpath "$program")
+whole=$root/examples/whole-case
 scratch=$(mktemp -d)
 trap 'rm -rf "$scratch"' EXIT
 runs=0
@@ -28,10 +54,15 @@ expect() {
     printf '%s\n' "$1" > "$scratch/expected"
     timeout 20 "$program" > "$scratch/written" || echo "(exit status $?)" >> "$scratch/written"
     cmp -s "$scratch/expected" "$scratch/written" && return
+    failed "$1" "$(tr '\0\n' '?$' < "$scratch/written" | head -c 200)"
+}
+
+# failed EXPECTED WRITTEN: counts and tells a failure
+failed() {
     failures=$((failures + 1))
     echo "FAILED: $title" >&2
     echo "    expected: $1" >&2
-    echo "    written:  $(tr '\0\n' '?$' < "$scratch/written" | head -c 200)" >&2
+    echo "    written:  $2" >&2
 }
 
 # octets N..: an octet for each number
@@ -85,6 +116,7 @@ other() { octets 0; fields 1 0; }
 
 . "$here/files.sh"
 . "$here/edges.sh"
+. "$here/statuses.sh"
 
 echo "desk: $runs runs, $failures failed"
 [ "$failures" -eq 0 ]

@@ -1,21 +1,42 @@
 #!/usr/bin/env bash
-# Links the library from C and Rust, tries the header in C++, and holds what comes out to the requirements' whole case.
-#
-#     bash examples/link.sh [LIBS]    LIBS is the folder of libsplinepearl.a (target/staticlib)
+# Links the library from C and Rust, and checks what the examples print and their exit statuses.
 set -eu
-cd "$(dirname "$0")/.."
-libs=$(realpath "${1:-target/staticlib}")
-archive=$libs/libsplinepearl.a
-if [ ! -f "$archive" ]; then
-    echo "link: $archive is missing; rt staticlib splinepearl writes it to target/staticlib" >&2
-    exit 2
-fi
+script='link'
+root=$(cd "$(dirname "$0")/.." && pwd)
+. "$root/scripts/common.sh"
+
+usage() {
+    cat <<'end'
+usage: bash examples/link.sh [LIBS]
+
+Builds the C and Rust examples against libsplinepearl.a in the folder LIBS (target/staticlib), and checks
+what they print and their exit statuses. Measures the stack that each call takes, compiles the header as
+C++, and runs the tests of the Rust crate. Takes about 10 seconds. `rt staticlib splinepearl` builds the
+library.
+
+Exit status: 0 all as expected; 1 something else was printed, or a test failed; 2 wrong use, or no
+library. A compiler that fails ends this with its own status.
+end
+}
+
+case ${1-} in
+-h | --help)
+    usage
+    exit
+    ;;
+-*) fail "unknown option $1; see --help" ;;
+esac
+[ $# -le 1 ] || fail "one folder at most; see --help"
+libs=${1-$root/target/staticlib}
+[ -f "$libs/libsplinepearl.a" ] || fail "there is no library $libs/libsplinepearl.a; run first, in $root: rt staticlib splinepearl"
+libs=$(realpath "$libs")
+cd "$root"
 
 work=$(mktemp -d)
 trap 'rm -rf "$work"' EXIT
 strict="-Wall -Wextra -pedantic -Werror"
 
-# expect WANTED COMMAND..: its output, and its exit status in brackets behind it
+# expect WANTED COMMAND..: WANTED is the output, and behind it the exit status in brackets
 expect() {
     local wanted=$1 got status=0
     shift
@@ -26,7 +47,21 @@ expect() {
     fi
 }
 
-# The cases, each a folder as the desk reads it.
+# expect_status WANTED COMMAND..: the exit status alone
+expect_status() {
+    local wanted=$1 status=0
+    shift
+    "$@" > /dev/null 2>&1 || status=$?
+    if [ "$status" != "$wanted" ]; then
+        printf 'link: %s\nwanted: status %s\ngot: status %s\n' "$*" "$wanted" "$status" >&2
+        exit 1
+    fi
+}
+
+# to_full COMMAND..: with a standard output on which every write fails
+to_full() { "$@" > /dev/full; }
+
+# The cases, each a folder as the desk program reads it.
 whole=examples/whole-case
 folder() {
     mkdir "$work/$1"
@@ -36,17 +71,44 @@ folder www # www.example.com alone: the first name of the request
 head -c 17 "$whole/request.bin" > "$work/www/request.bin"
 folder anyone
 : > "$work/anyone/book.bin"
+folder critical # example.com CAA 128 tbs "Unknown"
+printf '\7example\3com\0\1\1\0\1\0\0\0\0\0\14\200\3tbsUnknown' > "$work/critical/book.bin"
 folder line-end
 echo >> "$work/line-end/issuer.txt"
 folder cut
 head -c 199 "$whole/book.bin" > "$work/cut/book.bin"
+folder no-request
+rm "$work/no-request/request.bin"
+folder book-is-a-folder
+rm "$work/book-is-a-folder/book.bin"
+mkdir "$work/book-is-a-folder/book.bin"
 mkdir "$work/nothing"
 
-# C
+# A library of our own making, whose judge gives an answer that no program knows yet. It isn't proved, and decides nothing.
+mkdir "$work/later"
+cat > "$work/later.c" <<'end'
+#include "splinepearl.h"
+#define UNUSED (void)a, (void)b, (void)c, (void)d, (void)e, (void)f
+uint64_t caa_judge(const uint8_t *a, size_t b, const uint8_t *c, size_t d, const uint8_t *e, size_t f)
+{
+    return UNUSED, 22 | 1 << 8;
+}
+uint64_t caa_permitted_issuers(const uint8_t *a, size_t b, const uint8_t *c, size_t d, uint8_t *e, size_t f)
+{
+    return UNUSED, 32;
+}
+end
 # shellcheck disable=SC2086  # $strict is several words
-for source in examples/c/judge.c tools/caa-lines.c; do
-    "${CC:-cc}" -std=c99 -O2 $strict -Iinclude -o "$work/$(basename "$source" .c)" "$source" "$archive"
-done
+"${CC:-cc}" -std=c99 $strict -Iinclude -c -o "$work/later.o" "$work/later.c"
+ar rcs "$work/later/libsplinepearl.a" "$work/later.o"
+
+note "C"
+# build SOURCE LIBS PROGRAM
+build() {
+    # shellcheck disable=SC2086
+    "${CC:-cc}" -std=c99 -O2 $strict -Iinclude -o "$3" "$1" "$2/libsplinepearl.a"
+}
+build examples/c/judge.c "$libs" "$work/judge"
 expect 'verdict 21 name 1 record 3
 list of 1 in 16 octets
 ca2.example.org [1]' "$work/judge" "$whole"
@@ -56,12 +118,29 @@ ca1.example.net
 ca2.example.org [0]' "$work/judge" "$work/www"
 expect 'verdict 0
 anyone [0]' "$work/judge" "$work/anyone"
+expect 'verdict 20 name 0 record 0
+list of 0 in 0 octets [1]' "$work/judge" "$work/critical"
 expect 'refused 4 at 0
 list of 1 in 16 octets
-ca2.example.org [1]' "$work/judge" "$work/line-end"
+ca2.example.org [2]' "$work/judge" "$work/line-end"
 expect 'refused 6 at 3
-refused 6 at 3 [1]' "$work/judge" "$work/cut"
-expect 'no book [1]' "$work/judge" "$work/nothing"
+refused 6 at 3 [2]' "$work/judge" "$work/cut"
+expect 'refused 2 at 0
+refused 2 at 0 [2]' "$work/judge" "$work/no-request"
+for folder in nothing book-is-a-folder not-there; do
+    expect 'no book [2]' "$work/judge" "$work/$folder"
+done
+expect_status 2 to_full "$work/judge" "$work/anyone"
+expect_status 0 "$work/judge" --help
+expect_status 2 to_full "$work/judge" --help
+expect_status 2 "$work/judge"
+expect_status 2 "$work/judge" "$work/anyone" "$work/anyone"
+expect_status 2 "$work/judge" --not-known
+build examples/c/judge.c "$work/later" "$work/judge-later"
+expect 'unknown answer 22
+unknown answer 32 [2]' "$work/judge-later" "$work/anyone"
+
+build tools/caa-lines.c "$libs" "$work/caa-lines"
 expect '128 tbs "Unk\"\\\000n"
 refused 11 at 0 [0]' "$work/caa-lines" write <<< '8003544253556E6B225C006E
 0000'
@@ -69,29 +148,42 @@ expect '0005697373756563613B
 refused 9 at 0 [0]' "$work/caa-lines" read <<< '0 issue "ca;"
 256 issue x'
 
-# C++: the header alone
+build examples/c/stack.c "$libs" "$work/stack"
+"$work/stack"
+
 if command -v "${CXX:-c++}" > /dev/null; then
     # shellcheck disable=SC2086
     "${CXX:-c++}" -std=c++11 $strict -Iinclude -fsyntax-only -x c++ - <<< '#include "splinepearl.h"'
 else
-    echo "link: no C++ compiler, so the header is not tried in C++"
+    note "no C++ compiler, so the header is not tried in C++"
 fi
 
-# Rust
+note "Rust"
+# rust LIBS COMMAND WORDS..
 rust() {
-    local command=$1
-    shift
+    local libs=$1 command=$2
+    shift 2
     SPLINEPEARL_LIBS="$libs" cargo "$command" --quiet --offline --locked --manifest-path bindings/rust/Cargo.toml "$@"
 }
-rust test
-desk() {
-    rust run --example desk -- "$1"
-}
+rust "$libs" test
+desk() { rust "$libs" run --example desk -- "$@"; }
 expect 'verdict 21 name 1 record 3 [1]' desk "$whole"
 expect 'verdict 0 [0]' desk "$work/www"
 expect 'verdict 0 [0]' desk "$work/anyone"
-expect 'refused 4 at 0 [1]' desk "$work/line-end"
-expect 'refused 6 at 3 [1]' desk "$work/cut"
-expect 'no book [1]' desk "$work/nothing"
+expect 'verdict 20 name 0 record 0 [1]' desk "$work/critical"
+expect 'refused 4 at 0 [2]' desk "$work/line-end"
+expect 'refused 6 at 3 [2]' desk "$work/cut"
+expect 'refused 2 at 0 [2]' desk "$work/no-request"
+for folder in nothing book-is-a-folder not-there; do
+    expect 'no book [2]' desk "$work/$folder"
+done
+expect_status 2 to_full desk "$work/anyone"
+expect_status 0 desk --help
+expect_status 2 to_full desk --help
+expect_status 2 desk
+expect_status 2 desk "$work/anyone" "$work/anyone"
+expect_status 2 desk --not-known
+later_desk() { CARGO_TARGET_DIR="$work/cargo" rust "$work/later" run --example desk -- "$@"; }
+expect 'refused 22 at 1 [2]' later_desk "$work/anyone"
 
-echo "link: C and Rust give the whole case"
+echo "link: C and Rust give the expected lines and exit statuses"

@@ -1,28 +1,29 @@
 /*
- * Splinepearl: may this certificate authority sign? CAA by RFC 8659, proved.
+ * Splinepearl: may this certificate authority issue? CAA by RFC 8659, proved.
  *
- * Four calls of libsplinepearl.a, for x86-64 programs with the System V calling convention (Linux).
- * Each takes octets as a pointer and a length, checks them itself, and answers any octets whatever
- * with one number of 64 bits:
+ * The four calls of libsplinepearl.a, for programs on x86-64 Linux (System V calling convention). A
+ * call takes octets, each input as a pointer and a length. It accepts any octets, checks them itself,
+ * and returns one 64-bit answer:
  *
  *     bits 0 to 7     the number of the answer, one of enum caa_answer
  *     bits 8 to 31    field a
  *     bits 32 to 47   field b
- *     bits 48 to 63   field c, in use by no answer yet
+ *     bits 48 to 63   field c, not used yet
  *
- * The functions at the end take an answer apart. A field that an answer has no use for is 0; a later
- * release may use it, so don't compare whole answers, and take a number that you don't know as "don't
- * issue".
+ * The functions at the end of this file read the fields. A field that an answer doesn't use is 0. A
+ * later release may use it, so don't compare whole answers. Treat a number that you don't know as
+ * "don't issue".
  *
- * What the caller answers for:
+ * The caller's duties:
  *
- *   - Each pointer is good for its length: to read, and for `buffer` to write. It isn't null, even
- *     where the length is 0; any pointer that isn't null will do there.
- *   - `buffer` has no octet in common with what is read. What is read may overlap.
- *   - Nobody writes what is read, and nobody else reads or writes `buffer`, until the call returns.
+ *   - Each pointer is valid for its length: for reading, and `buffer` for writing. It is never null,
+ *     even if the length is 0.
+ *   - `buffer` overlaps no input. Inputs may overlap each other.
+ *   - Until the call returns, nobody writes to the inputs, and nobody else reads or writes `buffer`.
+ *   - There is enough stack: docs/ASSUMPTIONS.md has the figures.
  *
- * No call keeps a pointer or any state, so threads may call at once, each with a buffer of its own.
- * Nothing of `buffer` changes but what an answer says was written, and on a refusal nothing at all.
+ * A call keeps no pointer and no state. Threads may call at the same time, each with its own buffer.
+ * Only those octets of `buffer` change that the answer says were written; a refusal changes none.
  */
 #ifndef SPLINEPEARL_H
 #define SPLINEPEARL_H
@@ -34,44 +35,45 @@
 extern "C" {
 #endif
 
-/* The numbers of the answers. README.md says for each what to do about it. */
+/* The numbers of the answers. README.md says what to do about each. */
 enum caa_answer {
-    CAA_PERMITTED = 0,         /* judge: this issuer may sign */
-    CAA_MADE = 0,              /* write_line, read_line: made, at the front of buffer; a = its length */
+    CAA_PERMITTED = 0,         /* judge: this issuer may issue */
+    CAA_MADE = 0,              /* write_line, read_line: written to the start of buffer; a = length */
 
-    /* Refusals: what was handed in breaks a rule, and nothing was decided. a = the place, else 0. */
+    /* Refusals: an input breaks a rule, and nothing was decided. a is 0 unless it is named here. */
     CAA_REQUEST_TOO_LONG = 1,  /* request over 8,192 octets */
-    CAA_BAD_NAME = 2,          /* request empty, or a name breaks a rule; a = name number */
-    CAA_TOO_MANY_NAMES = 3,    /* octets remain after 100 good names; a = 100 */
-    CAA_BAD_ISSUER = 4,        /* issuer name breaks a rule */
+    CAA_BAD_NAME = 2,          /* request empty (a = 0), or a name breaks a rule; a = number of the name */
+    CAA_TOO_MANY_NAMES = 3,    /* octets are left after 100 valid names; a = 100 */
+    CAA_BAD_ISSUER = 4,        /* issuer domain name breaks a rule */
     CAA_BOOK_TOO_LONG = 5,     /* book over 32,768 octets */
-    CAA_BAD_RECORD = 6,        /* a record or its CAA data is laid out wrongly; a = record number */
-    CAA_TOO_MANY_RECORDS = 7,  /* octets remain after 256 good records; a = 256 */
+    CAA_BAD_RECORD = 6,        /* a record or its CAA data is malformed; a = number of the record */
+    CAA_TOO_MANY_RECORDS = 7,  /* octets are left after 256 valid records; a = 256 */
     CAA_NO_ROOM = 8,           /* buffer shorter than the output; a = octets needed */
     CAA_BAD_LINE = 9,          /* line breaks a rule */
     CAA_LINE_TOO_LONG = 10,    /* line over 16,384 octets, or data over 4,096 */
-    CAA_BAD_DATA = 11,         /* CAA data laid out wrongly, or its tag not letters and digits alone */
+    CAA_BAD_DATA = 11,         /* CAA data is malformed, or its tag isn't letters and digits only */
 
-    /* judge: this issuer may not sign. a = the lowest name not permitted, b = the record that says so */
-    CAA_UNKNOWN_CRITICAL = 20, /* an unknown tag is critical there; b = the first such record */
+    /* judge: this issuer may not issue. a = number of the first name not permitted, b = number of a record */
+    CAA_UNKNOWN_CRITICAL = 20, /* its tag is unknown and critical; b = the first such record */
     CAA_NOT_GRANTED = 21,      /* restricted, and not granted to this issuer; b = the first governing record */
 
     /* permitted_issuers */
     CAA_ANYONE = 30,           /* no requested name is restricted; nothing is written */
-    CAA_LIST = 31              /* those alone who are listed in buffer; a = octets, b = count; 0 is nobody */
+    CAA_LIST = 31              /* only those listed in buffer; a = octets, b = count; 0 is nobody */
 };
 
-/* A buffer this long is enough for any output of caa_read_line and caa_write_line. */
+/* Always enough: for the output of caa_read_line, and of caa_write_line. */
 #define CAA_MAX_DATA_OCTETS 4096
 #define CAA_MAX_LINE_OCTETS 16384
 
 /*
- * May `issuer` sign for every name of `request`, by the records of `book`? Don't issue unless the
+ * May `issuer` issue for every name of `request`, by the records of `book`? Don't issue unless the
  * number is CAA_PERMITTED.
  *
- *   request   1 to 100 names in wire form (RFC 1035), end to end
- *   issuer    the authority's issuer domain name as text, with no closing dot, zero or line end
- *   book      0 to 256 resource records in wire form without compression, end to end
+ *   request   1 to 100 DNS names in wire form (RFC 1035), one after the other; not a CSR
+ *   issuer    one issuer domain name of the CA, as text: no trailing dot, no zero octet, no line end
+ *   book      0 to 256 resource records in wire form without compression, one after the other. Their
+ *             CAA records are the answers to the lookups; a failed lookup is not an empty answer
  *
  * Answers 0, 20, 21, or a refusal 1 to 7.
  */
@@ -79,8 +81,9 @@ uint64_t caa_judge(const uint8_t *request, size_t request_len, const uint8_t *is
                    const uint8_t *book, size_t book_len);
 
 /*
- * Who may sign for every name of `request`? A list stands at the front of `buffer`: each issuer name
- * once, as a length octet and the name in small letters. A buffer as long as the book is always enough.
+ * Who may issue for every name of `request`? A list is written to the start of `buffer`: each issuer
+ * domain name once, as a length octet and the name in lower case. A buffer as long as the book is
+ * always enough.
  *
  * Answers 30, 31, or a refusal 1 to 3 or 5 to 8.
  */
@@ -88,16 +91,16 @@ uint64_t caa_permitted_issuers(const uint8_t *request, size_t request_len, const
                                uint8_t *buffer, size_t buffer_len);
 
 /*
- * CAA data (flags, tag length, tag, value) to its line of text, as `0 issue "ca1.example.net"`, with
- * the tag in small letters and no zero or line end behind it.
+ * Writes CAA data (flags, tag length, tag, value) as a line of text, such as
+ * `0 issue "ca1.example.net"`. The tag is written in lower case. No zero octet and no line end follows.
  *
  * Answers 0 with the line's length, or a refusal 8, 10 or 11.
  */
 uint64_t caa_write_line(const uint8_t *data, size_t data_len, uint8_t *buffer, size_t buffer_len);
 
 /*
- * A line of text to CAA data, the tag as it stands. No blank, zero or line end may stand before or
- * behind the line.
+ * Reads a line of text into CAA data; the tag keeps its letter case. No white space (space or tab), zero
+ * octet or line end may stand before or after the line.
  *
  * Answers 0 with the data's length, or a refusal 8, 9 or 10.
  */
@@ -109,13 +112,13 @@ static inline unsigned caa_number(uint64_t answer)
     return (unsigned)(answer & 0xFF);
 }
 
-/* Is it one of the numbered refusals? */
+/* Is it one of the refusals 1 to 11? */
 static inline int caa_is_refusal(uint64_t answer)
 {
     return caa_number(answer) >= CAA_REQUEST_TOO_LONG && caa_number(answer) <= CAA_BAD_DATA;
 }
 
-/* 1 to 11: the place, which for CAA_NO_ROOM is the number of octets needed. */
+/* 1 to 11: field a, the number that the refusal comes with: of a name, of a record, of octets needed. */
 static inline size_t caa_place(uint64_t answer)
 {
     return (size_t)(answer >> 8 & 0xFFFFFF);
@@ -127,7 +130,7 @@ static inline size_t caa_name_number(uint64_t answer)
     return (size_t)(answer >> 8 & 0xFFFFFF);
 }
 
-/* 20 and 21: the number of the record in the book, from 0; every record counts, CAA or not. */
+/* 20 and 21: the number of the record in the book, from 0. All records count, not only CAA. */
 static inline size_t caa_record_number(uint64_t answer)
 {
     return (size_t)(answer >> 32 & 0xFFFF);
@@ -139,21 +142,21 @@ static inline size_t caa_count(uint64_t answer)
     return (size_t)(answer >> 32 & 0xFFFF);
 }
 
-/* 31: how many octets the list takes at the front of the buffer. */
+/* 31: how many octets of the buffer the list takes. */
 static inline size_t caa_octets(uint64_t answer)
 {
     return (size_t)(answer >> 8 & 0xFFFFFF);
 }
 
-/* 0 from caa_write_line and caa_read_line: how many octets were made. */
+/* 0 from caa_write_line and caa_read_line: how many octets were written. */
 static inline size_t caa_length(uint64_t answer)
 {
     return (size_t)(answer >> 8 & 0xFFFFFF);
 }
 
 /*
- * The listed name at *at, in a list of that many octets, with its length in *length; null at the end.
- * Start with *at = 0; each call moves it on. The name has no zero behind it.
+ * Steps through a list of `octets` octets. Returns the name at offset *at, with its length in *length,
+ * and moves *at on; returns null at the end. Start with *at = 0. The name has no zero octet after it.
  */
 static inline const uint8_t *caa_next_issuer(const uint8_t *list, size_t octets, size_t *at, size_t *length)
 {

@@ -1,25 +1,36 @@
 /*
- * Judges the request.bin, issuer.txt and book.bin of a folder, then says who may issue:
+ * Judges request.bin, issuer.txt and book.bin of a folder, then says who may issue:
  *
  *     rt staticlib splinepearl
- *     cc -std=c99 -Iinclude -o judge examples/c/judge.c target/staticlib/libsplinepearl.a
- *     ./judge examples/whole-case
+ *     cc -std=c99 -Iinclude -o target/judge examples/c/judge.c target/staticlib/libsplinepearl.a
+ *     target/judge examples/whole-case
  *
- * The first line is the desk's. The exit status is 0 where the issuer may sign, 1 where it may not.
+ * The first line is the same as that of the desk program.
  */
 #include <stdio.h>
+#include <string.h>
 
 #include "splinepearl.h"
 
-/* Over every limit of the library: a file cut here is refused for its length all the same. */
+static const char usage[] =
+    "usage: judge FOLDER\n"
+    "\n"
+    "Judges request.bin, issuer.txt and book.bin in FOLDER, then says who may issue.\n"
+    "\n"
+    "Exit status: 0 permitted; 1 not permitted; 2 anything else: refused, no book, an answer that isn't\n"
+    "known, output that can't be written, wrong use.\n";
+
+enum status { PERMITTED = 0, NOT_PERMITTED = 1, NOTHING_DECIDED = 2 };
+
+/* Over every limit of the library: a file cut off here is still refused for its length. */
 #define MOST 65536
 
 static uint8_t request[MOST], issuer[MOST], book[MOST];
 
-/* As much as a list can need. */
+/* Longer than any book, so always long enough for a list. */
 static uint8_t buffer[MOST];
 
-/* Reads a file to its end or to MOST octets. Returns 0 where it can't be opened or read. */
+/* Reads a file to its end, or the first MOST octets of it. Returns 0 if it can't be opened or read. */
 static int read_file(const char *folder, const char *name, uint8_t *octets, size_t *length)
 {
     char path[4096];
@@ -40,24 +51,30 @@ static int read_file(const char *folder, const char *name, uint8_t *octets, size
     return whole;
 }
 
-static void print_refusal(uint64_t answer)
+/* What is left once the answers that a call gives are told. */
+static void print_other(uint64_t answer)
 {
-    printf("refused %u at %zu\n", caa_number(answer), caa_place(answer));
+    if (caa_is_refusal(answer)) {
+        printf("refused %u at %zu\n", caa_number(answer), caa_place(answer));
+    } else {
+        printf("unknown answer %u\n", caa_number(answer));
+    }
 }
 
-static void print_judgement(uint64_t answer)
+static enum status print_judgement(uint64_t answer)
 {
     switch (caa_number(answer)) {
     case CAA_PERMITTED:
         printf("verdict 0\n");
-        break;
+        return PERMITTED;
     case CAA_UNKNOWN_CRITICAL:
     case CAA_NOT_GRANTED:
         printf("verdict %u name %zu record %zu\n", caa_number(answer), caa_name_number(answer),
                caa_record_number(answer));
-        break;
+        return NOT_PERMITTED;
     default:
-        print_refusal(answer);
+        print_other(answer);
+        return NOTHING_DECIDED;
     }
 }
 
@@ -77,34 +94,49 @@ static void print_permitted_issuers(uint64_t answer)
         }
         break;
     default:
-        print_refusal(answer);
+        print_other(answer);
     }
+}
+
+static enum status judge(const char *folder)
+{
+    size_t request_len, issuer_len, book_len;
+    enum status status;
+
+    /* A part of a book could permit what the whole of it forbids. */
+    if (!read_file(folder, "book.bin", book, &book_len)) {
+        printf("no book\n");
+        return NOTHING_DECIDED;
+    }
+    /* An empty request and an empty issuer name are refused. */
+    if (!read_file(folder, "request.bin", request, &request_len)) {
+        request_len = 0;
+    }
+    if (!read_file(folder, "issuer.txt", issuer, &issuer_len)) {
+        issuer_len = 0;
+    }
+
+    status = print_judgement(caa_judge(request, request_len, issuer, issuer_len, book, book_len));
+    print_permitted_issuers(caa_permitted_issuers(request, request_len, book, book_len, buffer, sizeof buffer));
+    return status;
 }
 
 int main(int count, char **arguments)
 {
-    size_t request_len, issuer_len, book_len;
-    uint64_t answer;
+    enum status status;
 
-    if (count != 2) {
-        fprintf(stderr, "usage: judge FOLDER\n");
-        return 2;
+    if (count == 2 && (strcmp(arguments[1], "--help") == 0 || strcmp(arguments[1], "-h") == 0)) {
+        fputs(usage, stdout);
+        status = PERMITTED;
+    } else if (count != 2 || arguments[1][0] == '-') {
+        fputs(usage, stderr);
+        return NOTHING_DECIDED;
+    } else {
+        status = judge(arguments[1]);
     }
-    /* A book read in part could permit what the whole one forbids. */
-    if (!read_file(arguments[1], "book.bin", book, &book_len)) {
-        printf("no book\n");
-        return 1;
+    if (fflush(stdout) != 0 || ferror(stdout)) {
+        fprintf(stderr, "judge: the answer could not be written\n");
+        return NOTHING_DECIDED;
     }
-    /* What is empty is refused. */
-    if (!read_file(arguments[1], "request.bin", request, &request_len)) {
-        request_len = 0;
-    }
-    if (!read_file(arguments[1], "issuer.txt", issuer, &issuer_len)) {
-        issuer_len = 0;
-    }
-
-    answer = caa_judge(request, request_len, issuer, issuer_len, book, book_len);
-    print_judgement(answer);
-    print_permitted_issuers(caa_permitted_issuers(request, request_len, book, book_len, buffer, sizeof buffer));
-    return caa_number(answer) == CAA_PERMITTED ? 0 : 1;
+    return status;
 }

@@ -1,10 +1,11 @@
 //! The calls of libsplinepearl.a (include/splinepearl.h). All unsafe code of this crate is here.
 
-// What the library asks of a caller, and why these functions meet it with any arguments:
-// - A pointer is good for its length and not null, even where the length is 0: it is a slice's.
-// - A buffer has no octet in common with what is read: it is borrowed by `&mut`.
-// - Nobody writes what is read, or touches the buffer, until the call returns: both are borrowed for
-//   the call, and the library keeps no pointer after it.
+// The caller's duties (include/splinepearl.h), and why these functions fulfil them for all arguments:
+// - A pointer is valid for its length and never null, even if the length is 0: it comes from a slice.
+// - The buffer overlaps no input: it is borrowed by `&mut`.
+// - Until the call returns nobody writes to an input or touches the buffer: both are borrowed for the
+//   call, and the library keeps no pointer.
+// The stack is left to the program that uses this crate.
 #![allow(unsafe_code)]
 
 extern "C" {
@@ -43,7 +44,7 @@ pub fn judge(request: &[u8], issuer: &[u8], book: &[u8]) -> u64 {
 }
 
 pub fn permitted_issuers(request: &[u8], book: &[u8], buffer: &mut [u8]) -> u64 {
-    // SAFETY: two live slices, only read, and a buffer lent by `&mut`; see above.
+    // SAFETY: two live slices, only read, and a buffer borrowed by `&mut`; see above.
     unsafe {
         caa_permitted_issuers(
             request.as_ptr(),
@@ -57,11 +58,11 @@ pub fn permitted_issuers(request: &[u8], book: &[u8], buffer: &mut [u8]) -> u64 
 }
 
 pub fn write_line(data: &[u8], buffer: &mut [u8]) -> u64 {
-    // SAFETY: a live slice, only read, and a buffer lent by `&mut`; see above.
+    // SAFETY: a live slice, only read, and a buffer borrowed by `&mut`; see above.
     unsafe { caa_write_line(data.as_ptr(), data.len(), buffer.as_mut_ptr(), buffer.len()) }
 }
 
 pub fn read_line(line: &[u8], buffer: &mut [u8]) -> u64 {
-    // SAFETY: a live slice, only read, and a buffer lent by `&mut`; see above.
+    // SAFETY: a live slice, only read, and a buffer borrowed by `&mut`; see above.
     unsafe { caa_read_line(line.as_ptr(), line.len(), buffer.as_mut_ptr(), buffer.len()) }
 }

@@ -1,4 +1,4 @@
-//! Who may sign?
+//! Who may issue?
 
 use std::fmt;
 use std::iter::FusedIterator;
@@ -14,7 +14,7 @@ use crate::Refusal;
 pub enum PermittedIssuers<'a> {
     /// 30: no requested name is restricted. Nothing was written.
     Anyone,
-    /// 31: those who are listed, and nobody else. An empty list is nobody.
+    /// 31: the listed issuers and nobody else. An empty list means nobody.
     List(IssuerList<'a>),
     /// Nothing was decided, and nothing written.
     Refused(Refusal),
@@ -38,11 +38,11 @@ impl fmt::Display for PermittedIssuers<'_> {
     }
 }
 
-/// Who may sign for every name of `request`, by the records of `book`?
+/// Who may issue for every name of `request`, by the records of `book`?
 ///
-/// A list is written to the front of `buffer`; the rest of it stays, and without a list all of it
-/// does. A buffer as long as the book is always enough. [`judge`](crate::judge()) says what `request` and
-/// `book` hold.
+/// A list is written to the start of `buffer`. The rest of the buffer is not changed; without a list
+/// none of it is. A buffer as long as the book is always enough. [`judge`](crate::judge()) says what
+/// `request` and `book` hold.
 pub fn permitted_issuers<'a>(
     request: &[u8],
     book: &[u8],
@@ -59,7 +59,7 @@ pub fn permitted_issuers<'a>(
     }
 }
 
-/// The permitted issuer names, in small letters, each once, as they stand in the lent buffer.
+/// The permitted issuer domain names in lower case, each once, as they stand in the buffer.
 #[derive(Clone, Copy, Debug, PartialEq, Eq, Hash)]
 pub struct IssuerList<'a> {
     octets: &'a [u8],
@@ -67,7 +67,7 @@ pub struct IssuerList<'a> {
 }
 
 impl<'a> IssuerList<'a> {
-    /// `None` where no list of that count stands there, so that an iteration can't go wrong.
+    /// `None` if the buffer doesn't start with a list of that many names, so that iterating can't fail.
     fn at_front(buffer: &'a [u8], octets: usize, count: usize) -> Option<IssuerList<'a>> {
         let octets = buffer.get(..octets)?;
         let mut rest = octets;
@@ -82,12 +82,12 @@ impl<'a> IssuerList<'a> {
         self.count
     }
 
-    /// May nobody sign?
+    /// May nobody issue?
     pub fn is_empty(&self) -> bool {
         self.count == 0
     }
 
-    /// The list as it stands in the buffer: for each name a length octet and the name.
+    /// The list as it stands in the buffer: a length octet and the name, for each name.
     pub fn octets(&self) -> &'a [u8] {
         self.octets
     }
@@ -145,7 +145,7 @@ impl ExactSizeIterator for Issuers<'_> {}
 
 impl FusedIterator for Issuers<'_> {}
 
-/// The name at the front of a list, and what stands behind it.
+/// The first name of a list, and the rest of the list.
 fn first_entry(list: &[u8]) -> Option<(&str, &[u8])> {
     let (&length, rest) = list.split_first()?;
     let length = usize::from(length);

@@ -1,4 +1,4 @@
-//! May this issuer sign?
+//! May this issuer issue?
 
 use std::fmt;
 
@@ -6,26 +6,26 @@ use crate::foreign;
 use crate::word::Word;
 use crate::Refusal;
 
-/// The answer of [`judge`]: a verdict, or a refusal to decide. Issue on [`Judgement::Permitted`] alone.
+/// The answer of [`judge`]: a verdict, or a refusal to decide. Issue only on [`Judgement::Permitted`].
 ///
-/// Displayed as the desk's line, as `verdict 21 name 1 record 3`; `{:#}` adds the reason.
+/// Displayed as the line of the desk program, such as `verdict 21 name 1 record 3`. `{:#}` adds the reason.
 #[derive(Clone, Copy, Debug, PartialEq, Eq, Hash)]
 #[must_use = "anything but `Permitted` means: don't issue"]
 pub enum Judgement {
     /// Verdict 0: each name is unrestricted or granted to this issuer.
     Permitted,
-    /// Verdict 20: a record with an unknown tag and the critical flag forbids.
+    /// Verdict 20: a record with an unknown tag and the critical flag forbids issuance.
     UnknownCritical {
-        /// The lowest name number that isn't permitted, from 0.
+        /// The number of the first name that isn't permitted, from 0.
         name: usize,
-        /// The first unknown critical record of its relevant set, by its number in the book.
+        /// The number of the first unknown critical record in that name's relevant set, from 0 over the book.
         record: usize,
     },
     /// Verdict 21: a name is restricted, and not granted to this issuer.
     NotGranted {
-        /// The lowest name number that isn't permitted, from 0.
+        /// The number of the first name that isn't permitted, from 0.
         name: usize,
-        /// The first record that governs it, by its number in the book.
+        /// The number of the first record that governs it, from 0 over the book.
         record: usize,
     },
     /// Nothing was decided.
@@ -33,7 +33,7 @@ pub enum Judgement {
 }
 
 impl Judgement {
-    /// May this issuer sign?
+    /// May this issuer issue?
     pub fn is_permitted(self) -> bool {
         self == Judgement::Permitted
     }
@@ -98,12 +98,12 @@ impl fmt::Display for Judgement {
     }
 }
 
-/// May `issuer` sign for every name of `request`, by the records of `book`?
+/// May `issuer` issue for every name of `request`, by the records of `book`?
 ///
-/// - `request`: 1 to 100 names in wire form, end to end, at most 8,192 octets.
-/// - `issuer`: an issuer domain name as text, with no closing dot and no line end.
-/// - `book`: 0 to 256 resource records in wire form without compression, end to end, at most 32,768
-///   octets.
+/// - `request`: 1 to 100 DNS names in wire form, one after the other, at most 8,192 octets.
+/// - `issuer`: one issuer domain name of the CA, as text: no trailing dot, no line end.
+/// - `book`: 0 to 256 resource records in wire form without compression, one after the other, at most
+///   32,768 octets. A failed lookup is not an empty answer: don't judge without it.
 pub fn judge(request: &[u8], issuer: &[u8], book: &[u8]) -> Judgement {
     Judgement::of(Word::unpacked(foreign::judge(request, issuer, book)))
 }

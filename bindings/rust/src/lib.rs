@@ -1,15 +1,15 @@
-//! May this certificate authority sign? The CAA rules of RFC 8659, by a proved library.
+//! May this certificate authority issue? The CAA rules of RFC 8659, by a proved library.
 //!
-//! Four calls of `libsplinepearl.a`, made safe: octets in as slices, answers out as enums. Each takes
-//! any octets whatever and checks them itself; none panics, allocates, keeps state or reads anything
-//! but its parameters.
+//! Safe wrappers for the four calls of `libsplinepearl.a`: slices in, enums out. Each call accepts any
+//! octets and checks them itself. None panics, allocates, keeps state or reads anything but its
+//! parameters.
 //!
-//! - [`judge`]: may this issuer sign for these names, by these records?
+//! - [`judge`]: may this issuer issue for these names, by these records?
 //! - [`permitted_issuers`]: who may?
-//! - [`write_line`] and [`read_line`]: CAA data as its line of text, and back.
+//! - [`write_line`] and [`read_line`]: CAA data as a line of text, and back.
 //!
-//! Names in a request and records in a book stand in the wire form of RFC 1035, end to end, without
-//! compression:
+//! A request is a list of DNS names, not a CSR; a book is a list of resource records. Both are in the
+//! wire form of RFC 1035, one item after the other, without compression:
 //!
 //! ```
 //! use splinepearl::{judge, permitted_issuers, Judgement, PermittedIssuers};
@@ -36,12 +36,17 @@
 //!
 //! # Building
 //!
-//! The environment variable `SPLINEPEARL_LIBS` names, as an absolute path, the folder that holds
-//! `libsplinepearl.a` (`rt staticlib splinepearl` writes it to `target/staticlib`). The archive is for
-//! x86-64 Linux.
+//! Set the environment variable `SPLINEPEARL_LIBS` to the absolute path of the folder that holds
+//! `libsplinepearl.a`. `rt staticlib splinepearl` writes it to `target/staticlib`. It is for x86-64
+//! Linux.
+//!
+//! # Stack
+//!
+//! A call needs stack that this crate can't check: docs/ASSUMPTIONS.md of the repository has the
+//! figures.
 
 #![deny(missing_docs)]
-// Denied and not forbidden: `foreign` calls the library, and allows it for itself alone.
+// Denied, not forbidden: only `foreign`, which calls the library, allows it.
 #![deny(unsafe_code)]
 
 mod foreign;

@@ -6,20 +6,20 @@ use crate::foreign;
 use crate::word::Word;
 use crate::Refusal;
 
-/// The most octets of CAA data: a buffer this long is enough for [`read_line`].
+/// The most octets of CAA data. A buffer this long is always enough for [`read_line`].
 pub const MAX_DATA_OCTETS: usize = 4_096;
 
-/// The most octets of a line: a buffer this long is enough for [`write_line`].
+/// The most octets of a line. A buffer this long is always enough for [`write_line`].
 pub const MAX_LINE_OCTETS: usize = 16_384;
 
-/// CAA data (flags, tag length, tag, value) to its line of text, the tag in small letters.
+/// Writes CAA data (flags, tag length, tag, value) as a line of text. The tag is written in lower case.
 ///
-/// The line stands at the front of `buffer`, and the rest of it stays.
+/// The line is written to the start of `buffer`; the rest of the buffer is not changed.
 ///
 /// # Errors
 ///
 /// [`Refusal::LineTooLong`] for data over [`MAX_DATA_OCTETS`], [`Refusal::BadData`],
-/// [`Refusal::NoRoom`]. Nothing is then written.
+/// [`Refusal::NoRoom`]. Then nothing is written.
 ///
 /// ```
 /// let mut buffer = [0; splinepearl::MAX_LINE_OCTETS];
@@ -32,15 +32,15 @@ pub fn write_line<'a>(data: &[u8], buffer: &'a mut [u8]) -> Result<&'a str, Refu
     str::from_utf8(line).map_err(|_| word.refusal())
 }
 
-/// A line of text to CAA data, the tag as it stands. No blank or line end may stand before or behind
-/// the line.
+/// Reads a line of text into CAA data; the tag keeps its letter case. No white space (space or tab) and
+/// no line end may stand before or after the line.
 ///
-/// The data stands at the front of `buffer`, and the rest of it stays.
+/// The data is written to the start of `buffer`; the rest of the buffer is not changed.
 ///
 /// # Errors
 ///
 /// [`Refusal::LineTooLong`] for a line over [`MAX_LINE_OCTETS`] or data over [`MAX_DATA_OCTETS`],
-/// [`Refusal::BadLine`], [`Refusal::NoRoom`]. Nothing is then written.
+/// [`Refusal::BadLine`], [`Refusal::NoRoom`]. Then nothing is written.
 ///
 /// ```
 /// let mut buffer = [0; splinepearl::MAX_DATA_OCTETS];
@@ -52,7 +52,7 @@ pub fn read_line<'a>(line: &[u8], buffer: &'a mut [u8]) -> Result<&'a [u8], Refu
     made(word, buffer)
 }
 
-/// What was made at the front of the buffer.
+/// What was written to the start of the buffer.
 fn made(word: Word, buffer: &[u8]) -> Result<&[u8], Refusal> {
     match word.number {
         0 => buffer.get(..word.a).ok_or(word.refusal()),

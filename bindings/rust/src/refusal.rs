@@ -3,54 +3,54 @@
 use std::error::Error;
 use std::fmt;
 
-/// What was handed in breaks a rule, so nothing was decided and no lent octet changed.
+/// An input breaks a rule. Nothing was decided, and the buffer was not changed.
 ///
-/// Displayed as the desk's line, `refused 6 at 4`; `{:#}` adds the reason.
+/// Displayed as the line of the desk program, such as `refused 6 at 4`. `{:#}` adds the reason.
 #[derive(Clone, Copy, Debug, PartialEq, Eq, Hash)]
 #[non_exhaustive]
 pub enum Refusal {
     /// 1: the request is over 8,192 octets.
     RequestTooLong,
-    /// 2: the request is empty, or a name of it breaks a rule.
+    /// 2: the request is empty, or one of its names breaks a rule.
     BadName {
-        /// The number of that name, from 0; 0 where the request is empty.
+        /// The number of that name, from 0; 0 if the request is empty.
         name: usize,
     },
-    /// 3: octets remain after the names allowed.
+    /// 3: octets are left after the most names allowed.
     TooManyNames {
         /// How many names that is: 100.
         read: usize,
     },
-    /// 4: the issuer name breaks a rule.
+    /// 4: the issuer domain name breaks a rule.
     BadIssuer,
     /// 5: the book is over 32,768 octets.
     BookTooLong,
-    /// 6: a record, or its CAA data, is laid out wrongly.
+    /// 6: a record, or its CAA data, is malformed.
     BadRecord {
         /// The number of that record, from 0.
         record: usize,
     },
-    /// 7: octets remain after the records allowed.
+    /// 7: octets are left after the most records allowed.
     TooManyRecords {
         /// How many records that is: 256.
         read: usize,
     },
-    /// 8: the lent buffer is shorter than the output.
+    /// 8: the buffer is shorter than the output.
     NoRoom {
         /// How many octets the output takes.
         needed: usize,
     },
     /// 9: the line breaks a rule.
     BadLine,
-    /// 10: the line is over 16,384 octets, or the data given or made over 4,096.
+    /// 10: the line is over 16,384 octets, or the data (input or output) over 4,096.
     LineTooLong,
-    /// 11: the CAA data is laid out wrongly, or its tag holds more than letters and digits.
+    /// 11: the CAA data is malformed, or its tag has other octets than letters and digits.
     BadData,
-    /// An answer that this crate doesn't know, of a library that is newer. Don't issue.
+    /// An answer that this crate doesn't know, from a newer library. Don't issue.
     Unknown {
         /// The number of the answer.
         number: u8,
-        /// What stands where a refusal has its place.
+        /// The number after `at`.
         place: usize,
     },
 }
@@ -91,7 +91,7 @@ impl Refusal {
         }
     }
 
-    /// The one place of the refusal; 0 where it has no use for one.
+    /// The number after `at`: of a name, of a record, of octets needed; 0 if the refusal has none.
     pub fn place(self) -> usize {
         match self {
             Refusal::BadName { name } => name,
@@ -113,18 +113,18 @@ impl Refusal {
         match self {
             Refusal::RequestTooLong => "the request is over 8,192 octets",
             Refusal::BadName { .. } => "the request is empty, or this name breaks a rule",
-            Refusal::TooManyNames { .. } => "octets remain after the last name allowed",
-            Refusal::BadIssuer => "the issuer name breaks a rule",
+            Refusal::TooManyNames { .. } => "octets are left after the most names allowed",
+            Refusal::BadIssuer => "the issuer domain name breaks a rule",
             Refusal::BookTooLong => "the book is over 32,768 octets",
-            Refusal::BadRecord { .. } => "this record, or its CAA data, is laid out wrongly",
-            Refusal::TooManyRecords { .. } => "octets remain after the last record allowed",
+            Refusal::BadRecord { .. } => "this record, or its CAA data, is malformed",
+            Refusal::TooManyRecords { .. } => "octets are left after the most records allowed",
             Refusal::NoRoom { .. } => "the buffer is shorter than the octets needed",
             Refusal::BadLine => "the line breaks a rule",
             Refusal::LineTooLong => "the line is over 16,384 octets, or its data over 4,096",
             Refusal::BadData => {
-                "the CAA data is laid out wrongly, or its tag isn't letters and digits alone"
+                "the CAA data is malformed, or its tag isn't letters and digits only"
             }
-            Refusal::Unknown { .. } => "an answer of a newer library; don't issue",
+            Refusal::Unknown { .. } => "an answer from a newer library; don't issue",
         }
     }
 }
@@ -163,7 +163,7 @@ mod tests {
         assert_eq!(refusal.to_string(), "refused 6 at 4");
         assert_eq!(
             format!("{refusal:#}"),
-            "refused 6 at 4: this record, or its CAA data, is laid out wrongly"
+            "refused 6 at 4: this record, or its CAA data, is malformed"
         );
     }
 }

@@ -1,9 +1,9 @@
-//! The one number of 64 bits that every call answers with.
+//! The 64-bit answer of every call.
 
 use crate::Refusal;
 
-/// Number in bits 0 to 7, `a` in bits 8 to 31, `b` in bits 32 to 47. Bits 48 to 63 are in use by no
-/// answer yet.
+/// The number in bits 0 to 7, field `a` in bits 8 to 31, `b` in bits 32 to 47. Bits 48 to 63 are not
+/// used yet.
 #[derive(Clone, Copy, Debug, PartialEq, Eq)]
 pub struct Word {
     pub number: u8,
@@ -20,7 +20,7 @@ impl Word {
         }
     }
 
-    /// What the word says where it isn't an answer that the caller looks for.
+    /// What is left once the answers that a call gives are told.
     pub fn refusal(self) -> Refusal {
         Refusal::of(self.number, self.a)
     }

@@ -1,4 +1,4 @@
-//! Every numbered refusal, with its place, and both sides of its edge where it has one.
+//! Every numbered refusal, with the number that goes with it, and both sides of its limit if it has one.
 
 mod common;
 
@@ -120,7 +120,7 @@ fn lines() {
         read_line(&[b'0'; MAX_LINE_OCTETS + 1], &mut buffer),
         Err(Refusal::LineTooLong)
     );
-    // Data of 4,096 octets has 4,093 of a value behind a tag of one octet.
+    // Data of 4,096 octets has a value of 4,093 octets after a tag of one octet.
     let line = |length| format!("0 t {}", "x".repeat(length));
     assert_eq!(
         read_line(line(4_094).as_bytes(), &mut buffer),

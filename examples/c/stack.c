@@ -1,0 +1,383 @@
+/*
+ * Measures how much stack each call of the library takes:
+ *
+ *     rt staticlib splinepearl
+ *     cc -std=c99 -O2 -Iinclude -o target/stack examples/c/stack.c target/staticlib/libsplinepearl.a
+ *     target/stack
+ *
+ * Each call runs on a stack of its own, filled with one octet before; what it changed is what it took.
+ * The inputs are the longest that are accepted, one for each refusal, and 5,000 of each kind with
+ * octets changed at random. The figure is the most that was seen; it isn't proved. The exit status is 1
+ * if it is over what docs/ASSUMPTIONS.md says.
+ */
+#define _XOPEN_SOURCE 600
+#include <stdio.h>
+#include <stdlib.h>
+#include <string.h>
+#include <ucontext.h>
+
+#include "splinepearl.h"
+
+enum { STACK = 262144, BLOCK = 4096, MOST = 65536, CHANGED = 5000 };
+
+/* What docs/ASSUMPTIONS.md says. */
+enum { ENOUGH = 1024, ENOUGH_FOR_LIST = 40960 };
+
+static uint8_t stack[STACK];
+static ucontext_t here, there;
+
+/* What the call under test is given. */
+struct octets {
+    uint8_t at[MOST];
+    size_t length;
+};
+static struct octets request, issuer, book, line;
+static uint8_t buffer[MOST];
+
+static uint64_t answer;
+
+static void call_nothing(void) { }
+static void call_judge(void)
+{
+    answer = caa_judge(request.at, request.length, issuer.at, issuer.length, book.at, book.length);
+}
+static void call_list(void)
+{
+    answer = caa_permitted_issuers(request.at, request.length, book.at, book.length, buffer, sizeof buffer);
+}
+static void call_write(void) { answer = caa_write_line(line.at, line.length, buffer, sizeof buffer); }
+static void call_read(void) { answer = caa_read_line(line.at, line.length, buffer, sizeof buffer); }
+
+/* How many octets of the stack a call changes, filled with `fill` before. */
+static size_t changed(void (*call)(void), int fill)
+{
+    uint8_t filled[BLOCK];
+    size_t untouched = 0;
+
+    memset(filled, fill, sizeof filled);
+    memset(stack, fill, sizeof stack);
+    if (getcontext(&there) != 0) {
+        perror("stack");
+        exit(2);
+    }
+    there.uc_stack.ss_sp = stack;
+    there.uc_stack.ss_size = sizeof stack;
+    there.uc_link = &here;
+    makecontext(&there, call, 0);
+    if (swapcontext(&here, &there) != 0) {
+        perror("stack");
+        exit(2);
+    }
+    while (untouched < sizeof stack && memcmp(stack + untouched, filled, BLOCK) == 0) {
+        untouched += BLOCK;
+    }
+    if (untouched == 0) {
+        fprintf(stderr, "stack: a call took all of it\n");
+        exit(2);
+    }
+    while (untouched < sizeof stack && stack[untouched] == (uint8_t)fill) {
+        untouched++;
+    }
+    return sizeof stack - untouched;
+}
+
+/* The stack that a call takes, beyond what it takes to call nothing. Two fills, since a call may write one of them. */
+static size_t taken(void (*call)(void))
+{
+    static size_t nothing;
+    size_t one, other;
+
+    if (nothing == 0) {
+        nothing = changed(call_nothing, 0xA5);
+        /* the first call of all also takes what the dynamic linker needs to find memcpy */
+        call();
+    }
+    one = changed(call, 0xA5);
+    other = changed(call, 0x5A);
+    return (one > other ? one : other) - nothing;
+}
+
+static void clear(struct octets *to) { to->length = 0; }
+static void put(struct octets *to, const void *octets, size_t length)
+{
+    if (length > MOST - to->length) {
+        fprintf(stderr, "stack: an input is too long\n");
+        exit(2);
+    }
+    memcpy(to->at + to->length, octets, length);
+    to->length += length;
+}
+static void put_octet(struct octets *to, unsigned octet)
+{
+    const uint8_t one = (uint8_t)octet;
+
+    put(to, &one, 1);
+}
+static void put_text(struct octets *to, const char *text) { put(to, text, strlen(text)); }
+
+/* A name in wire form, from its labels joined by dots. */
+static void put_name(struct octets *to, const char *text)
+{
+    while (*text != '\0') {
+        const size_t length = strcspn(text, ".");
+
+        put_octet(to, (unsigned)length);
+        put(to, text, length);
+        text += length + (text[length] == '.');
+    }
+    put_octet(to, 0);
+}
+
+static void put_caa(struct octets *to, const char *owner, unsigned flags, const char *tag, const char *value)
+{
+    const size_t length = 2 + strlen(tag) + strlen(value);
+
+    put_name(to, owner);
+    put(to, "\1\1\0\1\0\0\0\0", 8);
+    put_octet(to, (unsigned)(length >> 8));
+    put_octet(to, (unsigned)(length & 0xFF));
+    put_octet(to, flags);
+    put_octet(to, (unsigned)strlen(tag));
+    put_text(to, tag);
+    put_text(to, value);
+}
+
+static void put_many(struct octets *to, const char *text, int times)
+{
+    while (times-- > 0) {
+        put_text(to, text);
+    }
+}
+
+/* `count` names over `labels` labels of one letter below example.com; every second one a wildcard. */
+static void make_request(int count, int labels)
+{
+    int i, n;
+
+    clear(&request);
+    for (n = 0; n < count; n++) {
+        char name[300] = "";
+
+        strcat(name, n % 2 == 1 ? "*." : "");
+        for (i = 0; i < labels; i++) {
+            strcat(name, "a.");
+        }
+        strcat(name, n % 3 == 0 ? "pay.example.com" : "example.com");
+        put_name(&request, name);
+    }
+}
+
+/* `count` records in turn at the owners, each granting an issuer of its own, with parameters behind its name. */
+static void make_book(int count, const char *first, const char *second, const char *tag)
+{
+    int n;
+
+    clear(&book);
+    for (n = 0; n < count; n++) {
+        char value[64];
+
+        snprintf(value, sizeof value, " ca%d.example.net ; a=1 ; b = %d", n / 2, n);
+        put_caa(&book, n % 2 == 0 ? first : second, 0, tag, value);
+    }
+}
+
+static uint32_t random_below(uint32_t limit)
+{
+    static uint64_t state = 88172645463325252u;
+
+    state ^= state << 13;
+    state ^= state >> 7;
+    state ^= state << 17;
+    return (uint32_t)(state >> 33) % limit;
+}
+
+static void change_some(struct octets *of)
+{
+    uint32_t times = 1 + random_below(3);
+
+    while (of->length > 0 && times-- > 0) {
+        of->at[random_below((uint32_t)of->length)] = (uint8_t)random_below(256);
+    }
+}
+
+static size_t most_judge, most_list, most_write, most_read;
+
+static void note(size_t *most, void (*call)(void))
+{
+    const size_t now = taken(call);
+
+    if (now > *most) {
+        *most = now;
+    }
+}
+
+static void ask_book(void)
+{
+    note(&most_judge, call_judge);
+    note(&most_list, call_list);
+}
+
+static void ask_line(void)
+{
+    note(&most_write, call_write);
+    note(&most_read, call_read);
+}
+
+static void ask_changed_book(void)
+{
+    const struct octets good_request = request, good_book = book;
+    int n;
+
+    for (n = 0; n < CHANGED; n++) {
+        change_some(n % 4 == 0 ? &request : &book);
+        ask_book();
+        memcpy(&request, &good_request, sizeof request);
+        memcpy(&book, &good_book, sizeof book);
+    }
+}
+
+static void ask_changed_line(void)
+{
+    const struct octets good = line;
+    int n;
+
+    for (n = 0; n < CHANGED; n++) {
+        change_some(&line);
+        ask_line();
+        memcpy(&line, &good, sizeof line);
+    }
+}
+
+/* Fails where an input isn't what it is meant to be: `number` is the answer that it has to give. */
+static void expect(void (*call)(void), unsigned number)
+{
+    call();
+    if (caa_number(answer) != number) {
+        fprintf(stderr, "stack: an input gives the answer %u and not %u\n", caa_number(answer), number);
+        exit(2);
+    }
+}
+
+static void books(void)
+{
+    static const char *const tags[] = {"issue", "issuewild"};
+    int tag;
+
+    clear(&issuer);
+    put_text(&issuer, "ca1.example.net");
+
+    /* the longest that are accepted: many names and records, deep names, many issuers listed */
+    for (tag = 0; tag < 2; tag++) {
+        make_request(100, 10);
+        make_book(256, "example.com", "pay.example.com", tags[tag]);
+        expect(call_judge, CAA_PERMITTED);
+        expect(call_list, CAA_LIST);
+        ask_book();
+        make_book(256, "com", "com", tags[tag]);
+        ask_book();
+        make_request(30, 110);
+        expect(call_judge, CAA_PERMITTED);
+        ask_book();
+        make_book(256, "com", "example.org", tags[tag]);
+        issuer.at[2] = '9';
+        ask_book();
+        make_book(18, "com", "example.org", tags[tag]);
+        expect(call_judge, CAA_NOT_GRANTED);
+        ask_book();
+        issuer.at[2] = '1';
+    }
+    clear(&book);
+    expect(call_judge, CAA_PERMITTED);
+    expect(call_list, CAA_ANYONE);
+    ask_book();
+    put_caa(&book, "example.com", 128, "tbs", "Unknown");
+    expect(call_judge, CAA_UNKNOWN_CRITICAL);
+    ask_book();
+
+    /* one for each refusal */
+    request.at[0] = 64;
+    expect(call_judge, CAA_BAD_NAME);
+    ask_book();
+    make_request(101, 1);
+    expect(call_judge, CAA_TOO_MANY_NAMES);
+    ask_book();
+    request.length = 8193;
+    expect(call_judge, CAA_REQUEST_TOO_LONG);
+    ask_book();
+    make_request(3, 3);
+    put_text(&issuer, ".");
+    expect(call_judge, CAA_BAD_ISSUER);
+    ask_book();
+    issuer.length--;
+    make_book(257, "example.com", "com", "issue");
+    expect(call_judge, CAA_TOO_MANY_RECORDS);
+    ask_book();
+    book.length -= 100;
+    expect(call_judge, CAA_BAD_RECORD);
+    ask_book();
+    book.length = 32769;
+    expect(call_judge, CAA_BOOK_TOO_LONG);
+    ask_book();
+
+    make_request(4, 3);
+    make_book(8, "example.com", "pay.example.com", "issue");
+    ask_changed_book();
+}
+
+static void lines(void)
+{
+    clear(&line);
+    put_text(&line, "255 issue \"");
+    put_many(&line, "\\255", 4000);
+    put_text(&line, "\"");
+    expect(call_read, CAA_MADE);
+    ask_line();
+    clear(&line);
+    put_text(&line, "007 \t issue \t a\\ b\\;");
+    expect(call_read, CAA_MADE);
+    ask_line();
+    ask_changed_line();
+    put_text(&line, "(");
+    expect(call_read, CAA_BAD_LINE);
+    ask_line();
+    line.length = 16385;
+    expect(call_read, CAA_LINE_TOO_LONG);
+    ask_line();
+
+    clear(&line);
+    put_text(&line, "\377\5ISSUE");
+    put_many(&line, "\377\"\\a", 1000);
+    expect(call_write, CAA_MADE);
+    ask_line();
+    ask_changed_line();
+    line.at[1] = 0;
+    expect(call_write, CAA_BAD_DATA);
+    ask_line();
+    line.length = 4097;
+    expect(call_write, CAA_LINE_TOO_LONG);
+    ask_line();
+}
+
+/* Returns 1 if a call took more than enough. */
+static int tell(const char *call, size_t most, size_t enough)
+{
+    printf("%s: %zu octets of stack, %zu allowed\n", call, most, enough);
+    return most > enough;
+}
+
+int main(int count, char **arguments)
+{
+    int over;
+
+    if (count != 1) {
+        fprintf(stderr, "usage: %s\n", arguments[0]);
+        return 2;
+    }
+    books();
+    lines();
+    over = tell("caa_judge", most_judge, ENOUGH);
+    over |= tell("caa_permitted_issuers", most_list, ENOUGH_FOR_LIST);
+    over |= tell("caa_write_line", most_write, ENOUGH);
+    over |= tell("caa_read_line", most_read, ENOUGH);
+    return fflush(stdout) == 0 ? over : 2;
+}
