@@ -14,8 +14,8 @@ use Rattle.spec_line.specs.declared.LineAnswer.the-variants.{Length}
 use Rattle.spec_line.specs.Read.{unescaped}
 use Rattle.spec_line.specs.Calls.{refused, placed, readOf}
 use Rattle.spec_line.proofs.Placed.{placed-there, placed-nowhere}
-use Rattle.line_unit.specs.declared.Style.{Style}
-use Rattle.line_unit.specs.Places.{plainIn}
+use Rattle.line_octet.specs.declared.Style.{Style}
+use Rattle.line_octet.specs.Places.{plainIn}
 use Rattle.line_data.specs.declared.UnescapedCount.{UnescapedCount}
 use Rattle.line_data.specs.declared.UnescapedCount.the-variants.{Units, Fault as NoCount}
 use Rattle.line_data.specs.Places.{countRead, unescapedCount, isEscapedText, octetsIn, unescapedOctets, dataOf, taggedProperty, writeData}

@@ -14,12 +14,12 @@ use mir.Val.{Fits}
 use Rattle.spec_octets.specs.Buffer.{Put}
 use Rattle.text_buffer.proofs.LentRest.{put-octet}
 use Rattle.spec_line.specs.Read.{unescaped}
-use Rattle.line_unit.specs.declared.Style.{Style}
-use Rattle.line_unit.specs.declared.WrittenOctetAt.{WrittenOctetAt}
-use Rattle.line_unit.specs.declared.WrittenOctetRead.{WrittenOctetRead}
-use Rattle.line_unit.specs.declared.WrittenOctetRead.the-variants.{Good, Fault}
-use Rattle.line_unit.specs.Places.{plainIn, writtenOctetAt}
-use Rattle.line_unit.proofs.UnitWalk.{joined, joined-twice, unescapedLeft, left-over, UnitTo, unit-there, unit-missing}
+use Rattle.line_octet.specs.declared.Style.{Style}
+use Rattle.line_octet.specs.declared.WrittenOctetAt.{WrittenOctetAt}
+use Rattle.line_octet.specs.declared.WrittenOctetRead.{WrittenOctetRead}
+use Rattle.line_octet.specs.declared.WrittenOctetRead.the-variants.{Good, Fault}
+use Rattle.line_octet.specs.Places.{plainIn, writtenOctetAt}
+use Rattle.line_octet.proofs.UnitWalk.{joined, joined-twice, unescapedLeft, left-over, UnitTo, unit-there, unit-missing}
 use Rattle.line_data.specs.declared.UnescapedCount.{UnescapedCount}
 use Rattle.line_data.specs.declared.UnescapedCount.the-variants.{Units, Fault as NoCount}
 use Rattle.line_data.specs.Places.{countRead, unescapedCount, isEscapedText, unescapedOctets}

@@ -10,8 +10,8 @@ use Rattle.spec_record.specs.Property.{Property, wireProperty}
 use Rattle.spec_record.specs.Records.{isSome}
 use Rattle.spec_line.specs.Read.{unescaped}
 use Rattle.spec_line.specs.Calls.{Output, readOf}
-use Rattle.line_unit.specs.declared.Style.{Style}
-use Rattle.line_unit.specs.Places.{plainIn}
+use Rattle.line_octet.specs.declared.Style.{Style}
+use Rattle.line_octet.specs.Places.{plainIn}
 use Rattle.line_data.specs.declared.UnescapedCount.{UnescapedCount}
 use Rattle.line_data.specs.declared.UnescapedCount.the-variants.{Units, Fault as NoCount}
 

@@ -1,6 +1,6 @@
 // The CAA data of a property, given by its flags, its tag and the units of a line that stand for its value.
-use line_unit::Style;
-use line_unit::WrittenOctetRead;
+use line_octet::Style;
+use line_octet::WrittenOctetRead;
 use spec_limits::MAX_DATA_OCTETS;
 use spec_limits::MAX_TAG_OCTETS;
 use spec_line::LineAnswer;
@@ -25,7 +25,7 @@ fn count_unescaped(s: &[u8], style: Style) -> UnescapedCount
     let mut at: usize = 0;
     let mut n: usize = 0;
     while at < s.len() {
-        let WrittenOctetRead::Good(u) = line_unit::read_written_octet(s, at, style) else {
+        let WrittenOctetRead::Good(u) = line_octet::read_written_octet(s, at, style) else {
             return UnescapedCount::Fault;
         };
         at = u.next;
@@ -43,7 +43,7 @@ fn put_unescaped(s: &[u8], style: Style, out: &mut [u8]) -> usize
     let mut at: usize = 0;
     let mut w: usize = 0;
     while at < s.len() {
-        let WrittenOctetRead::Good(u) = line_unit::read_written_octet(s, at, style) else {
+        let WrittenOctetRead::Good(u) = line_octet::read_written_octet(s, at, style) else {
             return w;
         };
         out[w] = u.octet;

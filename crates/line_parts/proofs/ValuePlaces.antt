@@ -14,8 +14,8 @@ use Rattle.spec_octets.specs.Lists.{ends}
 use Rattle.text_compare.proofs.LabelTests.{ends-at}
 use Rattle.spec_line.specs.Written.{quote}
 use Rattle.spec_line.specs.Read.{unescaped, isInQuotes, isBare, lineValue}
-use Rattle.line_unit.specs.declared.Style.the-variants.{Quoted, Bare}
-use Rattle.line_unit.specs.Places.{plainIn}
+use Rattle.line_octet.specs.declared.Style.the-variants.{Quoted, Bare}
+use Rattle.line_octet.specs.Places.{plainIn}
 use Rattle.line_parts.specs.declared.LineValueAt.{LineValueAt}
 use Rattle.line_parts.specs.declared.LineValueRead.{LineValueRead}
 use Rattle.line_parts.specs.declared.LineValueRead.the-variants.{Good, Fault}

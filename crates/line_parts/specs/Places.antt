@@ -10,7 +10,7 @@ use Rattle.spec_octets.specs.Decimal.{decimalOctet}
 use Rattle.spec_octets.specs.Reader.{ifRead, placeOf}
 use Rattle.spec_line.specs.Written.{quote}
 use Rattle.spec_line.specs.Read.{field, isLineTag}
-use Rattle.line_unit.specs.declared.Style.the-variants.{Quoted, Bare}
+use Rattle.line_octet.specs.declared.Style.the-variants.{Quoted, Bare}
 use Rattle.line_parts.specs.declared.LineRead.{LineRead}
 use Rattle.line_parts.specs.declared.LineRead.the-variants.{Good as GoodLine, Fault as NoLine}
 use Rattle.line_parts.specs.declared.LineValueRead.{LineValueRead}

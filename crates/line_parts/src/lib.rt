@@ -1,6 +1,6 @@
 // The parts of a line by their places: its flags and tag, and what stands for its value.
 use line_fields::FieldRead;
-use line_unit::Style;
+use line_octet::Style;
 use spec_limits::MAX_TAG_OCTETS;
 use text_classes::Class;
 use text_decimal::OctetRead;

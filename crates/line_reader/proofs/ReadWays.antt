@@ -15,7 +15,7 @@ use Rattle.spec_octets.specs.Octets.{isLetterOrDigit}
 use Rattle.spec_line.specs.declared.LineAnswer.{LineAnswer}
 use Rattle.spec_line.specs.Read.{unescaped, lineValue, isLineTag, readLine, propertyOf}
 use Rattle.spec_line.specs.Calls.{refused, readOf, parseLine}
-use Rattle.line_unit.specs.Places.{plainIn}
+use Rattle.line_octet.specs.Places.{plainIn}
 use Rattle.line_parts.specs.declared.LineAt.{LineAt}
 use Rattle.line_parts.specs.declared.LineRead.{LineRead}
 use Rattle.line_parts.specs.declared.LineRead.the-variants.{Good as GoodLine, Fault as NoLine}

@@ -2,7 +2,7 @@
 use Prim.Native.Nat.{_-_}
 use lib.ListN.{length}
 use borrow.Author.Needs.{needs}
-use Rattle.line_unit.proofs.UnitWalk.{unit-less}
+use Rattle.line_octet.proofs.UnitWalk.{unit-less}
 use Rattle.line_data.proofs.UnitLoops.{Counted, count-start, count-fault, count-turn, count-end}
 use Rattle.line_data.proofs.count_unescaped.Statement.{statement}
 use Rattle.line_data.proofs.count_unescaped.Tie as tie

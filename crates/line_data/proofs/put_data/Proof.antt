@@ -7,8 +7,8 @@ use Rattle.line_data.proofs.put_data.Tie as tie
 put-tag-requires : tie.Need-put-tag-requires
 put-tag-requires c κs = search (needs, head-room)
 
-sub-put-units : tie.Need-sub-put-units
-sub-put-units c = search (needs, value-from)
+sub-put-unescaped : tie.Need-sub-put-unescaped
+sub-put-unescaped c = search (needs, value-from)
 
 part-put-unescaped-start : tie.Need-part-put-unescaped-start
 part-put-unescaped-start c = search (needs, value-from)
@@ -33,7 +33,7 @@ put-data-spec =
     tie.close
     (tie.spec
     put-tag-requires
-    sub-put-units
+    sub-put-unescaped
     part-put-unescaped-start
     part-put-unescaped-end
     put-unescaped-requires

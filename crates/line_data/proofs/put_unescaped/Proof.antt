@@ -2,7 +2,7 @@
 use Prim.Native.Nat.{_-_}
 use lib.ListN.{length}
 use borrow.Author.Needs.{needs}
-use Rattle.line_unit.proofs.UnitWalk.{unit-less}
+use Rattle.line_octet.proofs.UnitWalk.{unit-less}
 use Rattle.line_data.proofs.UnitLoops.{fill-fits, Filled, fill-start, fill-fault, fill-room, fill-turn, fill-end}
 use Rattle.line_data.proofs.put_unescaped.Statement.{statement}
 use Rattle.line_data.proofs.put_unescaped.Tie as tie

@@ -44,7 +44,7 @@ returns-4 c = told (writeData _ _ _) _ _ (refused (NoRoom _) _) (search (needs, 
 
 put-data-requires : tie.Need-put-data-requires
 put-data-requires c κs =
-    let counted = c .before .before .before .before .before .before .count-units .ensures in
+    let counted = c .before .before .before .before .before .before .count-unescaped .ensures in
     let n = c .before .before .before .before .k .given .0 .0 in
     (search (needs, short-tag), (are-units _ _ _ counted n (search needs), rw (counts _ _ _ counted n (search needs)) (c .before .if3 .left)))
 

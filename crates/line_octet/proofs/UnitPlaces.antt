@@ -18,10 +18,10 @@ use Rattle.text_decimal.specs.declared.OctetRead.{OctetRead}
 use Rattle.text_decimal.specs.declared.OctetRead.the-variants.{Good as GoodOctet, Fault as NoOctet}
 use Rattle.text_decimal.specs.Places.{decimalIn}
 use Rattle.text_decimal.proofs.DecimalWalk.{octet-there, octet-missing}
-use Rattle.line_unit.specs.declared.Style.{Style}
-use Rattle.line_unit.specs.declared.WrittenOctetRead.{WrittenOctetRead}
-use Rattle.line_unit.specs.declared.WrittenOctetRead.the-variants.{Good, Fault}
-use Rattle.line_unit.specs.Places.{plainIn, escapeAt, writtenOctetAt}
+use Rattle.line_octet.specs.declared.Style.{Style}
+use Rattle.line_octet.specs.declared.WrittenOctetRead.{WrittenOctetRead}
+use Rattle.line_octet.specs.declared.WrittenOctetRead.the-variants.{Good, Fault}
+use Rattle.line_octet.specs.Places.{plainIn, escapeAt, writtenOctetAt}
 
 -- an octet that stands for itself between quotes does so bare too, but for a few
 pub bare-in-quotes :

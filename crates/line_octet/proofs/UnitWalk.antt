@@ -11,11 +11,11 @@ use Rattle.spec_octets.specs.Items.{Items, whole, broken, over, follow, before,
 use Rattle.spec_line.specs.Read.{WrittenOctet, plain, quoted, numbered, valueOf, writtenOctet, values, unescaped}
 use Rattle.spec_line.specs.Grammar.{asWritten}
 use Rattle.spec_line.proofs.Units.{unit-reads}
-use Rattle.line_unit.specs.declared.Style.{Style}
-use Rattle.line_unit.specs.declared.WrittenOctetAt.{WrittenOctetAt}
-use Rattle.line_unit.specs.declared.WrittenOctetRead.{WrittenOctetRead}
-use Rattle.line_unit.specs.declared.WrittenOctetRead.the-variants.{Good, Fault}
-use Rattle.line_unit.specs.Places.{plainIn, writtenOctetPlaces, writtenOctetAt}
+use Rattle.line_octet.specs.declared.Style.{Style}
+use Rattle.line_octet.specs.declared.WrittenOctetAt.{WrittenOctetAt}
+use Rattle.line_octet.specs.declared.WrittenOctetRead.{WrittenOctetRead}
+use Rattle.line_octet.specs.declared.WrittenOctetRead.the-variants.{Good, Fault}
+use Rattle.line_octet.specs.Places.{plainIn, writtenOctetPlaces, writtenOctetAt}
 
 -- octets put before those that follow, if these can be read
 abbrev pub joined : List ℕ → Option (List ℕ) → Option (List ℕ)

@@ -2,9 +2,9 @@
 use borrow.Author.Needs.{needs}
 use Rattle.spec_octets.proofs.Tests.{tests}
 use Rattle.spec_line.specs.Read.{isBare}
-use Rattle.line_unit.proofs.UnitPlaces.{bare-in-quotes}
-use Rattle.line_unit.proofs.is_bare.Statement.{statement}
-use Rattle.line_unit.proofs.is_bare.Tie as tie
+use Rattle.line_octet.proofs.UnitPlaces.{bare-in-quotes}
+use Rattle.line_octet.proofs.is_bare.Statement.{statement}
+use Rattle.line_octet.proofs.is_bare.Tie as tie
 
 returns : tie.Need-returns
 unfolding isBare

@@ -1,7 +1,7 @@
 -- `stands_for_itself` meets its contract: each arm knows the style.
 use borrow.Author.Needs.{needs}
-use Rattle.line_unit.proofs.stands_for_itself.Statement.{statement}
-use Rattle.line_unit.proofs.stands_for_itself.Tie as tie
+use Rattle.line_octet.proofs.stands_for_itself.Statement.{statement}
+use Rattle.line_octet.proofs.stands_for_itself.Tie as tie
 
 enum-told : tie.Need-enum-told
 enum-told c = search needs

@@ -6,10 +6,10 @@ use mathlib.Core.Option.{Option, none, some}
 use lib.ListN.{drop}
 use Rattle.spec_octets.specs.Reader.{placeOf}
 use Rattle.spec_line.specs.Read.{WrittenOctet, valueOf, escape, writtenOctet, isInQuotes, isBare}
-use Rattle.line_unit.specs.declared.Style.{Style}
-use Rattle.line_unit.specs.declared.Style.the-variants.{Quoted, Bare}
-use Rattle.line_unit.specs.declared.WrittenOctetRead.{WrittenOctetRead}
-use Rattle.line_unit.specs.declared.WrittenOctetRead.the-variants.{Good as UnitThere, Fault as NoUnit}
+use Rattle.line_octet.specs.declared.Style.{Style}
+use Rattle.line_octet.specs.declared.Style.the-variants.{Quoted, Bare}
+use Rattle.line_octet.specs.declared.WrittenOctetRead.{WrittenOctetRead}
+use Rattle.line_octet.specs.declared.WrittenOctetRead.the-variants.{Good as UnitThere, Fault as NoUnit}
 
 -- the octets that stand for themselves
 abbrev pub plainIn : Style → ℕ → Bool

@@ -2,7 +2,7 @@
 use text_decimal::OctetRead;
 ghost use mathlib.Core.Path.{_≡_};
 ghost use Rattle.spec_line.specs.Read.{isInQuotes, isBare};
-ghost use Rattle.line_unit.specs.Places.{plainIn, escapeAt, writtenOctetAt};
+ghost use Rattle.line_octet.specs.Places.{plainIn, escapeAt, writtenOctetAt};
 
 // How a value is written: between quotes, or bare.
 pub enum Style {

@@ -2,8 +2,8 @@
 use borrow.Author.Needs.{needs}
 use Rattle.spec_octets.proofs.Tests.{tests}
 use Rattle.spec_line.specs.Read.{isInQuotes}
-use Rattle.line_unit.proofs.is_in_quotes.Statement.{statement}
-use Rattle.line_unit.proofs.is_in_quotes.Tie as tie
+use Rattle.line_octet.proofs.is_in_quotes.Statement.{statement}
+use Rattle.line_octet.proofs.is_in_quotes.Tie as tie
 
 returns : tie.Need-returns
 unfolding isInQuotes

@@ -1,9 +1,9 @@
 -- `read_written_octet` meets its contract: a law of writtenOctetAt for each way out.
 use borrow.Author.Needs.{needs}
 use borrow.Author.Tests.{not-true, not-false}
-use Rattle.line_unit.proofs.UnitPlaces.{unit-cut-off, escape-there, wrong-octet, octet-itself}
-use Rattle.line_unit.proofs.read_written_octet.Statement.{statement}
-use Rattle.line_unit.proofs.read_written_octet.Tie as tie
+use Rattle.line_octet.proofs.UnitPlaces.{unit-cut-off, escape-there, wrong-octet, octet-itself}
+use Rattle.line_octet.proofs.read_written_octet.Statement.{statement}
+use Rattle.line_octet.proofs.read_written_octet.Tie as tie
 
 returns : tie.Need-returns
 returns c = search (needs, unit-cut-off)

@@ -1,8 +1,8 @@
 -- `read_escape` meets its contract: a law of escapeAt for each way out.
 use borrow.Author.Needs.{needs}
-use Rattle.line_unit.proofs.UnitPlaces.{escape-cut-off, three-cut-off, no-number, number-there, below-32, above-126, quoted-there}
-use Rattle.line_unit.proofs.read_escape.Statement.{statement}
-use Rattle.line_unit.proofs.read_escape.Tie as tie
+use Rattle.line_octet.proofs.UnitPlaces.{escape-cut-off, three-cut-off, no-number, number-there, below-32, above-126, quoted-there}
+use Rattle.line_octet.proofs.read_escape.Statement.{statement}
+use Rattle.line_octet.proofs.read_escape.Tie as tie
 
 returns : tie.Need-returns
 returns c = search (needs, escape-cut-off)
