@@ -18,4 +18,4 @@ line-edges = refl
 pub line-calls : Line-calls
 unfolding maxTagOctets maxDataOctets maxLineOctets isDigit isUpper isLower isLetterOrDigit isBlank lower decimalOctet decimal unescaped isInQuotes
     isBare lineValue isLineTag readLine escaped line placed writeLine parseLine readProperty property
-line-calls = (refl, refl, refl, refl, refl, refl, refl, refl, refl, refl, refl, refl)
+line-calls = (refl, refl, refl, refl, refl, refl, refl, refl, refl, refl, refl, refl, refl, refl, refl, refl, refl, refl)

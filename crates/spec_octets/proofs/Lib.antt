@@ -20,6 +20,7 @@ pub mod Walks
 pub mod Decimals
 pub mod WrittenDecimals
 pub mod Runs
+pub mod DistinctPlaces
 pub mod TrimEnds
 pub mod ParameterOctets
 pub mod ItemWalk

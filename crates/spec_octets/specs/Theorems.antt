@@ -10,7 +10,7 @@ use mathlib.Core.List.{List, [], _∷_, _++_, map, List·Memᴰ}
 use mathlib.Core.Option.{none, some}
 use lib.Dec.{eqb}
 use lib.ListN.{length}
-use Rattle.spec_octets.specs.Lists.{any, all, select, isEmpty, begins, ends, flatten, All, Selects}
+use Rattle.spec_octets.specs.Lists.{any, all, select, isEmpty, begins, ends, flatten, All, Selects, Distinct}
 use Rattle.spec_octets.specs.Octets.{Octets, text, isDigit, isLetterOrDigit, isBlank, trimStart, trimEnd, isParameterOctet, lower, lowered, equalIgnoringCase}
 use Rattle.spec_octets.specs.Label.{isLetterDigitHyphen, isLabel, isHostLabel, Host-label}
 use Rattle.spec_octets.specs.Pieces.{split, join}
@@ -84,6 +84,10 @@ List-folds =
     (A : Type 0) (p : A → Bool) (xs : List A) (xss : List (List A)) →
     ((any p xs ≡ true) ↔ ((y : A) × List·Memᴰ y xs × (p y ≡ true))) × ((all p xs ≡ true) ↔ All (λ y. p y ≡ true) xs)
     × (flatten {A = A} [] ≡ []) × (flatten (xs ∷ xss) ≡ xs ++ flatten xss)
+
+-- none stands twice exactly when no element stands at two places
+abbrev pub Distinct-places : Type 1
+Distinct-places = (A : Type 0) (xs : List A) → Distinct xs ↔ ((p q r : List A) (x : A) → xs ≢ p ++ (x ∷ (q ++ (x ∷ r))))
 
 -- the pieces of a text are the one way to make it by joining texts without the octet c
 abbrev pub Pieces-join : Type 0

@@ -1,10 +1,11 @@
 -- Books, octet for octet, beside the refusal that the requirements state, or none.
-use Prim.Native.Nat.{ℕ}
+use Prim.Native.Nat.{ℕ, _-_, _/_, _%_}
 use mathlib.Core.List.{List, [], _∷_, _++_}
 use mathlib.Core.Option.{Option, none, some}
-use lib.ListN.{length}
+use lib.ListN.{length, replicate}
 use Rattle.spec_refusal.specs.declared.Refusal.{Refusal}
-use Rattle.spec_refusal.specs.declared.Refusal.the-variants.{BadRecord}
+use Rattle.spec_refusal.specs.declared.Refusal.the-variants.{BookTooLong, BadRecord, TooManyRecords}
+use Rattle.spec_octets.specs.Lists.{flatten}
 use Rattle.spec_octets.specs.Octets.{text}
 
 abbrev pub badRecord : ℕ → Option Refusal
@@ -23,6 +24,13 @@ addressOctets d = recordOctets 0 1 1 (length d) d
 
 abbrev pub chaosOctets : List ℕ → List ℕ
 chaosOctets d = recordOctets 1 1 3 (length d) d
+
+-- so many records of the root without data, each of 11 octets; and one record that takes so many octets
+abbrev pub records : ℕ → List ℕ
+records n = flatten (replicate n (0 ∷ 0 ∷ 1 ∷ 0 ∷ 1 ∷ 0 ∷ 0 ∷ 0 ∷ 0 ∷ 0 ∷ 0 ∷ []))
+
+abbrev pub ofOctets : ℕ → List ℕ
+ofOctets n = (0 ∷ 0 ∷ 1 ∷ 0 ∷ 1 ∷ 0 ∷ 0 ∷ 0 ∷ 0 ∷ (n - 11) / 256 ∷ (n - 11) % 256 ∷ []) ++ replicate (n - 11) 0
 
 abbrev pub bookEdges : List (List ℕ × Option Refusal)
 bookEdges =
@@ -52,4 +60,17 @@ bookEdges =
     ∷ (addressOctets [] ++ (1 ∷ 97 ∷ 0 ∷ 0 ∷ 1 ∷ 0 ∷ 1 ∷ 0 ∷ 0 ∷ 0 ∷ 0 ∷ 0 ∷ []), badRecord 1)
     ∷ (recordOctets 0 1 1 3 (1 ∷ 2 ∷ []), badRecord 0)
     ∷ (recordOctets 0 1 1 1 (1 ∷ 2 ∷ []), badRecord 1)
+    -- of two faults the first is told: CAA data laid out wrongly, and a record cut off
+    ∷ (caaOctets (0 ∷ []) ++ (1 ∷ 97 ∷ []), badRecord 0)
+    ∷ (caaOctets (0 ∷ 1 ∷ text "t") ++ caaOctets (0 ∷ []) ++ (1 ∷ 97 ∷ []), badRecord 1)
+    ∷ (caaOctets (0 ∷ 1 ∷ text "t") ++ (1 ∷ 97 ∷ []), badRecord 1)
+    -- 256 records, and octets behind them, whatever these are
+    ∷ (records 256, none)
+    ∷ (records 257, some TooManyRecords)
+    ∷ (records 256 ++ (64 ∷ []), some TooManyRecords)
+    ∷ (records 255 ++ (64 ∷ []), badRecord 255)
+    -- 32,768 octets, and one more: one record of the root that fills the book
+    ∷ (ofOctets 32768, none)
+    ∷ (ofOctets 32769, some BookTooLong)
+    ∷ (replicate 32768 255, badRecord 0)
     ∷ []

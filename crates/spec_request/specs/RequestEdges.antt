@@ -5,7 +5,7 @@ use mathlib.Core.List.{List, [], _∷_, _++_}
 use mathlib.Core.Option.{Option, none, some}
 use lib.ListN.{replicate}
 use Rattle.spec_refusal.specs.declared.Refusal.{Refusal}
-use Rattle.spec_refusal.specs.declared.Refusal.the-variants.{BadName, TooManyNames}
+use Rattle.spec_refusal.specs.declared.Refusal.the-variants.{RequestTooLong, BadName, TooManyNames}
 use Rattle.spec_octets.specs.Lists.{flatten}
 use Rattle.spec_octets.specs.Octets.{text}
 
@@ -18,6 +18,10 @@ letters n = n ∷ replicate n (code "a")
 
 abbrev pub names : ℕ → List ℕ
 names n = flatten (replicate n (1 ∷ 97 ∷ 0 ∷ []))
+
+-- as many octets as a request may have
+abbrev pub longest : List ℕ
+longest = flatten (replicate 32 (letters 63 ++ letters 63 ++ letters 63 ++ letters 61 ++ (0 ∷ []))) ++ letters 30 ++ (0 ∷ [])
 
 abbrev pub requestEdges : List (List ℕ × Option Refusal)
 requestEdges =
@@ -53,4 +57,7 @@ requestEdges =
     ∷ (names 100, none)
     ∷ (names 101, some TooManyNames)
     ∷ (names 100 ++ (0 ∷ []), some TooManyNames)
+    -- 8,192 octets, which are 32 names of 255 and one of 32; and one octet more, whatever it is
+    ∷ (longest, none)
+    ∷ (longest ++ (0 ∷ []), some RequestTooLong)
     ∷ []

@@ -4,6 +4,7 @@ pub mod Nearest
 pub mod Renumber
 pub mod AuthorizationLaws
 pub mod VerdictLaws
+pub mod VerdictNumbers
 pub mod OrderLaws
 pub mod DistinctLaws
 pub mod IssuerListLaws

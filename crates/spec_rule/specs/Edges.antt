@@ -4,12 +4,14 @@ use Prim.Native.Nat.{ℕ}
 use Prim.Native.Char.{code}
 use Prim.Native.String.{String}
 use mathlib.Core.Path.{_≡_}
-use mathlib.Core.List.{List, [], _∷_, map}
+use mathlib.Core.List.{List, [], _∷_, _++_, map}
 use mathlib.Core.Option.{Option, none, some}
+use lib.ListN.{replicate}
 use Rattle.spec_octets.specs.Octets.{text}
 use Rattle.spec_octets.specs.Pieces.{split}
 use Rattle.spec_octets.specs.Decimal.{decimalOctet}
 use Rattle.spec_name.specs.Names.{Name}
+use Rattle.spec_issuer.specs.IssuerEdges.{ofLengths}
 use Rattle.spec_record.specs.Property.{wireProperty}
 use Rattle.spec_record.specs.Records.{Record}
 use Rattle.spec_value.specs.IssueValues.{IssueValue, malformed, nameless, named, issueValue}
@@ -54,6 +56,18 @@ nameEdge book n a = record { ruled = of-name (authorization (caaRecords book) (d
 abbrev pub flagsEdge : String → Option ℕ → Edge
 flagsEdge s f = record { ruled = of-flags (decimalOctet (text s)); stated = of-flags f }
 
+-- a CAA record of example.com whose value is these octets
+abbrev pub valued : String → List ℕ → Record
+valued tag value =
+    record { owner = dotted "example.com"; type = 257; class = 1; ttl = 3600; rdata = wireProperty (record { flags = 0; tag = text tag; value = value }) }
+
+-- the name `com` with so many labels `a` before it
+abbrev pub below : ℕ → Name
+below n = replicate n (text "a") ++ dotted "com"
+
+abbrev pub climbEdge : List Record → ℕ → Authorization → Edge
+climbEdge book n a = record { ruled = of-name (authorization (caaRecords book) (below n)); stated = of-name a }
+
 -- a set of one issue record with this value
 abbrev pub issuing : String → List Record
 issuing v = caa "example.com" 0 "issue" v ∷ []
@@ -90,6 +104,19 @@ edges =
     (granted 1 (ca2 ∷ []))
     ∷ nameEdge (caa "example.com" 0 "issue" "ca1.example.net" ∷ caa "example.com" 0 "issuewild" "ca2.example.org" ∷ []) "example.com"
     (granted 0 (ca1 ∷ []))
+    -- an issuewild value that doesn't fit grants nobody for *.X and still governs, alone and beside an issue record
+    ∷ nameEdge (caa "example.com" 0 "issuewild" "%%%" ∷ []) "*.example.com" (granted 0 [])
+    ∷ nameEdge (caa "example.com" 0 "issue" "ca1.example.net" ∷ caa "example.com" 0 "issuewild" "%%%" ∷ []) "*.example.com" (granted 1 [])
+    ∷ nameEdge (caa "example.com" 0 "issuewild" ";" ∷ caa "example.com" 0 "issue" "ca1.example.net" ∷ []) "*.example.com" (granted 0 [])
+    -- so does a name beyond the limits of issuer names: labels of 63 and 64 octets, names of 253 and 254
+    ∷ nameEdge (valued "issue" (ofLengths (63 ∷ [])) ∷ []) "example.com" (granted 0 (ofLengths (63 ∷ []) ∷ []))
+    ∷ nameEdge (valued "issue" (ofLengths (64 ∷ [])) ∷ []) "example.com" (granted 0 [])
+    ∷ nameEdge (valued "issue" (ofLengths (63 ∷ 63 ∷ 63 ∷ 61 ∷ [])) ∷ []) "example.com" (granted 0 (ofLengths (63 ∷ 63 ∷ 63 ∷ 61 ∷ []) ∷ []))
+    ∷ nameEdge (valued "issue" (ofLengths (63 ∷ 63 ∷ 63 ∷ 62 ∷ [])) ∷ []) "example.com" (granted 0 [])
+    ∷ nameEdge (valued "issuewild" (ofLengths (63 ∷ [])) ∷ []) "*.example.com" (granted 0 (ofLengths (63 ∷ []) ∷ []))
+    ∷ nameEdge (valued "issuewild" (ofLengths (64 ∷ [])) ∷ []) "*.example.com" (granted 0 [])
+    ∷ nameEdge (valued "issuewild" (ofLengths (63 ∷ 63 ∷ 63 ∷ 61 ∷ [])) ∷ []) "*.example.com" (granted 0 (ofLengths (63 ∷ 63 ∷ 63 ∷ 61 ∷ []) ∷ []))
+    ∷ nameEdge (valued "issuewild" (ofLengths (63 ∷ 63 ∷ 63 ∷ 62 ∷ [])) ∷ []) "*.example.com" (granted 0 [])
     -- an iodef set alone opens its name though the parent restricts
     ∷ nameEdge (caa "example.com" 0 "issue" "ca1.example.net" ∷ caa "www.example.com" 0 "iodef" "mailto:a@example.com" ∷ []) "www.example.com"
     unrestricted
@@ -138,6 +165,11 @@ edges =
     ∷ nameEdge (issuing "ca1.example.net") "a.b.c.example.com" (granted 0 (ca1 ∷ []))
     ∷ nameEdge (caa "com" 0 "issue" "ca1.example.net" ∷ []) "www.example.com" (granted 0 (ca1 ∷ []))
     ∷ nameEdge (rootIssuing ∷ []) "www.example.com" unrestricted
+    -- however many labels are taken off: 3, 41, and 126, the most that a name can have above one label
+    ∷ climbEdge (caa "com" 0 "issue" "ca1.example.net" ∷ []) 3 (granted 0 (ca1 ∷ []))
+    ∷ climbEdge (caa "com" 0 "issue" "ca1.example.net" ∷ []) 41 (granted 0 (ca1 ∷ []))
+    ∷ climbEdge (caa "com" 0 "issue" "ca1.example.net" ∷ []) 126 (granted 0 (ca1 ∷ []))
+    ∷ climbEdge (rootIssuing ∷ []) 126 unrestricted
     -- an asterisk in an owner is only a label
     ∷ nameEdge (caa "*.example.com" 0 "issue" ";" ∷ issuing "ca1.example.net") "*.example.com" (granted 1 (ca1 ∷ []))
     ∷ nameEdge (caa "*.example.com" 0 "issue" ";" ∷ []) "www.example.com" unrestricted

@@ -25,7 +25,7 @@ use Rattle.spec_rule.specs.RelevantSet.{CaaRecord, empty, found, caaReco
 use Rattle.spec_rule.specs.Authorizations.{Authorization, unrestricted, forbidden, granted, authorization}
 use Rattle.spec_rule.specs.Verdicts.{denial, verdict}
 use Rattle.spec_rule.specs.IssuerLists.{Issuers, anyone, listed, issuers, entries, readEntry}
-use Rattle.spec_rule.specs.Calls.{authorizations, judge, Listing, listIssuers}
+use Rattle.spec_rule.specs.Calls.{authorizations, judge, Listing, listIssuers, AnswerCode, judgementCode}
 use Rattle.spec_rule.specs.Meaning.{CaaRecordsOf, OwnedBy, NearestAt, UnknownCriticalRecord, Relevant, Unrestricted, PermittedTo, ForbiddenBy, GovernedFrom, GoverningRecords, LowestNot, Before, GrantedBefore}
 
 -- the CAA records are those of type 257 and class 1, numbered from 0 over all records
@@ -56,6 +56,17 @@ Verdict-on book ns d v =
 
 abbrev pub Verdict-by-the-rule : Type 0
 Verdict-by-the-rule = (book : List CaaRecord) (ns : List Name) (d : List ℕ) → Verdict-on book ns d (verdict d (map (authorization book) ns))
+
+-- in the requirements' numbers: 0; 20 and 21 with the number of the name and of the record; no other number is a verdict
+abbrev pub Verdict-numbers : Type 0
+Verdict-numbers =
+    (book : List CaaRecord) (ns : List Name) (d : List ℕ) (v : Judgement) → Verdict-on book ns d v →
+    ((judgementCode v ≡ record { number = 0; values = [] }) ↔ All (λ n. PermittedTo book n d) ns)
+    × ((k r : ℕ) → (judgementCode v ≡ record { number = 20; values = k ∷ r ∷ [] })
+    ↔ ((n : Name) × LowestNot (λ m. PermittedTo book m d) ns k n × ForbiddenBy book n r))
+    × ((k r : ℕ) → (judgementCode v ≡ record { number = 21; values = k ∷ r ∷ [] })
+    ↔ ((n : Name) × LowestNot (λ m. PermittedTo book m d) ns k n × GovernedFrom book n r))
+    × ((judgementCode v .number ≡ 0) ⊎ (judgementCode v .number ≡ 20) ⊎ (judgementCode v .number ≡ 21))
 
 -- an accepted request, issuer name and book are judged by their names and records
 abbrev pub Judge-accepted : Type 0

@@ -1,1 +1,2 @@
 pub mod AnswerCode
+pub mod Examples

@@ -179,3 +179,8 @@ book_of("data of CAA's least length", record("y", 257, 1, b"\0\1i") + last, not_
 # "Reading stops at the first fault."
 book_of("a fault before 257 records", b"\x40" + txt * 256, refused(6, 0))
 book_of("two faults", txt + record("y", 257, 1, b"") + record("y", 257, 1, b""), refused(6, 1))
+cut, wrong = txt[:5], record("y", 257, 1, b"\0")
+book_of("wrong CAA data, then a record cut off", wrong + cut, refused(6, 0))
+book_of("a record, wrong CAA data, then one cut off", txt + wrong + cut, refused(6, 1))
+book_of("a record, then one cut off", txt + cut, refused(6, 1))
+book_of("a record cut off and nothing else", cut, refused(6, 0))

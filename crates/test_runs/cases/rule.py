@@ -1,5 +1,5 @@
 """The whole case, the edges that the requirements mark P, their shortcuts, and the rule of issue. Quoted: the requirements."""
-from .forms import (ANYONE, PERMITTED, asked, caa, critical, data, issue, issuewild, judge, listed, name, names, not_granted, read,
+from .forms import (ANYONE, PERMITTED, asked, caa, critical, data, issue, issuewild, judge, labels, listed, name, names, not_granted, read,
                     record, refused)
 
 CA1, CA2 = "ca1.example.net", "ca2.example.org"
@@ -181,3 +181,13 @@ cases += [
     listed("order: list, book before room", WWW, issue("example.com", CA1) + bad_book, refused(6, 1), room=0),
     listed("order: list, room last", WWW, issue("example.com", CA1), refused(8, 16), room=0),
 ]
+
+# "Otherwise the climb takes off one label and looks again. The root is never looked at.": however many labels are taken off. A name of 127
+# labels of one octet has 255 octets with its zero, so 126 is the most.
+for up in 3, 41, 126:
+    deep = labels(*[1] * (up + 1))
+    cases += asked(f"{up} labels taken off", deep, issue(labels(1), CA1), {CA1: PERMITTED, CA2: not_granted(0, 0)}, [CA1])
+deepest = labels(*[1] * 127)
+cases += asked("126 labels taken off, only the root owns", deepest, issue("", CA1), {CA1: PERMITTED, CA2: PERMITTED}, ANYONE)
+cases += asked("a star and 125 labels taken off", b"\1*" + labels(*[1] * 126), issuewild(labels(1), CA1),
+               {CA1: PERMITTED, CA2: not_granted(0, 0)}, [CA1])
