@@ -1,0 +1,5 @@
+pub mod Table
+pub mod Keys
+pub mod Chains
+pub mod Sets
+pub mod NameAuthorizations
