@@ -1,2 +1,4 @@
 pub mod ChainLaws
 pub mod KeyLaws
+pub mod StandingRecords
+pub mod TableLaws
