@@ -4,3 +4,4 @@ pub mod StandingRecords
 pub mod TableLaws
 pub mod ChainedRecords
 pub mod SetLaws
+pub mod LookLaws

@@ -2,20 +2,23 @@
 use Prim.Native.Nat.{ℕ, zero, suc, _<_}
 use mathlib.Core.Path.{_≡_}
 use mathlib.Core.Bool.{true}
-use mathlib.Core.List.{List, [], _∷_}
-use mathlib.Core.Option.{some}
+use mathlib.Core.List.{List, [], _∷_, map}
+use mathlib.Core.Option.{none, some}
 use lib.ListN.{length, getD, getElem?}
 use Rattle.spec_limits.specs.Limits.{maxRecords}
 use Rattle.spec_refusal.specs.declared.RecordNo.{RecordNo}
 use Rattle.spec_octets.specs.Lists.{select}
 use Rattle.spec_octets.specs.Octets.{equalIgnoringCase}
-use Rattle.spec_name.specs.Names.{wire}
-use Rattle.spec_record.specs.Records.{Record, isCaa}
+use Rattle.spec_name.specs.Names.{Name, wire}
+use Rattle.spec_name.specs.Theorems.{GoodName}
+use Rattle.spec_record.specs.Records.{Record, isCaa, records, bookRefusal}
+use Rattle.spec_rule.specs.RelevantSet.{CaaRecord, caaRecords, Lookup, empty, found, lookup, relevantSet}
 use Rattle.book_places.specs.Table.{tabled, tableOf, ownerAt, dataAt, isCaaAt}
 use Rattle.book_places.specs.Keys.{keyOf}
 use Rattle.book_places.specs.Chains.{Chains, chainsOf}
-use Rattle.book_places.specs.Sets.{isOwned, ownedFrom, firstOf, setAt}
-use Rattle.book_places.specs.declared.FirstRecord.the-variants.{At}
+use Rattle.book_places.specs.Sets.{isOwned, ownedFrom, firstOf, firstOwned, nearestRecord, setAt}
+use Rattle.book_places.specs.declared.FirstRecord.{FirstRecord}
+use Rattle.book_places.specs.declared.FirstRecord.the-variants.{At, Nothing}
 
 -- two texts that are the same, letter case ignored, have one key; and each key has a place among the heads of chains
 abbrev pub Same-text-same-key : Type 0
@@ -52,3 +55,34 @@ abbrev pub Set-by-its-first : Type 0
 Set-by-its-first =
     (book table links x : List ℕ) (i : ℕ) (r : RecordNo) → firstOf (ownedFrom book table links x i) ≡ At r →
     setAt book table links (r .0) ≡ ownedFrom book table links x i
+
+-- the CAA records that the rule finds, their numbers, and the number of the first of them
+abbrev pub recordsIn : Lookup → List CaaRecord
+recordsIn empty = []
+recordsIn (found cs) = cs
+
+abbrev pub numbersOf : List CaaRecord → List ℕ
+numbersOf cs = map (λ c. c .number) cs
+
+abbrev pub firstNumber : List CaaRecord → FirstRecord
+firstNumber [] = Nothing
+firstNumber (c ∷ cs) = At (record { 0 = c .number })
+
+-- an answer by offset tells what the rule finds: its first record, by which the whole set is named
+pub record Finds (book table links : List ℕ) (l : Lookup) (o : FirstRecord) : Type 0 where
+  pub first : o ≡ firstNumber (recordsIn l)
+  pub whole : (r : RecordNo) → o ≡ At r → setAt book table links (r .0) ≡ numbersOf (recordsIn l)
+
+-- a look at a name in an accepted book finds what the rule's lookup of that name finds
+abbrev pub Look-by-offset : Type 0
+Look-by-offset =
+    (book : List ℕ) (x : Name) → bookRefusal book ≡ none → GoodName x →
+    Finds book (tableOf book) (chainsOf book .links) (lookup (caaRecords (records book)) x)
+    (firstOwned book (tableOf book) (chainsOf book .links) (chainsOf book .heads) (wire x))
+
+-- the climb from a name in an accepted book finds the relevant set of that name
+abbrev pub Climb-by-offset : Type 0
+Climb-by-offset =
+    (book : List ℕ) (x : Name) → bookRefusal book ≡ none → GoodName x →
+    Finds book (tableOf book) (chainsOf book .links) (relevantSet (caaRecords (records book)) x)
+    (nearestRecord book (tableOf book) (chainsOf book .links) (chainsOf book .heads) (wire x))
