@@ -5,3 +5,4 @@ pub mod TableLaws
 pub mod ChainedRecords
 pub mod SetLaws
 pub mod LookLaws
+pub mod ClimbLaws
