@@ -6,3 +6,4 @@ pub mod ChainedRecords
 pub mod SetLaws
 pub mod LookLaws
 pub mod ClimbLaws
+pub mod AuthorizationLaws

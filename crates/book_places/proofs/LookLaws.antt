@@ -87,7 +87,7 @@ module _ (book table : List ℕ) where
         caa true f none g e = let (q, h) = s .holds f in absurd (Option·none-ne-some q (sym g ∙ h))
         caa false f o g e = e
 
-first-numbers : (cs : List CaaRecord) → firstOf (numbersOf cs) ≡ firstNumber cs
+pub first-numbers : (cs : List CaaRecord) → firstOf (numbersOf cs) ≡ firstNumber cs
 first-numbers [] = refl
 first-numbers (c ∷ cs) = refl
 
