@@ -7,3 +7,4 @@ pub mod SetLaws
 pub mod LookLaws
 pub mod ClimbLaws
 pub mod AuthorizationLaws
+pub mod Bounds
