@@ -20,7 +20,7 @@ use Rattle.spec_rule.specs.RelevantSet.{CaaRecord, caaRecords, Lookup, empty, f
 use Rattle.spec_rule.specs.Authorizations.{decided}
 use Rattle.book_places.specs.Table.{tabled, tableOf, ownerAt, dataAt, isCaaAt}
 use Rattle.book_places.specs.Keys.{keyOf}
-use Rattle.book_places.specs.Chains.{Chains, chainsOf}
+use Rattle.book_places.specs.Chains.{chainsOf}
 use Rattle.book_places.specs.Sets.{isOwned, ownedFrom, firstOf, firstOwned, nearestRecord, setAt, dataHasTag, dataIsUnknownCritical, dataGrants, setGrants}
 use Rattle.book_places.specs.NameAuthorizations.{nameAuthorization, setGrantees, meaning}
 use Rattle.book_places.specs.declared.FirstRecord.{FirstRecord}
