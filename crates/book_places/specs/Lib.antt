@@ -1,0 +1,6 @@
+pub mod Table
+pub mod Keys
+pub mod Chains
+pub mod Sets
+pub mod NameAuthorizations
+pub mod Theorems
