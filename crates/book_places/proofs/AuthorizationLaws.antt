@@ -14,7 +14,7 @@ use Rattle.spec_record.specs.declared.PropertyTag.{PropertyTag}
 use Rattle.spec_record.specs.declared.PropertyTag.the-variants.{Issue, IssueWild}
 use Rattle.spec_record.specs.Property.{property}
 use Rattle.spec_rule.specs.RelevantSet.{CaaRecord, Lookup, empty, found, relevantSet}
-use Rattle.spec_rule.specs.Authorizations.{Authorization, unrestricted, granted, isUnknownCritical, isIssue, isIssueWild, isGrantee, consSome, orElse, governing, grantees, governedBy as ruleGovernedBy, unlessForbidden, decided}
+use Rattle.spec_rule.specs.Authorizations.{Authorization, unrestricted, granted, isUnknownCritical, isIssue, isIssueWild, isGrantee, consSome, orElse, governing, grantees, governedBy as ruleGovernedBy, unlessForbidden, authorizationFrom}
 use Rattle.read_grantee.specs.Places.{granteeOfData}
 use Rattle.read_grantee.proofs.Grantees.{grantee-of-data}
 use Rattle.book_places.specs.declared.FirstRecord.{FirstRecord}
@@ -113,17 +113,17 @@ module _ (book table links : List ℕ) where
     unless-critical [] n a e = e
     unless-critical (u ∷ us) n a e = refl
 
-    by-set : (wildcard : Bool) → meaning book table links (bySet book table links wildcard (At first)) ≡ decided wildcard (found cs)
+    by-set : (wildcard : Bool) → meaning book table links (bySet book table links wildcard (At first)) ≡ authorizationFrom wildcard (found cs)
     by-set wildcard = rw first-critical (unless-critical (select isUnknownCritical cs) _ _ (by-tags wildcard))
 
-  nothing-governs : (wildcard : Bool) → unrestricted ≡ decided wildcard (found [])
+  nothing-governs : (wildcard : Bool) → unrestricted ≡ authorizationFrom wildcard (found [])
   unfolding governing
   nothing-governs true = refl
   nothing-governs false = refl
 
   found-means :
       (wildcard : Bool) (l : Lookup) (o : FirstRecord) → Finds book table links l o → All (Holds book table) (recordsIn l) →
-      meaning book table links (bySet book table links wildcard o) ≡ decided wildcard l
+      meaning book table links (bySet book table links wildcard o) ≡ authorizationFrom wildcard l
   found-means wildcard empty Nothing f all = refl
   found-means wildcard empty (At r) f all = let e = f .first in let z : _≡_ {A = ℕ} 0 1 = cc in absurd (omega arith)
   found-means wildcard (found []) Nothing f all = nothing-governs wildcard

@@ -8,14 +8,14 @@ use mathlib.Core.List.{List, [], _∷_}
 use lib.Dec.{ltb}
 use lib.ListN.{length, getD}
 use borrow.Author.Tests.{ltb-true, le-ltb}
-use Rattle.spec_octets.proofs.ListLaws.{decided}
+use Rattle.spec_octets.proofs.ListLaws.{true-or-false}
 use Rattle.book_places.specs.Chains.{behind, along, chainFrom}
 
 -- behind a record that has a link comes a later one, or the end
 pub behind-later : (links : List ℕ) (i : ℕ) → i < length links → i < behind links i
 unfolding behind
 behind-later links i h =
-    ⊎-elim (λ e. rw e (omega (arith, ltb-true i (getD links i 0) e))) (λ e. rw e h) (decided (ltb i (getD links i 0)))
+    ⊎-elim (λ e. rw e (omega (arith, ltb-true i (getD links i 0) e))) (λ e. rw e h) (true-or-false (ltb i (getD links i 0)))
 
 -- any number of steps that is enough gives the same records
 steps-enough : (links : List ℕ) (f g i : ℕ) → length links ≤ i + f → length links ≤ i + g → along f links i ≡ along g links i

@@ -11,7 +11,7 @@ use lib.Seq.{getD-set-same, getD-set-other}
 use borrow.Author.Tests.{ltb-true, lt-ltb, le-ltb, eqb-true, eqb-false, eq-eqb}
 use Rattle.spec_limits.specs.Limits.{maxRecords}
 use Rattle.spec_octets.specs.Lists.{consIf, select}
-use Rattle.spec_octets.proofs.ListLaws.{decided}
+use Rattle.spec_octets.proofs.ListLaws.{true-or-false}
 use Rattle.book_places.specs.Table.{tabled, tableOf, ownerAt}
 use Rattle.book_places.specs.Keys.{keyOf}
 use Rattle.book_places.specs.Chains.{Chains, linked, linkedBelow, unlinked, chainsOf, behind, along, chainFrom}
@@ -124,8 +124,8 @@ module _ (book table : List ℕ) where
     one-more = record {
       links-long = next-long;
       heads-long = rw (length-set (c .heads) (key i) i) (w .heads-long);
-      later = λ h k. head-later h k (decided (eqb (key i) h));
-      told = λ h k. chain-told h k (decided (eqb (key i) h));
+      later = λ h k. head-later h k (true-or-false (eqb (key i) h));
+      told = λ h k. chain-told h k (true-or-false (eqb (key i) h));
     }
 
   all-linked : (i m : ℕ) (c : Chains) → i ≤ maxRecords → Linked i m c → Linked 0 (i + m) (linkedBelow book table i c)

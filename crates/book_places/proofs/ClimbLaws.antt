@@ -10,8 +10,7 @@ use Rattle.spec_octets.specs.Lists.{select, All, all-nil, all-cons}
 use Rattle.spec_octets.proofs.ListLaws.{All-head}
 use Rattle.spec_octets.proofs.SelectLaws.{selected}
 use Rattle.spec_octets.proofs.SelectedLists.{selects-all}
-use Rattle.spec_name.specs.Names.{Label, Name, wire, sameName, ancestors}
-use Rattle.spec_name.specs.Theorems.{GoodName}
+use Rattle.spec_name.specs.Names.{Label, Name, wire, sameName, ancestors, GoodName}
 use Rattle.spec_name.proofs.NameLaws.{fewer-labels}
 use Rattle.read_name.proofs.Parents.{root-stays, behind-label, label-passed}
 use Rattle.spec_rule.specs.RelevantSet.{CaaRecord, Lookup, empty, found, asLookup, lookup, firstFound, relevantSet}

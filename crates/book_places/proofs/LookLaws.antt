@@ -11,8 +11,7 @@ use Rattle.spec_limits.specs.Limits.{maxBookOctets}
 use Rattle.spec_refusal.specs.declared.Refusal.the-variants.{BookTooLong}
 use Rattle.spec_octets.specs.Lists.{consIf, select, All, all-nil, all-cons}
 use Rattle.spec_octets.proofs.ListLaws.{All-join}
-use Rattle.spec_name.specs.Names.{Name, wire, sameName}
-use Rattle.spec_name.specs.Theorems.{GoodName}
+use Rattle.spec_name.specs.Names.{Name, wire, sameName, GoodName}
 use Rattle.spec_name.proofs.WholeNames.{whole-names}
 use Rattle.spec_record.specs.Property.{Property, property}
 use Rattle.spec_record.specs.Records.{Record, isCaa, recordRefusal, recordItems, records, bookRefusal}

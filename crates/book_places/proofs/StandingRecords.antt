@@ -9,8 +9,7 @@ use lib.Dec.{leb}
 use lib.ListN.{length, drop, length-append}
 use Rattle.spec_limits.specs.Limits.{maxBookOctets, maxRecords}
 use Rattle.spec_octets.proofs.ReaderLaws.{bind-some}
-use Rattle.spec_name.specs.Names.{name, wire}
-use Rattle.spec_name.specs.Theorems.{GoodName}
+use Rattle.spec_name.specs.Names.{name, wire, GoodName}
 use Rattle.spec_name.proofs.NameLaws.{name-is-its-labels}
 use Rattle.read_name.proofs.PlaceLaws.{name-to}
 use Rattle.read_record.specs.declared.RecordAt.{RecordAt}

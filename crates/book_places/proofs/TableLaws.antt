@@ -10,7 +10,7 @@ use lib.Seq.{getD-append-add}
 use borrow.Author.Tests.{lt-ltb}
 use Rattle.spec_limits.specs.Limits.{maxRecords}
 use Rattle.spec_octets.specs.Lists.{All, all-nil, all-cons}
-use Rattle.spec_name.specs.Theorems.{GoodName}
+use Rattle.spec_name.specs.Names.{GoodName}
 use Rattle.spec_record.specs.Property.{Property, property}
 use Rattle.spec_record.specs.Records.{Record, wireRecord, isCaa}
 use Rattle.book_places.specs.Table.{row, rowsFrom, tabled, tableOf, cell, ownerAt, dataAt, isCaaAt}

@@ -10,14 +10,13 @@ use Rattle.spec_limits.specs.Limits.{maxRecords}
 use Rattle.spec_refusal.specs.declared.RecordNo.{RecordNo}
 use Rattle.spec_octets.specs.Lists.{any, select}
 use Rattle.spec_octets.specs.Octets.{same, lowered, equalIgnoringCase}
-use Rattle.spec_name.specs.Names.{Name, wire}
-use Rattle.spec_name.specs.Theorems.{GoodName}
+use Rattle.spec_name.specs.Names.{Name, wire, GoodName}
 use Rattle.spec_record.specs.declared.PropertyTag.{PropertyTag}
 use Rattle.spec_record.specs.declared.PropertyTag.the-variants.{Issue, IssueWild, Unknown}
 use Rattle.spec_record.specs.Property.{Property, property, tagOf, isCritical}
 use Rattle.spec_record.specs.Records.{Record, isCaa, records, bookRefusal}
 use Rattle.spec_rule.specs.RelevantSet.{CaaRecord, caaRecords, Lookup, empty, found, lookup, relevantSet}
-use Rattle.spec_rule.specs.Authorizations.{decided}
+use Rattle.spec_rule.specs.Authorizations.{authorizationFrom}
 use Rattle.book_places.specs.Table.{tabled, tableOf, ownerAt, dataAt, isCaaAt}
 use Rattle.book_places.specs.Keys.{keyOf}
 use Rattle.book_places.specs.Chains.{chainsOf}
@@ -116,7 +115,7 @@ Authorization-by-offset =
     (book : List ℕ) (x : Name) (wildcard : Bool) → bookRefusal book ≡ none → GoodName x →
     meaning book (tableOf book) (chainsOf book .links)
     (nameAuthorization book (tableOf book) (chainsOf book .links) (chainsOf book .heads) (wire x) wildcard)
-    ≡ decided wildcard (relevantSet (caaRecords (records book)) x)
+    ≡ authorizationFrom wildcard (relevantSet (caaRecords (records book)) x)
 
 -- the records that an answer names have links, and what governs are issue or issuewild records; for any table, chains and name
 abbrev pub Authorization-bounds : Type 0
