@@ -5,3 +5,5 @@ pub mod JudgementUnpacks
 pub mod ListUnpacks
 pub mod LineUnpacks
 pub mod Table
+pub mod DoorRows
+pub mod DoorWords

@@ -2,3 +2,4 @@ pub mod Answers
 pub mod ListAnswers
 pub mod LineAnswers
 pub mod Theorems
+pub mod Door
