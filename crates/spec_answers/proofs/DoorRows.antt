@@ -3,10 +3,15 @@ use Prim.Native.Nat.{ℕ, zero, suc, _≤_, _<_}
 use native.Mathlib.Omega.{arith}
 use mathlib.Core.Path.{_≡_, refl}
 use mathlib.Core.Logic.{_↔_}
-use mathlib.Core.List.{List}
+use mathlib.Core.Bool.{true}
+use mathlib.Core.List.{List, [], _∷_, List·Memᴰ}
+use lib.Dec.{eqb}
+use borrow.Author.Tests.{eqb-true}
 use Rattle.spec_refusal.specs.declared.Refusal.{Refusal}
 use Rattle.spec_refusal.specs.declared.Refusal.the-variants.{RequestTooLong, BadName, TooManyNames, BadIssuer, BookTooLong, BadRecord, TooManyRecords, NoRoom, BadLine, LineTooLong, BadData}
 use Rattle.spec_refusal.specs.Refusal.{number, place}
+use Rattle.spec_octets.specs.Lists.{any}
+use Rattle.spec_octets.proofs.ListLaws.{any-true}
 use Rattle.spec_rule.specs.Theorems.{Row, FirstRow}
 use Rattle.spec_answers.specs.Door.{TableRow, row-1, row-2, row-3, row-4, row-5, row-6, row-7, row-8, FirstToHold, NoneHolds}
 
@@ -35,6 +40,32 @@ module _ {request book : List ℕ} {four : Type 0} {eight : ℕ → Type 0} wher
   of-table (row-6 k h) = (BadRecord (record { 0 = k }), refl, refl, h)
   of-table (row-7 h) = (TooManyRecords, refl, refl, h)
   of-table (row-8 n h) = (NoRoom n, refl, refl, h)
+
+-- one of the numbers, by computing
+pub one-of : (n : ℕ) (ns : List ℕ) → any (eqb n) ns ≡ true → List·Memᴰ n ns
+one-of n ns e = let (m, there, same) = any-true (eqb n) ns .0 e in rw (eqb-true n m same) there
+
+-- the numbers of the rows that each call has
+module _ {request book : List ℕ} where
+  pub judge-numbers : {four : Type 0} {n p : ℕ} → TableRow request book four (λ k. ⊥) n p → List·Memᴰ n (0 ∷ 1 ∷ 2 ∷ 3 ∷ 4 ∷ 5 ∷ 6 ∷ 7 ∷ 20 ∷ 21 ∷ [])
+  judge-numbers (row-1 h) = one-of _ _ refl
+  judge-numbers (row-2 k h) = one-of _ _ refl
+  judge-numbers (row-3 h) = one-of _ _ refl
+  judge-numbers (row-4 h) = one-of _ _ refl
+  judge-numbers (row-5 h) = one-of _ _ refl
+  judge-numbers (row-6 k h) = one-of _ _ refl
+  judge-numbers (row-7 h) = one-of _ _ refl
+  judge-numbers (row-8 k h) = absurd h
+
+  pub list-numbers : {eight : ℕ → Type 0} {n p : ℕ} → TableRow request book ⊥ eight n p → List·Memᴰ n (1 ∷ 2 ∷ 3 ∷ 5 ∷ 6 ∷ 7 ∷ 8 ∷ 30 ∷ 31 ∷ [])
+  list-numbers (row-1 h) = one-of _ _ refl
+  list-numbers (row-2 k h) = one-of _ _ refl
+  list-numbers (row-3 h) = one-of _ _ refl
+  list-numbers (row-4 h) = absurd h
+  list-numbers (row-5 h) = one-of _ _ refl
+  list-numbers (row-6 k h) = one-of _ _ refl
+  list-numbers (row-7 h) = one-of _ _ refl
+  list-numbers (row-8 k h) = one-of _ _ refl
 
 -- where no row is the first to hold, none holds
 no-first : (rows : Refusal → Type 0) → ((r : Refusal) → FirstRow rows r → ⊥) → (m : ℕ) (r : Refusal) → number r < m → rows r → ⊥

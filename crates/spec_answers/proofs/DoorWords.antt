@@ -35,6 +35,9 @@ module _ (n a b c : ℕ) where
   abbrev pub Holds : Told → Type 0
   Holds t = (n ≡ t .number) × (a ≡ valueOf t 0) × (b ≡ valueOf t 1) × (c ≡ 0)
 
+  pub of-answer : {A : Type 0} (code : A → Told) {x y : A} → x ≡ y → Holds (code x) → Holds (code y)
+  of-answer code e h = rw e at h
+
   pub judge-refused : (j : Judgement) → Holds (judgementTold j) → 1 ≤ n → n ≤ 11 → (r : Refusal) × (j ≡ Refused r) × (number r ≡ n) × (place r ≡ a)
   unfolding judgementTold
   judge-refused Permitted h low high = absurd (omega arith)
@@ -62,6 +65,18 @@ module _ (n a b c : ℕ) where
   judge-21 (UnknownCritical d) h e = absurd (omega arith)
   judge-21 (NotGranted d) h e = rw (h .1, h .2)
   judge-21 (Refused r) h e = absurd (omega (arith, number-range r))
+
+  -- the fields that it has no use for
+  pub judge-b : (j : Judgement) → Holds (judgementTold j) → n ≤ 11 → b ≡ 0
+  unfolding judgementTold
+  judge-b Permitted h less = h .2
+  judge-b (UnknownCritical d) h less = absurd (omega arith)
+  judge-b (NotGranted d) h less = absurd (omega arith)
+  judge-b (Refused r) h less = h .2
+
+  pub judge-a : (j : Judgement) → Holds (judgementTold j) → n ≡ 0 → a ≡ 0
+  unfolding judgementTold
+  judge-a j h e = of-answer judgementTold (judge-0 j h e) h .1
 
   pub list-refused : (x : PermittedIssuers) → Holds (permittedIssuersTold x) → 1 ≤ n → n ≤ 11 → (r : Refusal) × (x ≡ ListRefused r) × (number r ≡ n) × (place r ≡ a)
   unfolding permittedIssuersTold

@@ -7,3 +7,4 @@ pub mod LineUnpacks
 pub mod Table
 pub mod DoorRows
 pub mod DoorWords
+pub mod JudgeDoor
