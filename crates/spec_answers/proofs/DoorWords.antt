@@ -78,11 +78,11 @@ module _ (n a b c : ℕ) where
   unfolding judgementTold
   judge-a j h e = of-answer judgementTold (judge-0 j h e) h .1
 
-  pub list-refused : (x : PermittedIssuers) → Holds (permittedIssuersTold x) → 1 ≤ n → n ≤ 11 → (r : Refusal) × (x ≡ ListRefused r) × (number r ≡ n) × (place r ≡ a)
+  pub list-refused : (x : PermittedIssuers) → Holds (permittedIssuersTold x) → n ≤ 11 → (r : Refusal) × (x ≡ ListRefused r) × (number r ≡ n) × (place r ≡ a)
   unfolding permittedIssuersTold
-  list-refused Anyone h low high = absurd (omega arith)
-  list-refused (Listed count octets) h low high = absurd (omega arith)
-  list-refused (ListRefused r) h low high = (r, refl, omega arith, omega arith)
+  list-refused Anyone h high = absurd (omega arith)
+  list-refused (Listed count octets) h high = absurd (omega arith)
+  list-refused (ListRefused r) h high = (r, refl, omega arith, omega arith)
 
   pub list-30 : (x : PermittedIssuers) → Holds (permittedIssuersTold x) → n ≡ 30 → x ≡ Anyone
   unfolding permittedIssuersTold
@@ -95,6 +95,16 @@ module _ (n a b c : ℕ) where
   list-31 Anyone h e = absurd (omega arith)
   list-31 (Listed count octets) h e = rw (h .1, h .2)
   list-31 (ListRefused r) h e = absurd (omega (arith, number-range r))
+
+  pub list-b : (x : PermittedIssuers) → Holds (permittedIssuersTold x) → n ≤ 30 → b ≡ 0
+  unfolding permittedIssuersTold
+  list-b Anyone h less = h .2
+  list-b (Listed count octets) h less = absurd (omega arith)
+  list-b (ListRefused r) h less = h .2
+
+  pub list-a : (x : PermittedIssuers) → Holds (permittedIssuersTold x) → n ≡ 30 → a ≡ 0
+  unfolding permittedIssuersTold
+  list-a x h e = of-answer permittedIssuersTold (list-30 x h e) h .1
 
   pub line-refused : (m : Made) → Holds (madeTold m) → 1 ≤ n → (r : Refusal) × (m ≡ LineRefused r) × (number r ≡ n) × (place r ≡ a)
   unfolding madeTold

@@ -8,3 +8,4 @@ pub mod Table
 pub mod DoorRows
 pub mod DoorWords
 pub mod JudgeDoor
+pub mod IssuersDoor
