@@ -111,6 +111,11 @@ module _ (n a b c : ℕ) where
   line-refused (Length k) h low = absurd (omega arith)
   line-refused (LineRefused r) h low = (r, refl, omega arith, omega arith)
 
+  pub line-b : (m : Made) → Holds (madeTold m) → b ≡ 0
+  unfolding madeTold
+  line-b (Length k) h = h .2
+  line-b (LineRefused r) h = h .2
+
   pub line-0 : (m : Made) → Holds (madeTold m) → n ≡ 0 → m ≡ Length a
   unfolding madeTold
   line-0 (Length k) h e = rw (h .1)

@@ -9,3 +9,6 @@ pub mod DoorRows
 pub mod DoorWords
 pub mod JudgeDoor
 pub mod IssuersDoor
+pub mod LineDoors
+pub mod WriteLineDoor
+pub mod ReadLineDoor
