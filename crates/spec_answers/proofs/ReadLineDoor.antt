@@ -24,7 +24,7 @@ use Rattle.spec_line.proofs.RoundTrip.{back-and-there}
 use Rattle.spec_line.proofs.ReadBack.{line-placed, data-placed}
 use Rattle.spec_packed.specs.Packed.{numberIn, fieldA, fieldB, fieldC}
 use Rattle.spec_answers.specs.LineAnswers.{madeTold}
-use Rattle.spec_answers.specs.Door.{caaWriteLine, caaReadLine, Outputs, ReadLineWord, Caa-read-line}
+use Rattle.spec_answers.specs.Door.{caaWriteLine, caaReadLine, Outputs, frontOf, ReadLineWord, Caa-read-line}
 use Rattle.spec_answers.proofs.LineUnpacks.{FlagsFit, small-flags-unpack, read-line-unpacks}
 use Rattle.spec_answers.proofs.DoorRows.{one-of}
 use Rattle.spec_answers.proofs.DoorWords.{Holds, line-b}
@@ -102,14 +102,16 @@ module _ (s buffer : List ℕ) (octets : Octets s) where
       flags-of p w flags q e =
           rw (Option·some-injective p q (sym (property-is-its-parts (wireProperty p) p .1 (w .0, w .1)) ∙ e)) at flags
 
-  reads-again : numberIn W ≡ 0 → (p : Property) → LineOf p s → (other : List ℕ) → fieldA W ≤ length other →
-      Outputs (caaReadLine (line p) other) (wireProperty (smallTag p))
-  reads-again n p stands other room =
+  reads-again : numberIn W ≡ 0 → (p : Property) → LineOf p s → (first second : List ℕ) → length (line p) ≤ length first →
+      fieldA W ≤ length second → Outputs (caaReadLine (frontOf (caaWriteLine (take (fieldA W) (O .buffer)) first)) second) (wireProperty (smallTag p))
+  reads-again n p stands first second room₁ room₂ =
       let (short, st, fits) = at-0 n p stands in
       let (w, flags) = writable s p stands in
-      line-reads p
+      let (z, a, front) = writes-again n p stands first room₁ in
+      rw (a, front)
+      (line-reads p
       (line-is-the-grammar (line p) (smallTag p) .0 (back-and-there s p octets (line-is-the-grammar s p .1 stands)))
-      (line-within p flags (w .1) fits) fits other (rw (k .there n p (at-0 n p stands) .1) at room)
+      (line-within p flags (w .1) fits) fits second (rw (k .there n p (short, stands, fits) .1) at room₂))
 
   enough : maxDataOctets ≤ length buffer → numberIn W ≡ 8 → ⊥
   enough long n =

@@ -188,6 +188,10 @@ Caa-permitted-issuers =
 abbrev pub Outputs : Returned → List ℕ → Type 0
 Outputs r x = (numberIn (r .word) ≡ 0) × (fieldA (r .word) ≡ length x) × (take (length x) (r .buffer) ≡ x)
 
+-- the first a octets of the buffer
+abbrev pub frontOf : Returned → List ℕ
+frontOf r = take (fieldA (r .word)) (r .buffer)
+
 -- caa_write_line: CAA data d (flags, tag length, tag, value) to its line of text. `Writable d p`: d is the property p in wire form,
 -- and its tag is letters and digits; `line p` is its line.
 pub record WriteLineWord (d buffer : List ℕ) (word : ℕ) (after : List ℕ) : Type 0 where
@@ -252,9 +256,10 @@ pub record ReadLineWord (s buffer : List ℕ) (word : ℕ) (after : List ℕ) : 
   -- caa_write_line writes that data as a line, in any buffer that has room for it.
   pub writes-again : numberIn word ≡ 0 → (p : Property) → LineOf p s → (other : List ℕ) → length (line p) ≤ length other →
       Outputs (caaWriteLine (take (fieldA word) after) other) (line p)
-  -- And caa_read_line reads this line as the same data with its tag in lower case.
-  pub reads-again : numberIn word ≡ 0 → (p : Property) → LineOf p s → (other : List ℕ) → fieldA word ≤ length other →
-      Outputs (caaReadLine (line p) other) (wireProperty (smallTag p))
+  -- And caa_read_line reads what was written as the same data with its tag in lower case.
+  pub reads-again : numberIn word ≡ 0 → (p : Property) → LineOf p s → (first second : List ℕ) → length (line p) ≤ length first →
+      fieldA word ≤ length second →
+      Outputs (caaReadLine (frontOf (caaWriteLine (take (fieldA word) after) first)) second) (wireProperty (smallTag p))
   -- A buffer as long as the limit of data is never refused with 8.
   pub data-limit-enough : maxDataOctets ≤ length buffer → numberIn word ≢ 8
   -- No other number is ever returned.
