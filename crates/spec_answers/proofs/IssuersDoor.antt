@@ -162,9 +162,9 @@ module _ (request book buffer : List ℕ) (request-octets : Octets request) (boo
       go (r, b) anyone e = absurd (anyone≢listed (sym (answer-of (list-in-the-buffer request book buffer r b .0 e)) ∙ at-31 n .0))
       go (r, b) (listed ns) e =
           let room : length (entries ns) ≤ length buffer = ⊎-elim
-              (leb-true _ _)
-              (λ k. absurd (none-held (at-31 n .1) 8 _ (row-8 _ (ns, e, refl, leb-false _ _ k))))
-              (decided (leb (length (entries ns)) (length buffer))) in
+          (leb-true _ _)
+          (λ k. absurd (none-held (at-31 n .1) 8 _ (row-8 _ (ns, e, refl, leb-false _ _ k))))
+          (decided (leb (length (entries ns)) (length buffer))) in
           let whole = list-in-the-buffer request book buffer r b .1 ns e (omega (arith, entries-length ns)) in
           let (n, a, c) = listed-word request book buffer book-octets (length ns) (total ns) (answer-of whole) in
           (ns, laid W (L .buffer) ns buffer n a c (ap (λ (l : Listing). l .buffer) whole))

@@ -78,7 +78,7 @@ module _ (o : Output) (buffer : List ℕ) (w : ℕ) (u : Holds (numberIn w) (fie
   pub placeless-word : (r : Refusal) → 9 ≤ number r → (numberIn w ≡ number r) ↔ (o .answer ≡ Refused r)
   placeless-word r big = (
     λ n. let (q, e, nq, pq) = line-refused _ _ _ _ (o .answer) u (omega arith) in
-    refused-word r .0 (n, sym pq ∙ place-0 q (omega arith) ∙ sym (place-0 r big)),
+        refused-word r .0 (n, sym pq ∙ place-0 q (omega arith) ∙ sym (place-0 r big)),
     λ e. refused-word r .1 e .0,
   )
 

@@ -66,12 +66,12 @@ module _ (s buffer : List ℕ) (octets : Octets s) where
   way : (O .answer ≡ Refused LineTooLong) ⊎ ((O .answer ≡ Refused BadLine) ⊎ ((p : Property) × Good p))
   way = ⊎-elim
       (λ short. ⊎-elim
-          (λ (p, stands). ⊎-elim
-              (λ fits. inr (inr (p, (short, stands, fits))))
-              (λ over. inl (read-refusals s buffer .0 .1 (inr (short, (p, stands, over)))))
-              (fits-or-not (length (wireProperty p)) maxDataOctets))
-          (λ h. inr (inl (read-refusals s buffer .1 .1 (short, h))))
-          (readable s))
+      (λ (p, stands). ⊎-elim
+      (λ fits. inr (inr (p, (short, stands, fits))))
+      (λ over. inl (read-refusals s buffer .0 .1 (inr (short, (p, stands, over)))))
+      (fits-or-not (length (wireProperty p)) maxDataOctets))
+      (λ h. inr (inl (read-refusals s buffer .1 .1 (short, h))))
+      (readable s))
       (λ long. inl (read-refusals s buffer .0 .1 (inl long)))
       (fits-or-not (length s) maxLineOctets)
 
@@ -82,11 +82,14 @@ module _ (s buffer : List ℕ) (octets : Octets s) where
   at-0 : numberIn W ≡ 0 → (p : Property) → LineOf p s → Good p
   unfolding number
   at-0 n p stands =
-      let (q, (short, other, small), room) = k .output-exactly .0 n in
-      (short, stands, ⊎-elim
-          (λ fits. fits)
-          (λ over. absurd (omega (arith, placeless-word O buffer W u LineTooLong (omega arith) .1 (read-refusals s buffer .0 .1 (inr (short, (p, stands, over)))))))
-          (fits-or-not (length (wireProperty p)) maxDataOctets))
+      let (q, (short, other, small), room) = k .output-exactly .0 n in (
+        short,
+        stands,
+        ⊎-elim
+            (λ fits. fits)
+            (λ over. absurd (omega (arith, placeless-word O buffer W u LineTooLong (omega arith) .1 (read-refusals s buffer .0 .1 (inr (short, (p, stands, over)))))))
+            (fits-or-not (length (wireProperty p)) maxDataOctets),
+      )
 
   writes-again : numberIn W ≡ 0 → (p : Property) → LineOf p s → (other : List ℕ) → length (line p) ≤ length other →
       Outputs (caaWriteLine (take (fieldA W) (O .buffer)) other) (line p)
