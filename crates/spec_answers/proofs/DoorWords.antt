@@ -78,7 +78,8 @@ module _ (n a b c : ℕ) where
   unfolding judgementTold
   judge-a j h e = of-answer judgementTold (judge-0 j h e) h .1
 
-  pub list-refused : (x : PermittedIssuers) → Holds (permittedIssuersTold x) → n ≤ 11 → (r : Refusal) × (x ≡ ListRefused r) × (number r ≡ n) × (place r ≡ a)
+  pub list-refused : (x : PermittedIssuers) → Holds (permittedIssuersTold x) → n ≤ 11 →
+      (r : Refusal) × (x ≡ ListRefused r) × (number r ≡ n) × (place r ≡ a)
   unfolding permittedIssuersTold
   list-refused Anyone h high = absurd (omega arith)
   list-refused (Listed count octets) h high = absurd (omega arith)

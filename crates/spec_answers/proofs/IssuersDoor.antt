@@ -2,11 +2,11 @@
 use Prim.Native.Nat.{ℕ, _≤_, _<_}
 use native.Mathlib.Omega.{arith}
 use mathlib.Core.Path.{_≡_, refl, sym, ap, _∙_}
-use mathlib.Core.Logic.{_↔_, _≢_, _⊎_, inl, inr, ⊎-elim}
+use mathlib.Core.Logic.{_↔_, _⊎_, inl, inr, ⊎-elim}
 use mathlib.Core.List.{List, [], _∷_, _++_, List·Memᴰ}
 use mathlib.Core.Option.{Option, none, some}
 use lib.Dec.{leb}
-use lib.ListN.{length, take, drop, length-append}
+use lib.ListN.{length, drop, length-append}
 use lib.Seq.{take-at}
 use borrow.Author.Tests.{leb-true, leb-false}
 use Rattle.spec_refusal.specs.declared.Refusal.{Refusal}
@@ -15,7 +15,7 @@ use Rattle.spec_refusal.specs.Refusal.{number, place}
 use Rattle.spec_refusal.proofs.Table.{number-and-place-tell}
 use Rattle.spec_octets.specs.Lists.{All}
 use Rattle.spec_octets.specs.Octets.{Octets, lowered}
-use Rattle.spec_octets.specs.Items.{whole, items}
+use Rattle.spec_octets.specs.Items.{whole}
 use Rattle.spec_octets.proofs.ListLaws.{decided}
 use Rattle.spec_request.specs.Request.{requestedNames, requestRefusal}
 use Rattle.spec_request.proofs.Requests.{request-refusals}
@@ -25,8 +25,8 @@ use Rattle.spec_record.proofs.Book.{book-refusals}
 use Rattle.spec_rule.specs.declared.PermittedIssuers.{PermittedIssuers}
 use Rattle.spec_rule.specs.declared.PermittedIssuers.the-variants.{Anyone, Listed, Refused}
 use Rattle.spec_rule.specs.RelevantSet.{caaRecords}
-use Rattle.spec_rule.specs.IssuerLists.{Issuers, anyone, listed, issuers, entries, readEntry}
-use Rattle.spec_rule.specs.Calls.{Listing, authorizations, judge, listIssuers, permittedIssuersTold}
+use Rattle.spec_rule.specs.IssuerLists.{Issuers, anyone, listed, issuers, entries}
+use Rattle.spec_rule.specs.Calls.{Listing, authorizations, listIssuers, permittedIssuersTold}
 use Rattle.spec_rule.specs.Meaning.{Unrestricted}
 use Rattle.spec_rule.specs.Theorems.{total, Row-8, ListRow, FirstRow, ReadsBack, ListsNames, ListingTells}
 use Rattle.spec_rule.proofs.RefusalLaws.{list-refusals}

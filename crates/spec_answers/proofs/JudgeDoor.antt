@@ -3,7 +3,7 @@ use Prim.Native.Nat.{ℕ, _≤_}
 use native.Mathlib.Omega.{arith}
 use mathlib.Core.Path.{_≡_, refl, sym, _∙_}
 use mathlib.Core.Logic.{_↔_}
-use mathlib.Core.List.{List, [], _∷_, map, List·Memᴰ}
+use mathlib.Core.List.{List, [], _∷_, List·Memᴰ}
 use mathlib.Core.Option.{Option, none, some}
 use Rattle.spec_refusal.specs.declared.Refusal.{Refusal}
 use Rattle.spec_octets.specs.Octets.{Octets}
@@ -92,13 +92,14 @@ module _ (request issuer book : List ℕ) where
         refuses-exactly request book (Row-4 issuer) (λ n. ⊥) (λ r. j ≡ Refused r) (judge-refusals request issuer book request-octets book-octets)
         (numberIn w) (fieldA w) (judge-refused _ _ _ _ j u) (λ r e. let h = of-answer _ _ _ _ judgementTold e u in (h .0, h .1))
 
-    -- the number and field a of any word are those of a row, or the number is the verdict's
-    number-holds : (j′ : Judgement) → j ≡ j′ → List·Memᴰ (numberIn w) (0 ∷ 1 ∷ 2 ∷ 3 ∷ 4 ∷ 5 ∷ 6 ∷ 7 ∷ 20 ∷ 21 ∷ [])
+    number-found : (j′ : Judgement) → j ≡ j′ → List·Memᴰ (numberIn w) (0 ∷ 1 ∷ 2 ∷ 3 ∷ 4 ∷ 5 ∷ 6 ∷ 7 ∷ 20 ∷ 21 ∷ [])
     unfolding judgementTold
-    number-holds Permitted e = rw (of-answer _ _ _ _ judgementTold e u .0) (one-of 0 _ refl)
-    number-holds (UnknownCritical d) e = rw (of-answer _ _ _ _ judgementTold e u .0) (one-of 20 _ refl)
-    number-holds (NotGranted d) e = rw (of-answer _ _ _ _ judgementTold e u .0) (one-of 21 _ refl)
-    number-holds (Refused r) e = judge-numbers (refused-word (numberIn w) (fieldA w) (omega (arith, number-range r, of-answer _ _ _ _ judgementTold e u .0)) (omega (arith, number-range r, of-answer _ _ _ _ judgementTold e u .0)) .0 (refl, refl) .0)
+    number-found Permitted e = rw (of-answer _ _ _ _ judgementTold e u .0) (one-of 0 _ refl)
+    number-found (UnknownCritical d) e = rw (of-answer _ _ _ _ judgementTold e u .0) (one-of 20 _ refl)
+    number-found (NotGranted d) e = rw (of-answer _ _ _ _ judgementTold e u .0) (one-of 21 _ refl)
+    number-found (Refused r) e =
+        let n = of-answer _ _ _ _ judgementTold e u .0 in
+        judge-numbers (refused-word (numberIn w) (fieldA w) (omega (arith, number-range r)) (omega (arith, number-range r)) .0 (refl, refl) .0)
 
     pub judge-word : JudgeWord request issuer book (caaJudge request issuer book)
     unfolding judgementTold
@@ -113,7 +114,7 @@ module _ (request issuer book : List ℕ) where
         λ (n, a, b). rw (← a, ← b) (judge-21 _ _ _ _ j u n),
         λ e. let h = of-answer _ _ _ _ judgementTold e u in (h .0, h .1, h .2),
       ) (λ v. v .2 k r);
-      numbers = number-holds j refl;
+      numbers = number-found j refl;
       c-unused = u .3;
       b-unused = judge-b _ _ _ _ j u;
       a-unused = judge-a _ _ _ _ j u;

@@ -2,12 +2,10 @@
 use Prim.Native.Nat.{ℕ, _≤_, _<_}
 use native.Mathlib.Omega.{arith}
 use mathlib.Core.Path.{_≡_, refl, sym, ap, _∙_}
-use mathlib.Core.Logic.{_↔_, _≢_, _⊎_, inl, inr, ⊎-elim, Iff·trans}
-use mathlib.Core.Bool.{Bool, true, false}
-use mathlib.Core.List.{List, [], _∷_, _++_, List·Memᴰ}
-use mathlib.Core.Option.{Option, none, some, Option·none-ne-some, Option·some-injective}
+use mathlib.Core.Logic.{_↔_, _≢_, _⊎_, inl, inr, ⊎-elim}
+use mathlib.Core.List.{List, _++_}
 use lib.Dec.{leb}
-use lib.ListN.{length, take, drop, length-append, length-drop}
+use lib.ListN.{length, drop, length-append, length-drop}
 use lib.Seq.{take-at, drop-at}
 use borrow.Author.Tests.{leb-true, leb-false}
 use Rattle.spec_refusal.specs.declared.Refusal.{Refusal}
@@ -45,9 +43,6 @@ atFront x buffer = record { answer = Length (length x); buffer = x ++ drop (leng
 
 length≢refused : {n : ℕ} {r : Refusal} → Length n ≡ Refused r → ⊥
 length≢refused e = let z : _≡_ {A = ℕ} 0 1 = cc in omega arith
-
-same-refusal : {m : Made} {q r : Refusal} → m ≡ Refused q → m ≡ Refused r → q ≡ r
-same-refusal e f = cc
 
 -- a number fits or it is too large
 pub fits-or-not : (m n : ℕ) → (m ≤ n) ⊎ (n < m)

@@ -3,7 +3,7 @@ use Prim.Native.Nat.{ℕ, _^_, _≤_, _<_}
 use native.Mathlib.Omega.{arith}
 use mathlib.Core.Path.{_≡_, refl, ap}
 use mathlib.Core.Bool.{Bool, true, false, cond}
-use mathlib.Core.List.{List, _∷_, _++_}
+use mathlib.Core.List.{List, _++_}
 use mathlib.Core.Option.{Option, none, some}
 use lib.Dec.{leb}
 use lib.ListN.{length, drop, length-append}
@@ -11,7 +11,6 @@ use borrow.Author.Tests.{leb-true}
 use Rattle.spec_limits.specs.Limits.{maxDataOctets, maxLineOctets}
 use Rattle.spec_refusal.specs.declared.Refusal.the-variants.{NoRoom, LineTooLong, BadData}
 use Rattle.spec_refusal.specs.Refusal.{place}
-use Rattle.spec_octets.specs.Octets.{Octets}
 use Rattle.spec_octets.proofs.ListLaws.{All-head}
 use Rattle.spec_record.specs.Property.{Property, wireProperty, property}
 use Rattle.spec_record.proofs.PropertyLaws.{property-is-its-parts}

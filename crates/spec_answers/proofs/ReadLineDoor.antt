@@ -82,14 +82,13 @@ module _ (s buffer : List ℕ) (octets : Octets s) where
   at-0 : numberIn W ≡ 0 → (p : Property) → LineOf p s → Good p
   unfolding number
   at-0 n p stands =
-      let (q, (short, other, small), room) = k .output-exactly .0 n in (
-        short,
-        stands,
-        ⊎-elim
-            (λ fits. fits)
-            (λ over. absurd (omega (arith, placeless-word O buffer W u LineTooLong (omega arith) .1 (read-refusals s buffer .0 .1 (inr (short, (p, stands, over)))))))
-            (fits-or-not (length (wireProperty p)) maxDataOctets),
-      )
+      let (q, (short, other, small), room) = k .output-exactly .0 n in
+      (short, stands, ⊎-elim (λ fits. fits) (λ over. absurd (large short over)) (fits-or-not (length (wireProperty p)) maxDataOctets))
+    where
+      large : length s ≤ maxLineOctets → maxDataOctets < length (wireProperty p) → ⊥
+      large short over =
+          let ten = placeless-word O buffer W u LineTooLong (omega arith) .1 (read-refusals s buffer .0 .1 (inr (short, (p, stands, over)))) in
+          omega arith
 
   writes-again : numberIn W ≡ 0 → (p : Property) → LineOf p s → (other : List ℕ) → length (line p) ≤ length other →
       Outputs (caaWriteLine (take (fieldA W) (O .buffer)) other) (line p)

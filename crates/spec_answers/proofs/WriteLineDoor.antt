@@ -1,18 +1,17 @@
 -- The word of caa_write_line and the buffer: a refusal, or the line, which caa_read_line reads back.
 use Prim.Native.Nat.{ℕ, _≤_, _<_}
 use native.Mathlib.Omega.{arith}
-use mathlib.Core.Path.{_≡_, refl, sym, ap, _∙_}
-use mathlib.Core.Logic.{_↔_, _⊎_, inl, inr, ⊎-elim, Iff·trans}
+use mathlib.Core.Path.{_≡_, refl, sym, _∙_}
+use mathlib.Core.Logic.{_⊎_, inl, inr, ⊎-elim, Iff·trans}
 use mathlib.Core.Bool.{Bool, true, false, true≢false}
-use mathlib.Core.List.{List, [], _∷_, _++_, List·Memᴰ}
+use mathlib.Core.List.{List, [], _∷_, List·Memᴰ}
 use mathlib.Core.Option.{Option, none, some, Option·none-ne-some, Option·some-injective}
-use lib.ListN.{length, take, drop, length-append, length-map}
+use lib.ListN.{length, take, length-append, length-map}
 use Rattle.spec_limits.specs.Limits.{maxTagOctets, maxDataOctets, maxLineOctets}
-use Rattle.spec_refusal.specs.declared.Refusal.{Refusal}
 use Rattle.spec_refusal.specs.declared.Refusal.the-variants.{NoRoom, LineTooLong, BadData}
 use Rattle.spec_refusal.specs.Refusal.{number}
 use Rattle.spec_octets.specs.Octets.{Octets, isLetterOrDigit}
-use Rattle.spec_octets.proofs.ListLaws.{All-head, All-tail, All-rest, all-true, decided}
+use Rattle.spec_octets.proofs.ListLaws.{All-head, All-tail, All-rest, all-true}
 use Rattle.spec_record.specs.Property.{Property, wireProperty, property}
 use Rattle.spec_record.proofs.PropertyLaws.{property-is-its-parts}
 use Rattle.spec_line.specs.declared.Made.the-variants.{Refused}
@@ -53,7 +52,9 @@ line-reads p stands short fits other room =
 writable : (d : List ℕ) → ((p : Property) × Writable d p) ⊎ ((p : Property) → Writable d p → ⊥)
 writable d = go (property d) refl
   where
-    letters : (q : Property) → property d ≡ some q → (t : Bool) → isWritable q ≡ t → ((p : Property) × Writable d p) ⊎ ((p : Property) → Writable d p → ⊥)
+    letters :
+        (q : Property) → property d ≡ some q → (t : Bool) → isWritable q ≡ t →
+        ((p : Property) × Writable d p) ⊎ ((p : Property) → Writable d p → ⊥)
     letters q e true t = let (is, tagged) = property-is-its-parts d q .0 e in inl (q, (is, tagged, all-true isLetterOrDigit (q .tag) .0 t))
     letters q e false t = inr (λ p (is, tagged, good).
         let same : q ≡ p = Option·some-injective q p (sym e ∙ property-is-its-parts d p .1 (is, tagged)) in

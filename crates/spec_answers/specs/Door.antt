@@ -15,7 +15,7 @@ use Rattle.spec_request.specs.Request.{requestedNames}
 use Rattle.spec_request.specs.Theorems.{GoodRequested, Row-1, Row-2, Row-3}
 use Rattle.spec_issuer.specs.Theorems.{WellFormed, Row-4}
 use Rattle.spec_record.specs.Property.{Property, wireProperty}
-use Rattle.spec_record.specs.Records.{Record, wireRecord, records}
+use Rattle.spec_record.specs.Records.{wireRecord, records}
 use Rattle.spec_record.specs.Theorems.{GoodRecord, Row-5, Row-6, Row-7}
 use Rattle.spec_rule.specs.RelevantSet.{CaaRecord, caaRecords}
 use Rattle.spec_rule.specs.IssuerLists.{entries, readEntry}
