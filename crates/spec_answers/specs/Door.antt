@@ -1,6 +1,13 @@
 -- What a caller of the library may rely on: one statement for each exported call, over the word that it returns and the octets of the
 -- buffer before and after, and nothing else. A word holds its number in bits 0 to 7 and the fields a, b and c behind it
 -- (`numberIn`, `fieldA`, `fieldB`, `fieldC` of spec_packed). Each statement is proved under its name in proofs/.
+--
+-- What the statements speak of stands in specs/ of the crate that it belongs to:
+--   Row-1 to Row-8, WellFormed       the rows of the table of refusals, and a good issuer name: Theorems.antt of spec_request,
+--                                    spec_issuer, spec_record and spec_rule
+--   PermittedTo, Unrestricted, ..    the rule of issue for one name: Meaning.antt of spec_rule
+--   Writable, smallTag; LineOf       what has a line, and the tag in lower case: Theorems.antt of spec_line; which lines stand for
+--                                    which data: Grammar.antt of spec_line
 use Prim.Native.Nat.{ℕ, _≤_, _<_}
 use mathlib.Core.Path.{_≡_}
 use mathlib.Core.Logic.{_↔_, _≢_, _⊎_}
