@@ -89,6 +89,10 @@ FirstToHold row n p = row n p × ((m q : ℕ) → m < n → row m q → ⊥)
 abbrev pub NoneHolds : (ℕ → ℕ → Type 0) → Type 0
 NoneHolds row = (n p : ℕ) → row n p → ⊥
 
+-- the issuer may sign for every name of the request
+abbrev pub EveryPermitted : List ℕ → List ℕ → List ℕ → Type 0
+EveryPermitted request issuer book = All (λ n. PermittedTo (caaRecords (records book)) n issuer) (requestedNames request)
+
 -- name k of the request is n, the lowest for which the issuer may not sign
 abbrev pub LowestDenied : List ℕ → List ℕ → List ℕ → ℕ → Name → Type 0
 LowestDenied request issuer book k n = LowestNot (λ m. PermittedTo (caaRecords (records book)) m issuer) (requestedNames request) k n
@@ -99,10 +103,7 @@ pub record JudgeWord (request issuer book : List ℕ) (word : ℕ) : Type 0 wher
   pub refused-exactly : (n p : ℕ) → 1 ≤ n → n ≤ 11 →
       ((numberIn word ≡ n) × (fieldA word ≡ p)) ↔ FirstToHold (JudgeTable request issuer book) n p
   -- 0, permitted: exactly when no row holds and every name is unrestricted or granted to the issuer.
-  pub permitted-exactly :
-      (numberIn word ≡ 0)
-      ↔ (NoneHolds (JudgeTable request issuer book)
-      × All (λ n. PermittedTo (caaRecords (records book)) n issuer) (requestedNames request))
+  pub permitted-exactly : (numberIn word ≡ 0) ↔ (NoneHolds (JudgeTable request issuer book) × EveryPermitted request issuer book)
   -- 20, unknown critical: exactly when no row holds, k in a is the lowest name denied, and r in b is the first critical record
   -- with an unknown tag among its relevant records.
   pub unknown-critical-exactly : (k r : ℕ) →
