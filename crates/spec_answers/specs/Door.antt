@@ -118,13 +118,16 @@ pub record JudgeWord (request issuer book : List ℕ) (word : ℕ) : Type 0 wher
       × ((n : Name) × LowestDenied request issuer book k n × GovernedFrom (caaRecords (records book)) n r))
   -- No other number is ever returned.
   pub numbers : List·Memᴰ (numberIn word) (0 ∷ 1 ∷ 2 ∷ 3 ∷ 4 ∷ 5 ∷ 6 ∷ 7 ∷ 20 ∷ 21 ∷ [])
-  -- Fields that an answer has no use for are 0: c always, b but for 20 and 21, and a of 0.
+  -- Field c is always 0.
   pub c-unused : fieldC word ≡ 0
+  -- Field b is 0 except for 20 and 21.
   pub b-unused : numberIn word ≤ 11 → fieldB word ≡ 0
+  -- Field a is 0 where the number is 0.
   pub a-unused : numberIn word ≡ 0 → fieldA word ≡ 0
-  -- Where no row holds, the request is its names in wire form, end to end, and the book its records.
+  -- Where no row holds, the request is its names in wire form, end to end, each a good name.
   pub names-read : NoneHolds (JudgeTable request issuer book) →
       (request ≡ flatten (map wire (requestedNames request))) × All GoodRequested (requestedNames request)
+  -- And the book is its records in wire form, end to end, each a good record.
   pub records-read : NoneHolds (JudgeTable request issuer book) →
       (book ≡ flatten (map wireRecord (records book))) × All GoodRecord (records book)
 
@@ -148,9 +151,9 @@ pub record IssuersWord (request book buffer : List ℕ) (word : ℕ) (after : Li
   pub anyone-exactly :
       (numberIn word ≡ 30)
       ↔ (NoneHolds (ListTable request book buffer) × All (Unrestricted (caaRecords (records book))) (requestedNames request))
-  -- Nothing is written then.
+  -- 30 changes no octet of the buffer.
   pub anyone-unchanged : numberIn word ≡ 30 → after ≡ buffer
-  -- And caa_judge permits every well-formed issuer name.
+  -- After 30, caa_judge permits every well-formed issuer name.
   pub anyone-permitted : numberIn word ≡ 30 → (d : List ℕ) → WellFormed d → numberIn (caaJudge request d book) ≡ 0
   -- 31, a list: exactly when no row holds and some requested name is restricted.
   pub listed-exactly :
@@ -158,7 +161,7 @@ pub record IssuersWord (request book buffer : List ℕ) (word : ℕ) (after : Li
       ↔ (NoneHolds (ListTable request book buffer) × (All (Unrestricted (caaRecords (records book))) (requestedNames request) → ⊥))
   -- The list is there to be read: b names in a octets at the front of the buffer.
   pub list-there : numberIn word ≡ 31 → (ns : List (List ℕ)) × Lists word after ns
-  -- Who goes from length octet to length octet, b times, reads these names and nothing else.
+  -- Walking from length octet to length octet, b times, reads these names and nothing else.
   pub list-read : (ns : List (List ℕ)) → Lists word after ns → items readEntry (fieldB word) (take (fieldA word) after) ≡ whole ns
   -- caa_judge permits a well-formed issuer name exactly when it is listed, letter case ignored.
   pub permitted-exactly : (ns : List (List ℕ)) → Lists word after ns → (d : List ℕ) → WellFormed d →
@@ -172,8 +175,9 @@ pub record IssuersWord (request book buffer : List ℕ) (word : ℕ) (after : Li
       LowestNot (Unrestricted (caaRecords (records book))) (requestedNames request) k n →
       GoverningRecords (caaRecords (records book)) n gs → (a b : List ℕ) → List·Memᴰ a ns → List·Memᴰ b ns →
       Before a b ns ↔ GrantedBefore gs a b
-  -- Behind the list the buffer stays as it was, and it keeps its length.
+  -- Behind the list the buffer stays as it was.
   pub rest-stays : numberIn word ≡ 31 → drop (fieldA word) after ≡ drop (fieldA word) buffer
+  -- The buffer keeps its length.
   pub length-stays : length after ≡ length buffer
   -- A buffer as long as the book is never refused with 8.
   pub book-length-enough : length book ≤ length buffer → numberIn word ≢ 8
@@ -182,9 +186,11 @@ pub record IssuersWord (request book buffer : List ℕ) (word : ℕ) (after : Li
       (numberIn (caaPermittedIssuers request book other .word) ≡ 31) × (fieldA (caaPermittedIssuers request book other .word) ≡ fieldA word)
   -- No other number is ever returned.
   pub numbers : List·Memᴰ (numberIn word) (1 ∷ 2 ∷ 3 ∷ 5 ∷ 6 ∷ 7 ∷ 8 ∷ 30 ∷ 31 ∷ [])
-  -- Fields that an answer has no use for are 0: c always, b but for 31, and a of 30.
+  -- Field c is always 0.
   pub c-unused : fieldC word ≡ 0
+  -- Field b is 0 except for 31.
   pub b-unused : numberIn word ≤ 30 → fieldB word ≡ 0
+  -- Field a is 0 where the number is 30.
   pub a-unused : numberIn word ≡ 30 → fieldA word ≡ 0
 
 abbrev pub Caa-permitted-issuers : Type 0
@@ -216,9 +222,11 @@ pub record WriteLineWord (d buffer : List ℕ) (word : ℕ) (after : List ℕ) :
       (numberIn word ≡ 0) ↔ ((length d ≤ maxDataOctets) × ((p : Property) × Writable d p × (length (line p) ≤ length buffer)))
   -- The line then stands at the front of the buffer, with its length in a.
   pub line-there : numberIn word ≡ 0 → (p : Property) → Writable d p → Outputs (record { word = word; buffer = after }) (line p)
-  -- Behind it the buffer stays as it was; it keeps its length; and a refusal changes nothing.
+  -- Behind it the buffer stays as it was.
   pub rest-stays : numberIn word ≡ 0 → drop (fieldA word) after ≡ drop (fieldA word) buffer
+  -- The buffer keeps its length.
   pub length-stays : length after ≡ length buffer
+  -- A refusal changes no octet of the buffer.
   pub refused-unchanged : numberIn word ≢ 0 → after ≡ buffer
   -- caa_read_line reads that line as the same data with its tag in lower case, in any buffer that has room for it.
   pub reads-back : numberIn word ≡ 0 → (p : Property) → Writable d p → (other : List ℕ) → length d ≤ length other →
@@ -227,9 +235,10 @@ pub record WriteLineWord (d buffer : List ℕ) (word : ℕ) (after : List ℕ) :
   pub line-limit-enough : maxLineOctets ≤ length buffer → numberIn word ≢ 8
   -- No other number is ever returned.
   pub numbers : List·Memᴰ (numberIn word) (0 ∷ 8 ∷ 10 ∷ 11 ∷ [])
-  -- Fields that an answer has no use for are 0: b and c always, and a of 10 and 11.
+  -- Fields b and c are always 0.
   pub c-unused : fieldC word ≡ 0
   pub b-unused : fieldB word ≡ 0
+  -- Field a is 0 for 10 and 11.
   pub a-unused : 10 ≤ numberIn word → fieldA word ≡ 0
 
 abbrev pub Caa-write-line : Type 0
@@ -257,9 +266,11 @@ pub record ReadLineWord (s buffer : List ℕ) (word : ℕ) (after : List ℕ) : 
       × ((p : Property) × LineOf p s × (length (wireProperty p) ≤ maxDataOctets) × (length (wireProperty p) ≤ length buffer)))
   -- The data then stands at the front of the buffer, the tag as the line has it, with its length in a.
   pub data-there : numberIn word ≡ 0 → (p : Property) → LineOf p s → Outputs (record { word = word; buffer = after }) (wireProperty p)
-  -- Behind it the buffer stays as it was; it keeps its length; and a refusal changes nothing.
+  -- Behind it the buffer stays as it was.
   pub rest-stays : numberIn word ≡ 0 → drop (fieldA word) after ≡ drop (fieldA word) buffer
+  -- The buffer keeps its length.
   pub length-stays : length after ≡ length buffer
+  -- A refusal changes no octet of the buffer.
   pub refused-unchanged : numberIn word ≢ 0 → after ≡ buffer
   -- caa_write_line writes that data as a line, in any buffer that has room for it.
   pub writes-again : numberIn word ≡ 0 → (p : Property) → LineOf p s → (other : List ℕ) → length (line p) ≤ length other →
@@ -272,9 +283,10 @@ pub record ReadLineWord (s buffer : List ℕ) (word : ℕ) (after : List ℕ) : 
   pub data-limit-enough : maxDataOctets ≤ length buffer → numberIn word ≢ 8
   -- No other number is ever returned.
   pub numbers : List·Memᴰ (numberIn word) (0 ∷ 8 ∷ 9 ∷ 10 ∷ [])
-  -- Fields that an answer has no use for are 0: b and c always, and a of 9 and 10.
+  -- Fields b and c are always 0.
   pub c-unused : fieldC word ≡ 0
   pub b-unused : fieldB word ≡ 0
+  -- Field a is 0 for 9 and 10.
   pub a-unused : 9 ≤ numberIn word → fieldA word ≡ 0
 
 abbrev pub Caa-read-line : Type 0
