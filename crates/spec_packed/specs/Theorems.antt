@@ -2,6 +2,7 @@
 use Prim.Native.Nat.{ℕ, _<_, _+_, _*_, _%_, _^_}
 use mathlib.Core.Path.{_≡_}
 use Rattle.spec_refusal.specs.declared.Refusal.{Refusal}
+use Rattle.spec_refusal.specs.declared.Refusal.the-variants.{BadRecord, NoRoom, BadData}
 use Rattle.spec_refusal.specs.Refusal.{number, place}
 use Rattle.spec_packed.specs.Packed.{packed, packedRefusal, numberIn, fieldA, fieldB, fieldC}
 
@@ -35,3 +36,7 @@ Packed-bits =
 -- the bits of an answer, in one number: 21, name 1, record 3, and 5 in the field that no answer uses yet
 abbrev pub Packed-example : Type 0
 Packed-example = packed 21 1 3 5 ≡ 1407387768455445
+
+-- refusals in one number, worked out by hand: 6 at record 4, 8 for 32 octets, and 11, which has no place
+abbrev pub Packed-refusals : Type 0
+Packed-refusals = (packedRefusal (BadRecord (record { 0 = 4 })) ≡ 1030) × (packedRefusal (NoRoom 32) ≡ 8200) × (packedRefusal BadData ≡ 11)
