@@ -427,7 +427,10 @@ FLAGS_AND_COUNTS = re.compile(
 SECTION = re.compile(r"(QUESTION|ANSWER|AUTHORITY|ADDITIONAL) SECTION:|(?:OPT|EDNS|TSIG|SIG0) PSEUDOSECTION:")
 # Lines that come before the header of an answer, in this order.
 BEFORE_HEADER = [
-    re.compile(r"Truncated, retrying|WARNING: truncated reply from .*, retrying|BADCOOKIE, retrying|TLS session|HTTP session .*\(status: 200\)$|QUIC session"),
+    re.compile(
+        r"Truncated, retrying|WARNING: truncated reply from .*, retrying|BADCOOKIE, retrying"
+        r"|TLS session |HTTP session .*\(status: 200\)$|QUIC session "
+    ),
     re.compile(r"<<>> DiG .*<<>>"),
     re.compile(r"global options:"),
     re.compile(r"Got answer:"),
@@ -436,12 +439,14 @@ BEFORE_HEADER = [
 BEFORE_SECTIONS = re.compile(
     r"WARNING: recursion requested but not available$"  # what matters is in the flags
     r"|Version: 0; flags:[a-z ]*; UDP size: \d+ B; ext-rcode: (NOERROR|NXDOMAIN)$"
-    r"|(NSID|CLIENT-SUBNET|PADDING|COOKIE|EXPIRE|Option \(\d+\)): "
+    r"|(NSID|CLIENT-SUBNET|PADDING|COOKIE|EXPIRE|Option \(\d+\)): "  # kdig's options of EDNS
 )
 BEHIND_SECTIONS = re.compile(
     r"Query time: |SERVER: |WHEN: |MSG SIZE +rcvd: |Received \d+ B$|Time \d|From \S+ in "
     r"|EDNS: version 0; flags:[a-z ]*; udp: \d+$|Data: "
 )
+# Lines with one ; that dig prints within an answer. Other lines with one ; are comments.
+WITHIN_ANSWER = re.compile(r"EDNS: version: |COOKIE: [0-9a-f]")
 # Other lines of these programs, with a reason for people. They are refused, and so is every line that is not known.
 FAILURES = [
     (r"malformed|bad packet|extra byte|short \(|mismatch|(is|are) different|not set|can't print", "an answer is damaged"),
@@ -459,10 +464,8 @@ class LookupFault(Fault):
     """A lookup that failed, or may have failed."""
 
     def __init__(self, reason, line=None, hint=""):
-        super().__init__(
-            f"{reason}, so it is not known which records there are: look the name up again, and paste all lines of a good answer{hint}",
-            line,
-        )
+        what_to_do = "look the name up again, and paste all lines of a good answer"
+        super().__init__(f"{reason}, so it is not known which records there are: {what_to_do}{hint}", line)
 
 
 class Answer:
@@ -509,6 +512,7 @@ class RecordsReader:
         self.items = Items("records", MAX_RECORDS, MAX_BOOK)
         self.answer = None
         self.begun = None  # of a lookup that has no header yet: line number and place in BEFORE_HEADER
+        self.pasted = 0  # answers
         self.answers = {}  # name to its answer
         self.unnamed = []  # answers without records that do not show the name that was looked up
         self.without = {}  # names with "CAA none", and the line
@@ -533,7 +537,7 @@ class RecordsReader:
                 raise LookupFault(f"this signs the CAA records of {name_text(name)}, and none is here", line)
         for name, line in self.without.items():
             if name in owners:
-                raise Fault(f"here it says none, and the file has CAA records of {name_text(name)}: take one of the two out", line)
+                raise Fault(f"this says none, and the file has CAA records of {name_text(name)}: take one of the two out", line)
 
     def close(self):
         """The answer that was read is at its end."""
@@ -542,6 +546,7 @@ class RecordsReader:
         if answer is None:
             return
         answer.check()
+        self.pasted += 1
         if answer.records["ANSWER"] and not answer.properties:
             if answer.question:
                 raise LookupFault("the answer has records, and none is a CAA record", answer.line)
@@ -584,6 +589,8 @@ class RecordsReader:
             raise Fault(f"the resolver reports a problem with this answer ({body}): look the name up with another resolver")
         elif BEFORE_HEADER[1].match(body):
             self.before_header(1)
+        elif WITHIN_ANSWER.match(body):
+            self.need_header()
         elif text.startswith(";;") and body:
             self.program_line(body)
 
@@ -663,7 +670,7 @@ class RecordsReader:
             raise LookupFault(f"this is no question of a lookup: {body}")
         rr_class = numbered("CLASS", words[0], {"IN": CLASS_IN}) if len(words) == 2 else CLASS_IN
         if (numbered("TYPE", words[-1], KNOWN_TYPES), rr_class) != (TYPE_CAA, CLASS_IN):
-            raise Fault(f"this lookup was for {' '.join(words)}, and says nothing about CAA records: look {name} up with {LOOKUP}")
+            raise Fault(f"this lookup was for {' '.join(words)}, and does not tell the CAA records: look {name} up with {LOOKUP}")
         self.answer.question = lower(labels_of(name))
 
     # -- Records
@@ -699,8 +706,8 @@ class RecordsReader:
         answer.owners.add(owner)
         if answer.question not in (None, owner) or len(answer.owners) > 1:
             raise Fault(
-                f"this record is for {name_text(owner)}, and the answer is for another name: leave pasted answers as they are, and "
-                f"write records of your own outside of them. {OWN_LINES}"
+                f"this record is for {name_text(owner)}, and the answer is for another name: leave pasted answers as they are, "
+                f"and write records of your own outside of them. {OWN_LINES}"
             )
         answer.records["ANSWER"] += 1
         if not self.is_signature(head):
@@ -790,7 +797,7 @@ def check_climbs(file, request, reader):
         climbed.update(at[place:] for place in range(len(at)))
         if not at:
             unrestricted[lower(name)] = True
-    if (reader.answers or reader.unnamed) and len(unknown) > len(reader.unnamed):
+    if reader.pasted and len(unknown) > len(reader.unnamed):
         unnamed = (
             f" (answers without records that do not show the name that was looked up: {len(reader.unnamed)}; use +question)"
             if reader.unnamed
@@ -1093,8 +1100,15 @@ def print_texts(texts_of):
     return command
 
 
+class Parser(argparse.ArgumentParser):
+    """Its help fails where standard output fails; argparse's own passes over that."""
+
+    def print_help(self, file=None):
+        print(self.format_help(), end="", file=file)
+
+
 def arguments():
-    parser = argparse.ArgumentParser(
+    parser = Parser(
         prog="caa-files.py",
         usage="caa-files.py make FOLDER --issuer NAME [--names FILE] [--records FILE] [--force]\n"
         "       caa-files.py show FOLDER | names FILE | records FILE",
