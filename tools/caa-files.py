@@ -42,9 +42,10 @@ every name above it, up to the top-level domain:
 
     dig +noall +comments +question +answer www.example.com CAA
 
-Keep all lines of the output: they show which name was looked up, and whether the lookup failed. The
-tool refuses a failed lookup, a truncated answer, an answer of which records are missing, and a name
-that was not looked up. Leave an empty line between pasted output and lines of your own.
+Keep all lines of the output: they show which name was looked up, and whether the lookup failed. Refused
+are a failed lookup, a truncated answer, and an answer with records missing. Once an answer is pasted,
+every name must have an answer or a line of its own: a name that was not looked up is refused too. Leave
+an empty line between pasted output and lines of your own.
 
 CNAME and DNAME records are refused: the desk program does not follow aliases. If www.example.com is an
 alias, look up the final target of the alias, and write each CAA record of the target into records.txt with
@@ -127,7 +128,7 @@ def not_plain(c):
         return f'{what}: use the straight double quote "'
     if unicodedata.category(c)[0] in "ZC":
         return f"{what}, and looks like a space or like nothing: take it out, or use a plain space"
-    return f"{what}: write a name that holds it in its xn-- form, an octet as \\DDD"
+    return f"{what}: write a name that holds it in its xn-- form (dig +noidnout, kdig +noidn), an octet as \\DDD"
 
 
 def labels_of(text):
@@ -452,7 +453,7 @@ FAILURES = [
     (r"malformed|bad packet|extra byte|short \(|mismatch|(is|are) different|not set|can't print", "an answer is damaged"),
     (r"truncated", "an answer was truncated"),
     (r"^(Sending:|To |Sent )", "this is a query and no answer (do not use +qr)"),
-    (r"communications error|no servers|timed out|timeout|failed|can't (connect|send|receive)|ERROR", "a lookup failed"),
+    (r"communications error|no servers|timed out|timeout|too long|failed|can't (connect|send|receive)|ERROR", "a lookup failed"),
 ]
 # Types that may stand beside an answer.
 BESIDE = {"SOA", "NS", "DS", "NSEC", "NSEC3", "RRSIG", "A", "AAAA"}
@@ -713,7 +714,10 @@ class RecordsReader:
         if not self.is_signature(head):
             octets = record(line)
             self.items.add(octets)
-            answer.properties += [data for *_, data in caa_records(octets)]
+            for *_, data in caa_records(octets):
+                if data in answer.properties:
+                    raise LookupFault("an answer has no record twice, and this one is the same as one before it")
+                answer.properties.append(data)
 
     def is_signature(self, head):
         """An RRSIG record over CAA records says nothing more than they do."""
@@ -930,7 +934,7 @@ def file_octets(path):
     try:
         if path == "-":
             if sys.stdin is None:
-                raise Fault("standard input is closed")
+                raise Fault("-: standard input is closed")
             return sys.stdin.buffer.read()
         with open(path, "rb") as file:
             return file.read()
@@ -938,10 +942,13 @@ def file_octets(path):
         raise Fault(f"{path}: {error.strerror}") from None
 
 
-def file_text(path):
-    octets = file_octets(path)
+def file_text(path, option):
+    try:
+        octets = file_octets(path)
+    except Fault as fault:
+        raise Fault(f"{fault}: give another file with {option}") from None
     if path == "-" and not octets:
-        raise Fault("standard input is empty: did the command before it fail? To hand in no records, use an empty file")
+        raise Fault("-: standard input is empty: did the command before it fail? To hand in no records, use an empty file")
     try:
         return octets.decode("utf-8-sig")
     except UnicodeDecodeError as error:
@@ -968,11 +975,11 @@ def make(options):
     if same_input(names, records):
         options.wrong_use(f"names and records are read from the same input ({names} and {records})")
     request, name_count = items_of(
-        names, file_text(names), lambda line: requested_name(line.strip(" \t")), "names", MAX_NAMES, MAX_REQUEST
+        names, file_text(names, "--names"), lambda line: requested_name(line.strip(" \t")), "names", MAX_NAMES, MAX_REQUEST
     )
     if not request:
-        raise Fault(f"{names}: there is no name in it, and the desk program refuses an empty request")
-    book = book_of(records, file_text(records))
+        raise Fault(f"{names}: there is no name in it: write one requested name to a line")
+    book = book_of(records, file_text(records, "--records"))
     issuer = os.fsencode(options.issuer)
     try:
         check_issuer(issuer)

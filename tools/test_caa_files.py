@@ -280,6 +280,7 @@ GOOD = {
             "dig-by-tcp",
             "dig-by-tls",
             "kdig-by-tcp",
+            "kdig-by-tls",
             "kdig-by-https",
             "kdig-cookie",
             "kdig-noall-header",
@@ -338,7 +339,7 @@ REFUSED = {
     "dig-by-tcp-refused": ("Connection to 127.0.0.1#53532", FAILED),
     "drill-by-tcp-refused": ("Error: error sending query", FAILED),
     "kdig-by-tcp-refused": ("can't connect", FAILED),
-    "kdig-tls-failed": ("handshake failed", FAILED),
+    "kdig-tls-refused": ("can't connect", FAILED),
     "dig-no-such-server": ("couldn't get address", FAILED),
     **{form.format("truncated"): (" tc ", TRUNCATED) for form in FOUR},
     **{
@@ -519,16 +520,24 @@ class Lookups(unittest.TestCase):
             if "RRSIG" not in line:
                 self.check(HEADER + flags(0, 1) + "\n;; AUTHORITY SECTION:\n" + line, "does not follow aliases", 5)
         self.check("www.example.com CNAME b", 'with the name that was looked up as its owner, for example: .* CAA 0 issue "', 1)
-        answer = HEADER + flags(1) + ";; QUESTION SECTION:\n;WWW.example.com. IN CAA\n\n;; ANSWER SECTION:\nwww.example.com. CNAME b.\n"
-        self.check(answer, "with www.example.com as its owner.*If the target has no CAA record, write: www.example.com CAA none", 7)
+        question = ";; QUESTION SECTION:\n;WWW.example.com. IN CAA\n\n"
+        answer = HEADER + flags(1) + question + ";; ANSWER SECTION:\nwww.example.com. CNAME b.\n"
+        self.check(answer, "with www.example.com as its owner", 7)
+        self.check(answer, "If the target has no CAA record, write: www.example.com CAA none", 7)
 
     def test_the_count_of_answers(self):
         record = 'a 300 IN CAA 0 issue "x"\n'
-        drill = ";; ->>HEADER<<- opcode: QUERY, rcode: NOERROR, id: 1\n;; flags: qr rd ra ; QUERY: 1, ANSWER: 1, AUTHORITY: 0, ADDITIONAL: 0 \n"
-        kdig = ";; ->>HEADER<<- opcode: QUERY; status: NOERROR; id: 1\n;; Flags: qr rd ra; QUERY: 1; ANSWER: 1; AUTHORITY: 0; ADDITIONAL: 0\n"
+        drill = (
+            ";; ->>HEADER<<- opcode: QUERY, rcode: NOERROR, id: 1\n"
+            ";; flags: qr rd ra ; QUERY: 1, ANSWER: 1, AUTHORITY: 0, ADDITIONAL: 0 \n"
+        )
+        kdig = (
+            ";; ->>HEADER<<- opcode: QUERY; status: NOERROR; id: 1\n"
+            ";; Flags: qr rd ra; QUERY: 1; ANSWER: 1; AUTHORITY: 0; ADDITIONAL: 0\n"
+        )
         for head in [HEADER + flags(1), drill, kdig]:
             self.check(head, "ANSWER: 1, and 0 answer records follow", 1)
-            self.check("\n" + head + record + record, "ANSWER: 1, and 2 answer records follow.*empty line", 2)
+            self.check("\n" + head + record + record.replace("x", "y"), "ANSWER: 1, and 2 answer records follow.*empty line", 2)
             self.check(head + head + record, "ANSWER: 1, and 0", 1)
             self.check(head + record + head, "ANSWER: 1, and 0", 4)
             self.check(head + "\n\n; mine\n" + head + record, "ANSWER: 1, and 0", 1)
@@ -545,7 +554,8 @@ class Lookups(unittest.TestCase):
     def test_a_header_that_is_not_whole(self):
         record = 'a 300 IN CAA 0 issue "x"\n'
         self.check(HEADER + record, "flags and counts is missing", 1)
-        self.check(HEADER + ";; QUERY: 1, ANSWER: 1, AUTHORITY: 0, ADDITIONAL: 0\n" + record, "flags of this answer are missing", 2)
+        counts = ";; QUERY: 1, ANSWER: 1, AUTHORITY: 0, ADDITIONAL: 0\n"
+        self.check(HEADER + counts + record, "flags of this answer are missing", 2)
         self.check(flags(1) + record, "header .* is missing", 1)
         self.check(HEADER + flags(1) + record + "\n" + flags(1) + record, "second time", 5)
         self.check(";; ANSWER SECTION:\n" + record, "header .* is missing", 1)
@@ -600,22 +610,24 @@ class Lookups(unittest.TestCase):
         self.assertEqual(caa.book_of("f", text + text).items.count, 6)
         self.assertEqual(text.count("\n"), 25)
         self.check(text + text.replace("ca1.", "ca9."), "example.com is looked up a second time .* line 6", 25 + 6)
+        twice = HEADER + flags(2) + "a 300 IN CAA 0 issue x\nA 3 CAA 0 issue \"x\"\n"
+        self.check(twice, "no record twice", 4)
         head = HEADER + flags(0) + ";; QUESTION SECTION:\n;example.com. IN CAA\n\n"
         self.check(text + head, "looked up a second time", 26)
 
     def test_comments(self):
         good = "# ;; connection timed out\n; timed out, says my colleague\n  ; x\n;\n;;\n;;;;;;;\n# ->>HEADER<<-\na CAA 0 t x\n"
         self.assertEqual(caa.book_of("f", good).items.count, 1)
-        for line in [";; mine", " ;;; mine", ";; Got SERVFAIL reply from 127.0.0.1, trying next server", ";; Warning: Client COOKIE mismatch"]:
-            self.check(line, "begin it with # or with one ;|look the name up again", 1)
+        for line in [";; mine", " ;;; mine", ";; Got SERVFAIL reply from 127.0.0.1, trying next server"]:
+            self.check(line, "not known, .* begin it with # or with one ;", 1)
         for hidden in ["\x0b", "\x0c", "\x1c", "\x85", "\u2028", "\u2029", "\0", "\x1b"]:
             self.check(f"# mine{hidden}a CAA 0 issue x", "may look like a line end", 1)
         self.assertEqual(caa.book_of("f", "# mine\ra CAA 0 t x\r").items.count, 1)
 
     def test_lines_of_another_kind(self):
-        for line in ["$ dig a CAA", "# dig", "root@host:/# dig a CAA", "user@host ~ % kdig a CAA", "dig a CAA", "PS C:\\> drill a CAA", "u@h:~$"]:
-            if not line.startswith("#"):
-                self.check(line, "command line", 1)
+        prompts = ["$ dig a CAA", "root@host:/# dig a CAA", "user@host ~ % kdig a CAA", "PS C:\\> drill a CAA", "u@h:~$"]
+        for line in [*prompts, "dig a CAA"]:
+            self.check(line, "command line", 1)
         for line in ["Error: error sending query: x", "dig: couldn't get address for 'x': not found"]:
             self.check(line, "a lookup failed", 1)
         self.check("> ;; ->>HEADER<<- opcode: QUERY, status: NOERROR, id: 1", "type", 1)
@@ -651,6 +663,8 @@ class Climbs(unittest.TestCase):
         self.check("www.example.com other.example.org", www + example, "other.example.org, example.org, org")
         # Above a name with CAA records nothing is looked at.
         self.assertEqual(self.notes("pay.example.com", captured("dig-pay")), [])
+        # drill shows the question that came back, and not the one that was sent.
+        self.check("other-question.example.com", captured("drill-other-question") + example, "other-question.example.com")
         # A wildcard's own lookup is not at the name with the star.
         self.check("*.a.example", www.replace("www.example.com", "*.a.example"), "a.example, example")
 
@@ -667,8 +681,10 @@ class Climbs(unittest.TestCase):
     def test_lines_by_hand(self):
         text = "example.com CAA 0 t x\n"
         self.assertEqual(self.notes("www.example.com", text), [])
-        self.assertRegex(self.notes("example.org www.example.com", text)[0], "no CAA record restricts these names.*: example.org$")
-        self.assertRegex(self.notes("www.example.com", text + ". CAA 0 t x\nA.org CAA 0 t x")[0], "count for no requested name: ., a.org$")
+        notes = self.notes("example.org www.example.com", text)
+        self.assertRegex(notes[0], "no CAA record restricts these names.*: example.org$")
+        notes = self.notes("www.example.com", text + ". CAA 0 t x\nA.org CAA 0 t x")
+        self.assertRegex(notes[0], "count for no requested name: [.], a.org$")
 
 
 class Commands(unittest.TestCase):
@@ -844,7 +860,8 @@ class Commands(unittest.TestCase):
         self.assertEqual(status, 1)
         self.assertIn("standard input is empty", error)
         status, error = self.make_with("--force", "--records", "-", preexec_fn=lambda: os.close(0))
-        self.assertEqual((status, error), (1, "caa-files.py: standard input is closed\n"))
+        self.assertEqual(status, 1)
+        self.assertRegex(error, "^caa-files.py: -: standard input is closed[^\\n]*\n$")
         self.assertEqual(self.snapshot(), before)
 
     def make_with(self, *words, preexec_fn):
@@ -883,7 +900,7 @@ class Commands(unittest.TestCase):
                         self.assertEqual((done.returncode, done.stderr.decode()), (1, f"caa-files.py: {reason}\n"))
                         self.assertEqual(self.snapshot(), before)
 
-    def test_a_file_that_can_not_be_written_whole(self):
+    def test_a_file_that_cannot_be_written_whole(self):
         """A limit for the size of files stands for a full disk: request.bin fits, and book.bin does not."""
         before = self.old_case()
 
@@ -955,16 +972,17 @@ class Commands(unittest.TestCase):
         self.assertIn("book.bin: is a folder", error)
         self.assertEqual(self.snapshot(), before)
         self.write("file", "x")
-        status, _, error = self.run_tool(
-            "make", self.path("file/x"), "--issuer", "a", "--names", self.path("names.txt"), "--records", self.path("records.txt")
-        )
+        status, _, error = self.make_in("file/x")
         self.assertEqual((status, error), (1, f"caa-files.py: {self.path('file')}: is not a folder\n"))
+
+    def make_in(self, folder):
+        """With the texts of this folder, in another one."""
+        texts = ["--names", self.path("names.txt"), "--records", self.path("records.txt")]
+        return self.run_tool("make", self.path(folder), "--issuer", "ca1.example.net", *texts)
 
     def test_a_new_folder(self):
         self.whole_case()
-        status, out, error = self.run_tool(
-            "make", self.path("a/b/"), "--issuer", "ca1.example.net", "--names", self.path("names.txt"), "--records", self.path("records.txt")
-        )
+        status, _, error = self.make_in("a/b/")
         self.assertEqual((status, error), (0, ""))
         self.assertEqual(sorted(os.listdir(self.path("a/b"))), ["book.bin", "issuer.txt", "request.bin"])
 
