@@ -561,6 +561,7 @@ class Lookups(unittest.TestCase):
         self.check(";; ANSWER SECTION:\n" + record, "header .* is missing", 1)
         self.check(";; Query time: 0 msec\n", "header .* is missing", 1)
         self.check(";; Got answer:\n", "no header", 1)
+        self.check(HEADER + flags(0) + ";; Got answer:\n;; OPT PSEUDOSECTION:\n", "header .* is missing", 4)
         self.check("; <<>> DiG 9.18.49 <<>> a CAA\n;; global options: +cmd\n", "no header", 1)
         self.check("; <<>> DiG 9.18.49 <<>> a CAA\n; <<>> DiG 9.18.49 <<>> b CAA\n" + HEADER + flags(0), "no header", 1)
         self.check(";; Truncated, retrying in TCP mode.\n", "no header", 1)
