@@ -55,8 +55,8 @@ Record-example =
 abbrev pub Record-is-its-fields : Type 0
 Record-is-its-fields = Reads resourceRecord wireRecord GoodRecord
 
--- accepted with the records rs exactly when the octets are the wire forms of rs, end to end, at most 256 good records, within
--- 32,768 octets
+-- accepted with the records rs exactly when the octets are the wire forms of rs, end to end, at most 1,024 good records, within
+-- 49,152 octets
 abbrev pub Book-is-its-records : Type 0
 Book-is-its-records =
     (b : List ℕ) → Octets b → (rs : List Record) →

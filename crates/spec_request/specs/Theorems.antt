@@ -28,7 +28,7 @@ Wildcard-form =
 abbrev pub Requested-name-is-its-labels : Type 0
 Requested-name-is-its-labels = Reads requestedName wire GoodRequested
 
--- accepted with the names ns exactly when the octets are the wire forms of ns, end to end, 1 to 100 good names, within 8,192 octets
+-- accepted with the names ns exactly when the octets are the wire forms of ns, end to end, 1 to 250 good names, within 16,384 octets
 abbrev pub Request-is-its-names : Type 0
 Request-is-its-names =
     (s : List ℕ) → Octets s → (ns : List Name) →
