@@ -65,20 +65,20 @@ Packed-answers =
     × (packedLine (LineRefused BadData) ≡ 11)
 
 -- an answer as one number, which holds this number and these values
-abbrev pub Holds : ℕ → ℕ → ℕ → ℕ → ℕ → Type 0
-Holds answer x n a b = (answer ≡ x) × (numberIn x ≡ n) × (fieldA x ≡ a) × (fieldB x ≡ b) × (fieldC x ≡ 0)
+abbrev pub PackedAs : ℕ → ℕ → ℕ → ℕ → ℕ → Type 0
+PackedAs answer x n a b = (answer ≡ x) × (numberIn x ≡ n) × (fieldA x ≡ a) × (fieldB x ≡ b) × (fieldC x ≡ 0)
 
 -- No field cuts off what the limits allow. The largest numbers: name 249 of 250, record 1,023 of 1,024, the places 250 and 1,024, a list of
 -- 1,024 issuers, and as many octets as a book or a line may have. Each answer as one number, worked out by hand, and what is found in it.
 abbrev pub Largest-answers : Type 0
 Largest-answers =
-    Holds (packedJudgement (UnknownCritical (denial 249 1023))) 4393751607572 20 249 1023
-    × Holds (packedJudgement (NotGranted (denial 249 1023))) 4393751607573 21 249 1023
-    × Holds (packedJudgement (Refused (BadName (record { 0 = 249 })))) 63746 2 249 0
-    × Holds (packedJudgement (Refused TooManyNames)) 64003 3 250 0
-    × Holds (packedJudgement (Refused (BadRecord (record { 0 = 1023 })))) 261894 6 1023 0
-    × Holds (packedJudgement (Refused TooManyRecords)) 262151 7 1024 0
-    × Holds (packedIssuers (Listed 1024 49152)) 4398059094047 31 49152 1024
-    × Holds (packedIssuers (ListRefused (NoRoom 49152))) 12582920 8 49152 0
-    × Holds (packedLine (Length 16384)) 4194304 0 16384 0
-    × Holds (packedLine (LineRefused (NoRoom 16384))) 4194312 8 16384 0
+    PackedAs (packedJudgement (UnknownCritical (denial 249 1023))) 4393751607572 20 249 1023
+    × PackedAs (packedJudgement (NotGranted (denial 249 1023))) 4393751607573 21 249 1023
+    × PackedAs (packedJudgement (Refused (BadName (record { 0 = 249 })))) 63746 2 249 0
+    × PackedAs (packedJudgement (Refused TooManyNames)) 64003 3 250 0
+    × PackedAs (packedJudgement (Refused (BadRecord (record { 0 = 1023 })))) 261894 6 1023 0
+    × PackedAs (packedJudgement (Refused TooManyRecords)) 262151 7 1024 0
+    × PackedAs (packedIssuers (Listed 1024 49152)) 4398059094047 31 49152 1024
+    × PackedAs (packedIssuers (ListRefused (NoRoom 49152))) 12582920 8 49152 0
+    × PackedAs (packedLine (Length 16384)) 4194304 0 16384 0
+    × PackedAs (packedLine (LineRefused (NoRoom 16384))) 4194312 8 16384 0
