@@ -1,5 +1,6 @@
 //! The judge against ours.
 
+use super::heights::{count_in_vain, count_of_name, OF_VERDICTS};
 use super::log::{Call, Differences, Tally};
 use super::Part;
 use crate::answer::Answer;
@@ -27,6 +28,7 @@ static JUDGE: Call = Call {
 pub struct JudgeComparison {
     theirs: Judge,
     tally: Tally,
+    heights: Tally,
 }
 
 impl JudgeComparison {
@@ -34,6 +36,7 @@ impl JudgeComparison {
         JudgeComparison {
             theirs,
             tally: Tally::new(&JUDGE),
+            heights: Tally::new(&OF_VERDICTS),
         }
     }
 
@@ -47,6 +50,13 @@ impl JudgeComparison {
         let ours = judge(request, issuer, book);
         let theirs = (self.theirs)(request, issuer, book);
         self.tally.count(kind(ours));
+        match ours {
+            Answer::Permitted => count_in_vain(&mut self.heights, request, book),
+            Answer::UnknownCritical { name, .. } | Answer::NotGranted { name, .. } => {
+                count_of_name(&mut self.heights, request, book, name);
+            }
+            Answer::Refused(_) => {}
+        }
         if theirs != Ok(ours) {
             let inputs = [("request", request), ("issuer", issuer), ("book", book)];
             differences.tell(&JUDGE, &inputs, told(theirs), ours);
@@ -72,7 +82,7 @@ impl Part for JudgeComparison {
     }
 
     fn into_tallies(self: Box<Self>) -> Vec<Tally> {
-        vec![self.tally]
+        vec![self.tally, self.heights]
     }
 }
 

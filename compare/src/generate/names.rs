@@ -84,11 +84,14 @@ impl Generator {
             wire.push(label.len() as u8);
             wire.extend(self.any_case(label));
         }
-        let top = self.near_front(&TOP_LABELS);
-        wire.push(top.len() as u8);
-        wire.extend(self.any_case(top));
-        wire.push(0);
+        wire.extend(self.top_name());
         wire
+    }
+
+    /// A name of a top label alone.
+    pub(super) fn top_name(&mut self) -> Vec<u8> {
+        let top = self.near_front(&TOP_LABELS);
+        [&[top.len() as u8], &self.any_case(top)[..], &[0]].concat()
     }
 }
 
