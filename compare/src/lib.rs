@@ -31,6 +31,7 @@ pub mod presentation;
 pub mod readers;
 pub mod request;
 pub mod rule;
+pub mod small_stack;
 pub mod value;
 pub mod word;
 

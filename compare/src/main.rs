@@ -79,7 +79,7 @@ fn compare_library(run: Run) -> ExitCode {
         return wrong_use("compare: built without --features readers, judge, list or lines");
     }
     with_stored_cases(|cases| {
-        let comparison = against::compare(&library::LINKED, cases, run.cases, run.seed);
+        let comparison = against::compare(&library::ON_SMALL_STACK, cases, run.cases, run.seed);
         println!("{comparison}");
         comparison.is_good()
     })
