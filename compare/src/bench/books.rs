@@ -15,8 +15,10 @@ const RECORD_OCTETS: usize = BOOK_OCTETS / BOOK_RECORDS;
 const LEAST_CAA: &[u8] = b"\x00\x01t";
 /// Labels of the deepest name, and of the deepest owner that [`RECORD_OCTETS`] leave room for, all
 /// labels of one octet.
-const DEEPEST_NAME: usize = (NAME_OCTETS - 1) / 2;
+pub const DEEPEST_NAME: usize = (NAME_OCTETS - 1) / 2;
 pub const DEEPEST_OWNER: usize = (RECORD_OCTETS - RECORD_FRAME - LEAST_CAA.len() - 1) / 2;
+/// How many of the deepest names a request has room for.
+pub const DEEPEST_NAMES: usize = REQUEST_OCTETS / NAME_OCTETS;
 /// Labels that each of [`REQUEST_NAMES`] names of one-octet labels may have.
 pub const DEEPEST_OF_ALL: usize = (REQUEST_OCTETS / REQUEST_NAMES - 1) / 2;
 
@@ -52,11 +54,10 @@ pub fn deep_request() -> Vec<u8> {
 /// Names as deep as may be, and one more in what is left. These have a few ancestors more than
 /// those of [`deep_request`], and longer ones.
 pub fn deepest_request() -> Vec<u8> {
-    let names = (REQUEST_OCTETS / NAME_OCTETS).min(REQUEST_NAMES - 1);
-    let mut request = wire(&deep_name('a', DEEPEST_NAME)).repeat(names);
-    let labels = (REQUEST_OCTETS - request.len()).saturating_sub(1) / 2;
-    if labels > 0 {
-        request.extend(wire(&deep_name('a', labels.min(DEEPEST_NAME))));
+    let mut request = wire(&deep_name('a', DEEPEST_NAME)).repeat(DEEPEST_NAMES);
+    let left = (REQUEST_OCTETS - request.len()).saturating_sub(1) / 2;
+    if left > 0 {
+        request.extend(wire(&deep_name('a', left)));
     }
     request
 }

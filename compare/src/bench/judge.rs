@@ -5,7 +5,7 @@ use std::hint::black_box;
 use super::books::{
     book_of, caa, deep_request, deep_request_of_two, deep_wildcards, deepest_request, full_record,
     issue, long_issuer, missed_book, missed_book_with_set_at_top, plain_book, plain_request, wire,
-    Differs, DEEPEST_OF_ALL, DEEPEST_OWNER, ISSUER,
+    Differs, DEEPEST_NAME, DEEPEST_NAMES, DEEPEST_OF_ALL, DEEPEST_OWNER, ISSUER,
 };
 use super::measure::{measure, Measured, Plan, Sides};
 use super::shapes::{Shape, GRANTED, SHAPES};
@@ -131,8 +131,8 @@ fn plain_and_deep() -> Vec<Load> {
         let book = missed_book_with_set_at_top(labels, differs);
         loads.push(load(title, &deep, book));
     }
-    let owners = || (DEEPEST_OWNER, Differs::AtTop);
-    let ((labels, differs), names) = (owners(), "names of 127 labels");
+    let names = format!("{DEEPEST_NAMES} names of {DEEPEST_NAME} labels");
+    let (labels, differs) = (DEEPEST_OWNER, Differs::AtTop);
     loads.push(load(
         format!("{names}, no set, owners deepest"),
         &deepest,

@@ -25,9 +25,20 @@ impl Generator {
         octets
     }
 
+    /// Good records end to end, around the limit of their number. Most are short, so that so many have
+    /// room in a book.
     pub(super) fn many_records(&mut self) -> Vec<u8> {
         let records = BOOK_RECORDS - 1 + self.below(3);
-        (0..records).flat_map(|_| self.record()).collect()
+        let record = |_| {
+            if self.once_in(16) {
+                return self.record();
+            }
+            let owner = self.short_owner();
+            let tag = self.near_front(&KNOWN_TAGS);
+            let rdata = [&[0, tag.len() as u8], tag, &self.issuer()].concat();
+            self.record_of(owner, 257, 1, &rdata)
+        };
+        (0..records).flat_map(record).collect()
     }
 
     /// Many grants for one name, some of them twice and more.

@@ -50,8 +50,13 @@ impl Generator {
                 let octets = self.one_of(&[NAME_OCTETS, NAME_OCTETS - 2, NAME_OCTETS - 64]);
                 self.long_name(octets)
             }
-            _ => self.wire_labels(2, &LABELS),
+            _ => self.short_owner(),
         }
+    }
+
+    /// A name of one or two labels.
+    pub(super) fn short_owner(&mut self) -> Vec<u8> {
+        self.wire_labels(2, &LABELS)
     }
 
     /// A name a little under or over the limit of its octets, or of one label's.
