@@ -121,7 +121,7 @@ pub fn same_up_to_128_octets(one: &[u8], other: &[u8]) -> bool {
     one.len() == other.len() && one[..front].eq_ignore_ascii_case(&other[..front])
 }
 
-/// Labels in small letters, each with a dot behind it.
+/// Labels in lower case, each with a dot behind it.
 fn as_text(name: &[u8]) -> Vec<u8> {
     let mut text = Vec::new();
     let mut rest = name;
