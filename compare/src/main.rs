@@ -89,7 +89,8 @@ fn compare_library(run: Run) -> ExitCode {
         // The same cases for the yardstick, so that the three agree.
         let yardstick = against::compare(&bench::YARDSTICK, cases, run.cases, run.seed);
         if yardstick.is_good() {
-            println!("yardstick: as many cases, 0 differ");
+            let (stored, random) = (cases.len(), yardstick.cases);
+            println!("yardstick: {stored} stored and {random} random cases, 0 differ");
         } else {
             println!("yardstick:\n{yardstick}\n");
         }

@@ -9,7 +9,7 @@ use crate::rule::{caa_records, labels_taken_off, standing, Standing};
 
 /// The kinds, which stand for the labels taken off, but for the last: many labels were, in vain.
 const KINDS: &[(u8, &str)] = &[
-    (0, "0 to 2"),
+    (0, "0 to 2 labels"),
     (3, "3 to 40"),
     (41, "41 to 99"),
     (100, "100 and more"),
@@ -19,11 +19,11 @@ const MANY: usize = 100;
 const IN_VAIN: u8 = 255;
 
 pub static OF_VERDICTS: Call = Call {
-    name: "judge, labels",
+    name: "judge, climb",
     kinds: KINDS,
 };
 pub static OF_LISTS: Call = Call {
-    name: "list, labels",
+    name: "list, climb",
     kinds: KINDS,
 };
 
@@ -99,8 +99,8 @@ mod tests {
         let name = [b"\x01a".repeat(127), vec![0]].concat();
         let governs = b"\x00\x05issue";
         for (height, counted) in [
-            (0, "0 to 2: 1"),
-            (2, "0 to 2: 1"),
+            (0, "0 to 2 labels: 1"),
+            (2, "0 to 2 labels: 1"),
             (3, ", 3 to 40: 1"),
             (40, ", 3 to 40: 1"),
             (41, "41 to 99: 1"),

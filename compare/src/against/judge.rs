@@ -28,6 +28,7 @@ static JUDGE: Call = Call {
 pub struct JudgeComparison {
     theirs: Judge,
     tally: Tally,
+    /// Of the generated cases alone.
     heights: Tally,
 }
 
@@ -46,21 +47,15 @@ impl JudgeComparison {
         issuer: &[u8],
         book: &[u8],
         differences: &mut Differences,
-    ) {
+    ) -> Answer {
         let ours = judge(request, issuer, book);
         let theirs = (self.theirs)(request, issuer, book);
         self.tally.count(kind(ours));
-        match ours {
-            Answer::Permitted => count_in_vain(&mut self.heights, request, book),
-            Answer::UnknownCritical { name, .. } | Answer::NotGranted { name, .. } => {
-                count_of_name(&mut self.heights, request, book, name);
-            }
-            Answer::Refused(_) => {}
-        }
         if theirs != Ok(ours) {
             let inputs = [("request", request), ("issuer", issuer), ("book", book)];
             differences.tell(&JUDGE, &inputs, told(theirs), ours);
         }
+        ours
     }
 }
 
@@ -78,7 +73,13 @@ impl Part for JudgeComparison {
             book,
             ..
         } = inputs;
-        self.compare(request, issuer, book, differences);
+        match self.compare(request, issuer, book, differences) {
+            Answer::Permitted => count_in_vain(&mut self.heights, request, book),
+            Answer::UnknownCritical { name, .. } | Answer::NotGranted { name, .. } => {
+                count_of_name(&mut self.heights, request, book, name);
+            }
+            Answer::Refused(_) => {}
+        }
     }
 
     fn into_tallies(self: Box<Self>) -> Vec<Tally> {

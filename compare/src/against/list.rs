@@ -36,6 +36,7 @@ pub struct ListComparison {
     theirs: PermittedIssuers,
     generator: Generator,
     tally: Tally,
+    /// Of the generated cases alone.
     heights: Tally,
 }
 
@@ -56,18 +57,14 @@ impl ListComparison {
         book: &[u8],
         buffer: &[u8],
         differences: &mut Differences,
-    ) {
+    ) -> Permitted {
         let answer = self.with_buffer(request, book, buffer, differences);
         self.tally.count(kind(answer));
-        match answer {
-            Permitted::Anyone => count_in_vain(&mut self.heights, request, book),
-            Permitted::List { .. } => count_of_restricted(&mut self.heights, request, book),
-            Permitted::Refused(_) => {}
-        }
         for size in sizes_to_try(needed(answer)) {
             let buffer = self.generator.buffer(size);
             self.with_buffer(request, book, &buffer, differences);
         }
+        answer
     }
 
     fn with_buffer(
@@ -108,7 +105,11 @@ impl Part for ListComparison {
             buffer,
             ..
         } = inputs;
-        self.compare(request, book, buffer, differences);
+        match self.compare(request, book, buffer, differences) {
+            Permitted::Anyone => count_in_vain(&mut self.heights, request, book),
+            Permitted::List { .. } => count_of_restricted(&mut self.heights, request, book),
+            Permitted::Refused(_) => {}
+        }
     }
 
     fn into_tallies(self: Box<Self>) -> Vec<Tally> {
