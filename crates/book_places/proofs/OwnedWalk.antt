@@ -63,8 +63,10 @@ module _ (book table links x : List ℕ) where
     pub owned-on : (r : RecordNo) → o ≡ At r → ownedFrom book table links x i ≡ r .0 ∷ ownedFrom book table links x (behind links (r .0))
     owned-on r g = first-of-some (length links) i (omega arith) r (sym f ∙ g)
 
-    pub fewer-left : (r : RecordNo) → o ≡ At r → length (ownedFrom book table links x (behind links (r .0))) < length (ownedFrom book table links x i)
-    fewer-left r g = rw (owned-on r g) (omega arith)
+    pub fewer-left :
+        (r : RecordNo) → o ≡ At r → (j : ℕ) → j ≡ behind links (r .0) →
+        length (ownedFrom book table links x j) < length (ownedFrom book table links x i)
+    fewer-left r g j b = rw (b, owned-on r g) (omega arith)
 
 -- a set is named by its first record; x is its owner
 module _ {A : Type 0} (answer : List ℕ → A) (test : List ℕ → Bool) (book table links : List ℕ) (first : ℕ) where
