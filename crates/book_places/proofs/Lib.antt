@@ -1,2 +1,7 @@
 pub mod ChainLaws
+pub mod KeyLaws
+pub mod StandingRecords
+pub mod TableLaws
+pub mod ChainedRecords
+pub mod SetLaws
 pub mod OwnedWalk

@@ -3,3 +3,4 @@ pub mod Keys
 pub mod Chains
 pub mod Sets
 pub mod NameAuthorizations
+pub mod Theorems
