@@ -1,59 +1,36 @@
 -- A walk over the records of an owner along a chain: behind the first of them come the others. An answer over the whole set is the
 -- answer over what is left of it.
-use Prim.Native.Nat.{ℕ, zero, suc, _+_, _≤_, _<_}
+use Prim.Native.Nat.{ℕ, _<_}
 use native.Mathlib.Omega.{arith}
-use mathlib.Core.Path.{_≡_, refl, sym, ap, _∙_}
-use mathlib.Core.Bool.{Bool, true, false, cond}
+use mathlib.Core.Path.{_≡_, refl, sym, _∙_}
+use mathlib.Core.Bool.{Bool, true, false}
 use mathlib.Core.List.{List, [], _∷_}
-use lib.Dec.{ltb}
 use lib.ListN.{length}
-use borrow.Author.Tests.{ltb-true, le-ltb}
+use borrow.Author.Tests.{lt-ltb}
 use Rattle.spec_octets.specs.Lists.{consIf, select}
 use Rattle.spec_refusal.specs.declared.RecordNo.{RecordNo}
 use Rattle.book_places.specs.declared.FirstRecord.{FirstRecord}
 use Rattle.book_places.specs.declared.FirstRecord.the-variants.{At, Nothing}
 use Rattle.book_places.specs.Table.{ownerAt, dataAt}
-use Rattle.book_places.specs.Chains.{behind, chainFrom}
-use Rattle.book_places.specs.Sets.{isOwned, ownedFrom, firstOf, setAt, inSet}
-use Rattle.book_places.proofs.ChainLaws.{behind-later, chain-step}
+use Rattle.book_places.specs.Chains.{behind}
+use Rattle.book_places.specs.Sets.{ownedFrom, firstOf, setAt, inSet}
+use Rattle.book_places.proofs.ChainLaws.{chain-step}
+use Rattle.book_places.proofs.SetLaws.{first-owned, first-at}
 
 none-there : (is : List ℕ) → firstOf is ≡ Nothing → is ≡ []
 none-there [] e = refl
 none-there (i ∷ is) e = let z : _≡_ {A = ℕ} 0 1 = cc in absurd (omega arith)
 
 module _ (book table links x : List ℕ) where
-  pub owned-step :
-      (i : ℕ) →
-      ownedFrom book table links x i
-      ≡ cond (ltb i (length links)) (consIf (isOwned book table x i) i (ownedFrom book table links x (behind links i))) []
-  unfolding ownedFrom
-  owned-step i = rw (chain-step links i) (by (ltb i (length links)) (chainFrom links (behind links i)))
-    where
-      by :
-          (t : Bool) (is : List ℕ) →
-          select (isOwned book table x) (cond t (i ∷ is) []) ≡ cond t (consIf (isOwned book table x i) i (select (isOwned book table x) is)) []
-      by true is = refl
-      by false is = refl
-
   -- the first, and those behind it
   first-of-some :
-      (f i : ℕ) → length links ≤ i + f → (r : RecordNo) → firstOf (ownedFrom book table links x i) ≡ At r →
+      (i : ℕ) (r : RecordNo) → firstOf (ownedFrom book table links x i) ≡ At r →
       ownedFrom book table links x i ≡ r .0 ∷ ownedFrom book table links x (behind links (r .0))
-  first-of-some zero i h r e = let z : _≡_ {A = ℕ} 0 1 = cc (owned-step i, le-ltb i (length links) (omega arith)) in absurd (omega arith)
-  first-of-some (suc f) i h r e =
-      rw (owned-step i) (go (ltb i (length links)) (isOwned book table x i) refl (rw (owned-step i) at e) (first-of-some f (behind links i)))
-    where
-      others : List ℕ
-      others = ownedFrom book table links x (behind links i)
-
-      go :
-          (t b : Bool) → ltb i (length links) ≡ t → firstOf (cond t (consIf b i others) []) ≡ At r →
-          (length links ≤ behind links i + f → (r : RecordNo) → firstOf others ≡ At r →
-          others ≡ r .0 ∷ ownedFrom book table links x (behind links (r .0))) →
-          cond t (consIf b i others) [] ≡ r .0 ∷ ownedFrom book table links x (behind links (r .0))
-      go false b l k ih = let z : _≡_ {A = ℕ} 0 1 = cc in absurd (omega arith)
-      go true true l k ih = let same : i ≡ r .0 = cc in rw same
-      go true false l k ih = let later = behind-later links i (ltb-true i (length links) l) in ih (omega arith) r k
+  unfolding ownedFrom
+  first-of-some i r e =
+      let (fs, all) = first-at (ownedFrom book table links x i) r e in
+      let here = first-owned book table links x i (r .0) fs all in
+      all ∙ sym (here .same) ∙ rw (chain-step links (r .0), lt-ltb (r .0) (length links) (here .below), here .passes)
 
   -- o is the answer of next_owned
   module _ (i : ℕ) (o : FirstRecord) (f : o ≡ firstOf (ownedFrom book table links x i)) where
@@ -61,7 +38,7 @@ module _ (book table links x : List ℕ) where
     owned-over g = none-there (ownedFrom book table links x i) (sym f ∙ g)
 
     pub owned-on : (r : RecordNo) → o ≡ At r → ownedFrom book table links x i ≡ r .0 ∷ ownedFrom book table links x (behind links (r .0))
-    owned-on r g = first-of-some (length links) i (omega arith) r (sym f ∙ g)
+    owned-on r g = first-of-some i r (sym f ∙ g)
 
     pub fewer-left :
         (r : RecordNo) → o ≡ At r → (j : ℕ) → j ≡ behind links (r .0) →
