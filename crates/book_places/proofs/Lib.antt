@@ -5,3 +5,7 @@ pub mod TableLaws
 pub mod ChainedRecords
 pub mod SetLaws
 pub mod OwnedWalk
+pub mod LookLaws
+pub mod ClimbLaws
+pub mod AuthorizationLaws
+pub mod Bounds
