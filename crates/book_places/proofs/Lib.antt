@@ -9,3 +9,4 @@ pub mod LookLaws
 pub mod ClimbLaws
 pub mod AuthorizationLaws
 pub mod Bounds
+pub mod DataTests

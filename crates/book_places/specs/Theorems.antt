@@ -1,8 +1,8 @@
 -- What the definitions of this crate mean. Each statement is proved under its name in proofs/.
 use Prim.Native.Nat.{ℕ, zero, suc, _<_}
 use mathlib.Core.Path.{_≡_}
-use mathlib.Core.Logic.{_⊎_}
-use mathlib.Core.Bool.{Bool, true}
+use mathlib.Core.Logic.{_↔_, _⊎_}
+use mathlib.Core.Bool.{Bool, true, false}
 use mathlib.Core.List.{List, [], _∷_, map}
 use mathlib.Core.Option.{none, some}
 use lib.ListN.{length, getD, getElem?}
@@ -13,14 +13,15 @@ use Rattle.spec_octets.specs.Octets.{same, lowered, equalIgnoringCase}
 use Rattle.spec_name.specs.Names.{Name, wire}
 use Rattle.spec_name.specs.Theorems.{GoodName}
 use Rattle.spec_record.specs.declared.PropertyTag.{PropertyTag}
-use Rattle.spec_record.specs.declared.PropertyTag.the-variants.{Issue, IssueWild}
+use Rattle.spec_record.specs.declared.PropertyTag.the-variants.{Issue, IssueWild, Unknown}
+use Rattle.spec_record.specs.Property.{Property, property, tagOf, isCritical}
 use Rattle.spec_record.specs.Records.{Record, isCaa, records, bookRefusal}
 use Rattle.spec_rule.specs.RelevantSet.{CaaRecord, caaRecords, Lookup, empty, found, lookup, relevantSet}
 use Rattle.spec_rule.specs.Authorizations.{decided}
 use Rattle.book_places.specs.Table.{tabled, tableOf, ownerAt, dataAt, isCaaAt}
 use Rattle.book_places.specs.Keys.{keyOf}
-use Rattle.book_places.specs.Chains.{Chains, chainsOf}
-use Rattle.book_places.specs.Sets.{isOwned, ownedFrom, firstOf, firstOwned, nearestRecord, setAt, setGrants}
+use Rattle.book_places.specs.Chains.{chainsOf}
+use Rattle.book_places.specs.Sets.{isOwned, ownedFrom, firstOf, firstOwned, nearestRecord, setAt, dataHasTag, dataIsUnknownCritical, dataGrants, setGrants}
 use Rattle.book_places.specs.NameAuthorizations.{nameAuthorization, setGrantees, meaning}
 use Rattle.book_places.specs.declared.FirstRecord.{FirstRecord}
 use Rattle.book_places.specs.declared.FirstRecord.the-variants.{At, Nothing}
@@ -93,6 +94,16 @@ Climb-by-offset =
     (book : List ℕ) (x : Name) → bookRefusal book ≡ none → GoodName x →
     Finds book (tableOf book) (chainsOf book .links) (relevantSet (caaRecords (records book)) x)
     (nearestRecord book (tableOf book) (chainsOf book .links) (chainsOf book .heads) (wire x))
+
+-- the tests of CAA data tell of the property that the data holds; data that is laid out wrongly passes none of them
+abbrev pub Tests-of-data : Type 0
+Tests-of-data =
+    (d : List ℕ) →
+    ((p : Property) → property d ≡ some p →
+    ((tag : PropertyTag) → (dataHasTag tag d ≡ true) ↔ (tagOf (p .tag) ≡ tag))
+    × ((dataIsUnknownCritical d ≡ true) ↔ ((isCritical p ≡ true) × (tagOf (p .tag) ≡ Unknown))))
+    × (property d ≡ none →
+    ((tag : PropertyTag) → dataHasTag tag d ≡ false) × (dataIsUnknownCritical d ≡ false) × ((issuer : List ℕ) → dataGrants issuer d ≡ false))
 
 -- what CAA says of X, or of *.X, by the table and the chains of an accepted book is what the rule says: which kind of answer, the number of the
 -- record that it names, and whom the governing records grant
