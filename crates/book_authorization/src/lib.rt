@@ -12,16 +12,10 @@ fn by_issue(book: &[u8], table: &[u16], links: &[u16], set: RecordNo) -> NameAut
     ensures { λ r. ⌜ r ≡ byIssue (now (book .entry)) (now (table .entry)) (now (links .entry)) set ⌝ }
 {
     let from = set.0;
-    let FirstRecord::At(r) = book_set::first_with_tag(
-        book,
-        table,
-        links,
-        from,
-        PropertyTag::Issue,
-    ) else {
+    let tag = PropertyTag::Issue;
+    let FirstRecord::At(r) = book_set::first_with_tag(book, table, links, from, tag) else {
         return NameAuthorization::Unrestricted;
     };
-    let tag = PropertyTag::Issue;
     NameAuthorization::Governed(Governing { set, first: r, tag })
 }
 
@@ -39,16 +33,10 @@ fn by_tags(
         return by_issue(book, table, links, set);
     }
     let from = set.0;
-    let FirstRecord::At(first) = book_set::first_with_tag(
-        book,
-        table,
-        links,
-        from,
-        PropertyTag::IssueWild,
-    ) else {
+    let tag = PropertyTag::IssueWild;
+    let FirstRecord::At(first) = book_set::first_with_tag(book, table, links, from, tag) else {
         return by_issue(book, table, links, set);
     };
-    let tag = PropertyTag::IssueWild;
     NameAuthorization::Governed(Governing { set, first, tag })
 }
 
