@@ -9,9 +9,11 @@ use lib.ListN.{length, getD, set, length-set, List·getD-eq-default}
 use lib.Seq.{set-out}
 use borrow.Author.Tests.{le-leb, lt-leb, leb-true, leb-false}
 use Rattle.spec_limits.specs.Limits.{maxRecords}
-use Rattle.book_places.specs.Table.{ownerAt}
+use Rattle.book_places.specs.Table.{tabled, ownerAt}
 use Rattle.book_places.specs.Keys.{keyOf}
-use Rattle.book_places.specs.Chains.{Chains, linked, linkedBelow, atMost}
+use Rattle.book_places.specs.Chains.{Chains, linked, linkedBelow, atMost, chainsOf}
+use Rattle.book_places.proofs.StandingRecords.{few-tabled}
+use Rattle.book_chains.specs.Theorems.{Book-linked}
 
 pub over-limit : (limit n : ℕ) → limit < n → limit ≡ atMost limit n
 over-limit limit n h = rw (lt-leb n limit h)
@@ -76,3 +78,7 @@ module _ (book table l₀ h₀ : List ℕ) (m : ℕ) where
 
     pub heads-long : length heads ≡ length h₀
     heads-long = sym (heads-length book table i _) ∙ sym (ap (λ (c : Chains). length (c .heads)) (left .same)) ∙ heads-length book table m _
+
+pub book-linked : Book-linked
+unfolding chainsOf
+book-linked book = rw (← within-limit maxRecords (length (tabled book)) (few-tabled book))
