@@ -47,7 +47,7 @@ module _ (book : List ℕ) where
         (placesFrom book e, subst (RecordTo book at (placesFrom book e)) same (record-to book at owner e k whole), behind)
 
   module _ (at : ℕ) (p : RecordAt) (r : Record) (t : RecordTo book at p r) where
-    ends : at + length (wireRecord r) ≡ p .next
+    pub ends : at + length (wireRecord r) ≡ p .next
     ends = simp length-append (omega (arith, t .owner .long, t .ten, t .order, data-long book at p r t))
 
     stands : Standing at r
