@@ -1,4 +1,4 @@
 pub mod AskedLaws
-pub mod LineAnswer
+pub mod TableMade
 pub mod NameWalk
 pub mod Exactly

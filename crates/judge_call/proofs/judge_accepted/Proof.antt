@@ -2,7 +2,7 @@
 use mathlib.Core.Path.{refl}
 use borrow.Author.Needs.{needs}
 use Rattle.spec_limits.specs.Limits.{maxRecords}
-use Rattle.judge_call.proofs.LineAnswer.{made-ready}
+use Rattle.judge_call.proofs.TableMade.{made-ready}
 use Rattle.judge_call.proofs.judge_accepted.Statement.{statement}
 use Rattle.judge_call.proofs.judge_accepted.Tie as tie
 
