@@ -15,7 +15,7 @@ abbrev pub unblanks : List ℕ → List ℕ
 unblanks [] = []
 unblanks (x ∷ s) = cond (isBlank x) [] (x ∷ unblanks s)
 
--- The offset of the first white space at or after offset `at`; the length of s if there is none.
+-- The offset of the first white space from offset `at` on; the end of s if there is none.
 unfoldable pub fieldEnd : List ℕ → ℕ → ℕ
 fieldEnd s at = at + length (unblanks (drop at s))
 

@@ -2,7 +2,7 @@
 ghost use mathlib.Core.Path.{_≡_};
 ghost use Rattle.line_fields.specs.Places.{fieldEnd, fieldAt};
 
-// The offset of the first white space at or after offset `at`; the length of s if there is none.
+// The offset of the first white space from offset `at` on; the end of s if there is none.
 fn field_end(s: &[u8], at: usize) -> usize
     ensures { λ r. ⌜ r ≡ fieldEnd (now (s .entry)) at ⌝ }
 {

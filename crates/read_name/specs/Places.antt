@@ -19,7 +19,7 @@ endOf s (some r) = At (placeOf s (r .1))
 unfoldable pub nameEnd : List ℕ → ℕ → NameEnd
 nameEnd s at = endOf s (name (drop at s))
 
--- The offset of the parent: the one after the label at `at`, where s are the octets from `at` on. `at` itself if there is no label.
+-- The offset of the parent: the one after the label at `at`, where s are the octets from `at` on. `at` itself if no complete label is there.
 abbrev pub parentFrom : ℕ → List ℕ → ℕ
 parentFrom at [] = at
 parentFrom at (n ∷ s) = cond (eqb n 0 || ltb (length s) n) at (at + 1 + n)

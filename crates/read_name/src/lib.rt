@@ -38,7 +38,7 @@ pub struct Climb {
 }
 
 impl Climb {
-    // Removes one label and returns the new offset; the same offset if there is no label to remove.
+    // Removes one label and returns the new offset; the same offset if no complete label is there.
     pub fn up(self, name: &[u8]) -> Climb
         ensures { λ r. ⌜ r .at ≡ parentPlace (now (name .entry)) (self .at) ⌝ }
     {

@@ -39,7 +39,7 @@ callEdge request issuer book j = record { answered = judge request issuer book; 
 
 abbrev pub callEdges : List CallEdge
 callEdges =
-    -- The whole case; the issuer in upper case; the lowest name that is not permitted; an issuer that only ends like a granted one; no record.
+    -- The whole case; the issuer in mixed case; the lowest name that is not permitted; an issuer that only ends like a granted one; no record.
     callEdge both ca1 (bookOf wholeBook) (NotGranted (denial 1 3))
     ∷ callEdge both (text "CA2.example.ORG") (bookOf wholeBook) Permitted
     ∷ callEdge (asking ("pay.example.com" ∷ "www.example.com" ∷ [])) (text "ca3") (bookOf wholeBook) (NotGranted (denial 0 3))
