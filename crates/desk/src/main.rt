@@ -23,7 +23,7 @@ struct FileRead {
     pub length: usize,
 }
 
-// Reads to the end of the file, or until the buffer is full. If a read fails, the file counts as missing; it is never truncated.
+// Reads to the end of the file, or until the buffer is full. If a read fails, the file counts as missing, never as a shorter file.
 fn read_open(fd: i32, out: &mut [u8]) -> FileRead
     ensures { λ r. ⌜ Taken r (now (out .exit)) ⌝ }
 {
