@@ -179,12 +179,12 @@ class Repository:
 
 
 def text_of(declared):
-    """The comment above a declaration and its text, as they stand in the file."""
+    """The comment above a declaration, and its text, as lines of the file."""
     lines = declared.path.read_text().splitlines()
     start = declared.line - 1
     indent = len(lines[start]) - len(lines[start].lstrip())
     comment = start
-    while comment > 0 and lines[comment - 1].lstrip().startswith(("--", "//")):
+    while comment > 0 and is_comment(lines[comment - 1]):
         comment -= 1
     end = start + 1
     while end < len(lines) and lines[end].strip():
@@ -192,8 +192,8 @@ def text_of(declared):
         if depth < indent or (depth == indent and not lines[end].lstrip().startswith(declared.name + " ")):
             break
         end += 1
-    strip = [line[indent:] if line.startswith(" " * indent) else line for line in lines[comment:end]]
-    return [s for s in strip if s.lstrip().startswith(("--", "//"))], [s for s in strip if not s.lstrip().startswith(("--", "//"))]
+    strip = [line[indent:] for line in lines[comment:end]]
+    return strip[:start - comment], strip[start - comment:]
 
 
 # ---- documents
