@@ -7,6 +7,7 @@ import re
 import sys
 from pathlib import Path
 
+sys.dont_write_bytecode = True
 import repository
 from repository import Repository, edits_named, is_edit_column, near, read_document
 
@@ -48,7 +49,7 @@ file that can't be read."""
 # ---- forms of what stands in backquotes
 
 KEYWORDS = set(  # words of Rattle and of its proof language, and of its tactics
-    "abbrev absurd as by cc const crate do else ensures enum fn for ghost if impl in let loop match mod module mut omega pub record refl"
+    "Type abbrev absurd as by cc const crate do else ensures enum fn for ghost if impl in let loop match mod module mut omega pub record refl"
     " requires return rw search self simp struct subst type unfoldable unfolding use where while".split())
 COMMANDS = set("bash cargo cc dig echo make nm printf python3 rt".split())
 KIT_CRATES = set("std check libc io os".split())  # the libraries of the kit; no crate may have their names
@@ -331,6 +332,10 @@ class Checker:
         if re.fullmatch(r"--[a-z-]+", span):
             if span not in self.options:
                 self.error(document, number, f"`{span}`: no script has this option")
+            return None
+        if re.fullmatch(r"[a-z]+_", span):
+            if not any(c.startswith(span) for c in self.tree.crates):
+                self.error(document, number, f"`{span}`: no crate's name begins so")
             return None
         if span.startswith(".. "):
             ending = span[3:]

@@ -6,8 +6,9 @@ import re
 import sys
 from pathlib import Path
 
+sys.dont_write_bytecode = True
 import repository
-from repository import Repository, counted_lines, read_document
+from repository import Repository, counted_lines, read_lines
 
 FIGURES = "docs/FIGURES.md"
 COUNTS = ["Code", "Specs", "Proofs", "Edits"]
@@ -86,6 +87,11 @@ def edits_by_kind(tree):
     return of_code, len(names) - of_code
 
 
+def kind_of(stem):
+    """0 for a file of definitions, 1 for one of statements, 2 for one of tables."""
+    return 1 if re.match(r"Theorems|Pinned|Meaning|Door", stem) else 2 if re.search(r"Edges$|.Calls$", stem) else 0
+
+
 def figures(tree, run=None):
     table = counted(tree)
     of_code, of_definitions = edits_by_kind(tree)
@@ -110,45 +116,61 @@ def figures(tree, run=None):
         total = [a + b for a, b in zip(total, row)]
         out.append(f"| `{crate}` | " + " | ".join(map(str, row)) + " |")
     out.append("| all | " + " | ".join(map(str, total)) + " |")
-    out += ["", "The crates by room, and what the statements that a reader has to believe take:", "",
+    out += ["", "By room, which is the front of a crate's name:", "",
             "| Room | Crates | Code | Specs | Proofs | Edits |", "|---|---|---|---|---|---|"]
     rooms = {}
     for crate, row in table.items():
         rooms.setdefault(crate.split("_")[0] + ("_" if "_" in crate else ""), []).append(row)
     for room, rows in rooms.items():
         out.append(f"| `{room}` | {len(rows)} | " + " | ".join(str(sum(r[k] for r in rows)) for k in range(4)) + " |")
+    out += ["", "What a reader has to believe is the specs of the crates `spec_..`: definitions; statements of theorems and what they are made of",
+            "(`Theorems`, `Pinned`, `Meaning`, `Door..`); and tables of examples (`..Edges`, `..Calls`). In lines:", "",
+            "| Crate | Definitions | Statements | Tables |", "|---|---|---|---|"]
+    total = [0, 0, 0]
+    for crate in tree.crates:
+        if crate.startswith("spec_"):
+            row = [0, 0, 0]
+            for path in tree.files(crate, "specs"):
+                row[kind_of(path.stem)] += counted_lines(path)
+            total = [a + b for a, b in zip(total, row)]
+            out.append(f"| `{crate}` | " + " | ".join(map(str, row)) + " |")
+    out.append("| all | " + " | ".join(map(str, total)) + " |")
     if run:
         out += ["", "Every edit was refused. An edit rechecks its crate from nothing."]
     return "\n".join(out) + "\n"
 
 
-def read_counts(path):
-    """The counts of each crate, and the sums, as the first table of docs/FIGURES.md has them."""
-    counts = {}
-    for line in read_document(path):
-        if line.cells and line.header[:5] == ["Crate", *COUNTS]:
-            name = line.cells[0].strip("`")
-            if name in counts:
-                raise Wrong(f"{path.name}:{line.number}: {name} stands twice")
-            counts[name] = (line.number, [int(c) for c in line.cells[1:5]])
-    if not counts:
-        raise Wrong(f"{path}: no table with the columns Crate, {', '.join(COUNTS)}")
-    return counts
+def rows_of(text):
+    """The rows of the tables of a document, by the first titles of the table and the first cell of the row: the line, the titles, the cells."""
+    rows = {}
+    for line in read_lines(text):
+        if line.cells:
+            key = tuple(line.header[:2]), line.cells[0].strip("`")
+            if key in rows:
+                raise Wrong(f"{FIGURES}:{line.number}: {key[1]} stands twice")
+            rows[key] = line.number, line.header, line.cells
+    return rows
 
 
 def check(tree, path):
-    """What differs between the document and the tree."""
-    there, now = read_counts(path), counted(tree)
-    now["all"] = [sum(row[k] for row in now.values()) for k in range(4)]
+    """What differs between the document and the tree: each count, and no time."""
+    text, wanted = path.read_text(), figures(tree)
+    there, now = rows_of(text), rows_of(wanted)
     found = []
-    for crate, row in now.items():
-        if crate not in there:
-            found.append(f"{FIGURES}: no row for {crate}")
-        elif there[crate][1] != row:
-            number, old = there[crate]
-            differ = ", ".join(f"{t.lower()} {a}, in the tree {b}" for t, a, b in zip(COUNTS, old, row) if a != b)
-            found.append(f"{FIGURES}:{number}: {crate}: {differ}")
-    found += [f"{FIGURES}:{there[crate][0]}: no crate {crate}" for crate in there if crate not in now]
+    for (title, name), (_, titles, cells) in now.items():
+        if (title, name) not in there:
+            found.append(f"{FIGURES}: no row for {name} in the table of {title[0]}, {title[1]}")
+            continue
+        number, old_titles, old = there[title, name]
+        if old_titles[:len(titles)] != titles:
+            found.append(f"{FIGURES}:{number}: the table has other columns than {', '.join(titles)}")
+        differ = ", ".join(f"{t.lower()} {a}, in the tree {b}" for t, a, b in zip(titles[1:], old[1:], cells[1:]) if a != b)
+        if differ:
+            found.append(f"{FIGURES}:{number}: {name}: {differ}")
+    found += [f"{FIGURES}:{there[key][0]}: no {key[0][0].lower()} {key[1]} in the tree" for key in there if key not in now]
+    kinds = "{} of code (`code_..`) and {} of definitions".format(*edits_by_kind(tree))
+    if kinds not in text.replace("\n", " "):
+        found.append(f"{FIGURES}: the edits are {kinds}")
     return found
 
 

@@ -1,5 +1,6 @@
 """What the tools for readers take from the repository: its crates, what they declare, their deliberately wrong versions (edits), and the
 tables of the documents. Nothing here holds a list of names: all is read from the files."""
+import difflib
 import re
 from pathlib import Path
 
@@ -221,9 +222,13 @@ def cells_of(line):
 
 
 def read_document(path):
+    return read_lines(path.read_text())
+
+
+def read_lines(document):
+    """The lines of a document."""
     lines, header, fenced, heading, blank = [], None, False, "", True
-    texts = path.read_text().splitlines()
-    for number, text in enumerate(texts, 1):
+    for number, text in enumerate(document.splitlines(), 1):
         if text.startswith("```"):
             fenced = not fenced
             lines.append(Line(number, text, True, heading=heading))
@@ -268,5 +273,4 @@ def edits_named(cell, crate=None):
 
 def near(name, names):
     """Names like this one, the nearest first."""
-    import difflib
     return difflib.get_close_matches(name, list(names), 3, 0.6)

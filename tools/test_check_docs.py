@@ -11,6 +11,7 @@ from pathlib import Path
 
 HERE = Path(__file__).resolve().parent
 sys.path.insert(0, str(HERE))
+sys.dont_write_bytecode = True
 import figures  # noqa: E402
 from repository import ROOT, Repository, edits_named, lower_first, read_document  # noqa: E402
 
@@ -233,12 +234,16 @@ class Figures(unittest.TestCase):
 
     def test_check(self):
         document = self.root / figures.FIGURES
-        document.write_text(figures.figures(self.tree))
-        self.assertEqual([], figures.check(self.tree, document))
-        document.write_text(document.read_text().replace("| `low` | 2 | 2 |", "| `low` | 2 | 3 |"))
-        self.assertEqual(["docs/FIGURES.md:8: low: specs 3, in the tree 2"], figures.check(self.tree, document))
-        document.write_text(figures.figures(self.tree).replace("`high_one`", "`gone`"))
-        self.assertEqual(2, len(figures.check(self.tree, document)))
+        for text in (figures.figures(self.tree), figures.figures(self.tree, figures.Run(self.log, self.tree))):
+            document.write_text(text)
+            self.assertEqual([], figures.check(self.tree, document))
+            document.write_text(text.replace("| `low` | 2 | 2 |", "| `low` | 2 | 3 |"))
+            number = 1 + text.splitlines().index(next(x for x in text.splitlines() if x.startswith("| `low` |")))
+            self.assertEqual([f"docs/FIGURES.md:{number}: low: specs 3, in the tree 2"], figures.check(self.tree, document))
+            document.write_text(text.replace("| `high_one` |", "| `gone` |"))
+            self.assertEqual(2, len(figures.check(self.tree, document)))
+            document.write_text(text.replace("1 of code", "3 of code"))
+            self.assertEqual(1, len(figures.check(self.tree, document)))
 
     def test_logs_that_are_refused(self):
         for gone in (0, 2, 4):

@@ -13,9 +13,9 @@ from pathlib import Path
 
 HERE = Path(__file__).resolve().parent
 sys.path.insert(0, str(HERE))
+sys.dont_write_bytecode = True
 from repository import ROOT, Repository, counted_lines, edits_named, read_document  # noqa: E402
 
-sys.dont_write_bytecode = True
 loader = importlib.machinery.SourceFileLoader("try_fraud", str(HERE / "try-fraud"))
 try_fraud = importlib.util.module_from_spec(importlib.util.spec_from_loader("try_fraud", loader))
 loader.exec_module(try_fraud)
