@@ -62,9 +62,9 @@ abbrev pub valued : String → List ℕ → Record
 valued tag value =
     record { owner = dotted "example.com"; type = 257; class = 1; ttl = 3600; rdata = wireProperty (record { flags = 0; tag = text tag; value = value }) }
 
--- The name `com` with n labels `a` in front.
+-- The name `c` with n labels `a` in front: of 127 labels in all, the most that a name can have, it takes 255 octets.
 abbrev pub below : ℕ → Name
-below n = replicate n (text "a") ++ dotted "com"
+below n = replicate n (text "a") ++ dotted "c"
 
 abbrev pub climbEdge : List Record → ℕ → Authorization → Edge
 climbEdge book n a = record { ruled = of-name (authorization (caaRecords book) (below n)); stated = of-name a }
@@ -167,9 +167,9 @@ edges =
     ∷ nameEdge (caa "com" 0 "issue" "ca1.example.net" ∷ []) "www.example.com" (granted 0 (ca1 ∷ []))
     ∷ nameEdge (rootIssuing ∷ []) "www.example.com" unrestricted
     -- 3, 41 and 126 labels below the owner; a name in wire form has at most 127 labels.
-    ∷ climbEdge (caa "com" 0 "issue" "ca1.example.net" ∷ []) 3 (granted 0 (ca1 ∷ []))
-    ∷ climbEdge (caa "com" 0 "issue" "ca1.example.net" ∷ []) 41 (granted 0 (ca1 ∷ []))
-    ∷ climbEdge (caa "com" 0 "issue" "ca1.example.net" ∷ []) 126 (granted 0 (ca1 ∷ []))
+    ∷ climbEdge (caa "c" 0 "issue" "ca1.example.net" ∷ []) 3 (granted 0 (ca1 ∷ []))
+    ∷ climbEdge (caa "c" 0 "issue" "ca1.example.net" ∷ []) 41 (granted 0 (ca1 ∷ []))
+    ∷ climbEdge (caa "c" 0 "issue" "ca1.example.net" ∷ []) 126 (granted 0 (ca1 ∷ []))
     ∷ climbEdge (rootIssuing ∷ []) 126 unrestricted
     -- An asterisk in an owner is an ordinary label.
     ∷ nameEdge (caa "*.example.com" 0 "issue" ";" ∷ issuing "ca1.example.net") "*.example.com" (granted 1 (ca1 ∷ []))
