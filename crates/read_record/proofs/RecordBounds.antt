@@ -1,4 +1,4 @@
--- The bounds of a record that read_record answers, for loops over the records of a book.
+-- Bounds of the offsets that read_record returns, for loops over the records of a book.
 use Prim.Native.Nat.{ℕ, _≤_}
 use native.Mathlib.Omega.{arith}
 use mathlib.Core.Path.{_≡_}

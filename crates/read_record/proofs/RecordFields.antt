@@ -1,4 +1,4 @@
--- A record's fields, read by their places behind the end of the owner.
+-- The fields of a record at their offsets after the owner.
 use Prim.Native.Nat.{ℕ, _≤_, _+_, _-_}
 use native.Mathlib.Omega.{arith}
 use mathlib.Core.Path.{_≡_, refl}

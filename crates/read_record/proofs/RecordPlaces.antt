@@ -1,4 +1,4 @@
--- What the places of a record, as code hands them on, say of the record read there: for whoever walks a slice by them.
+-- What the offsets of a record say about the record read there, for code that walks a slice by them.
 use Prim.Native.Nat.{ℕ, _≤_, _<_, _+_, _-_}
 use native.Mathlib.Omega.{arith}
 use mathlib.Core.Path.{_≡_, refl, sym, ap, _∙_}

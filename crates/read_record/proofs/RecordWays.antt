@@ -1,4 +1,4 @@
--- The law of recordAt for each way out of read_record.
+-- A law of recordAt for each return of read_record.
 use Prim.Native.Nat.{ℕ, _≤_, _<_, _+_, _-_}
 use native.Mathlib.Omega.{arith}
 use mathlib.Core.Path.{_≡_, sym, _∙_}

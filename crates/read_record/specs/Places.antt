@@ -1,4 +1,4 @@
--- Definitions by place, for code that walks a slice: each is a value definition at what is left of the slice from a place on.
+-- The same definitions over offsets, for code that walks a slice: `recordAt s at` is about the octets of `s` from offset `at` on.
 use Prim.Native.Nat.{ℕ, _+_, _-_}
 use mathlib.Core.List.{List}
 use mathlib.Core.Option.{Option, none, some}
@@ -9,7 +9,7 @@ use Rattle.spec_record.specs.Records.{Record, resourceRecord}
 use Rattle.read_record.specs.declared.RecordRead.{RecordRead}
 use Rattle.read_record.specs.declared.RecordRead.the-variants.{Good as RecordThere, Fault as RecordFault}
 
--- the record ends where what is left begins, and so does its data
+-- The record ends where the remaining octets begin, and so does its data.
 abbrev pub recordPlaces : List ℕ → ℕ → Option (Record × List ℕ) → RecordRead
 recordPlaces s at none = RecordFault
 recordPlaces s at (some r) =
@@ -21,6 +21,6 @@ recordPlaces s at (some r) =
       next = placeOf s (r .1);
     })
 
--- the record that begins at `at`
+-- The record that begins at offset `at`.
 unfoldable pub recordAt : List ℕ → ℕ → RecordRead
 recordAt s at = recordPlaces s at (resourceRecord (drop at s))

@@ -1,4 +1,4 @@
--- The table of refusals by number and place, and by refusal: the same rows, and the same first one.
+-- The table of refusals by number and place, and the table by refusal, have the same rows and the same first row that holds.
 use Prim.Native.Nat.{ℕ, zero, suc, _≤_, _<_}
 use native.Mathlib.Omega.{arith}
 use mathlib.Core.Path.{_≡_, refl}

@@ -1,4 +1,4 @@
--- The word of caa_permitted_issuers and the buffer: the table's first row, or the list.
+-- The word of caa_permitted_issuers and the buffer: the first row of the table that holds, or the list.
 use Prim.Native.Nat.{ℕ, _≤_, _<_}
 use native.Mathlib.Omega.{arith}
 use mathlib.Core.Path.{_≡_, refl, sym, ap, _∙_}

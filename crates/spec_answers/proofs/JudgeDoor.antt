@@ -1,4 +1,4 @@
--- The word of caa_judge: the table's first row, or the rule's verdict.
+-- The word of caa_judge: the first row of the table that holds, or the verdict.
 use Prim.Native.Nat.{ℕ, _≤_}
 use native.Mathlib.Omega.{arith}
 use mathlib.Core.Path.{_≡_, refl, sym, _∙_}

@@ -1,4 +1,4 @@
--- Unpacking what writing and reading a line answer gives its number and the length or the place: each length fits its field.
+-- Unpacking the answers of writing and reading a line gives the number and the length or place: each length fits its field.
 use Prim.Native.Nat.{ℕ, _^_, _≤_, _<_}
 use native.Mathlib.Omega.{arith}
 use mathlib.Core.Path.{_≡_, refl, ap}

@@ -1,4 +1,4 @@
--- Some answers as numbers, by computing.
+-- Packed answers as numbers, by computing.
 use mathlib.Core.Path.{refl}
 use Rattle.spec_limits.specs.Limits.{maxNames, maxRecords}
 use Rattle.spec_refusal.specs.Refusal.{number, place}

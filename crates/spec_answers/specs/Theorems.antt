@@ -16,23 +16,23 @@ use Rattle.spec_answers.specs.Answers.{valueOf, packedJudgement}
 use Rattle.spec_answers.specs.ListAnswers.{packedIssuers}
 use Rattle.spec_answers.specs.LineAnswers.{lineCode, packedLine}
 
--- unpacking gives the number and the values, and nothing else
+-- Unpacking x gives the number and the values of the answer t, and 0 in field c.
 abbrev pub Unpacked : ℕ → AnswerCode → Type 0
 Unpacked x t = (numberIn x ≡ t .number) × (fieldA x ≡ valueOf t 0) × (fieldB x ≡ valueOf t 1) × (fieldC x ≡ 0)
 
--- for every input of the call
+-- For every input of the call that judges.
 abbrev pub Judgement-unpacks : Type 0
 Judgement-unpacks =
     (request issuer book : List ℕ) →
     Unpacked (packedJudgement (judge request issuer book)) (judgementCode (judge request issuer book))
 
--- of a list the octets in a and the count in b
+-- For every input of the call that lists: octets in a, count in b.
 abbrev pub List-unpacks : Type 0
 List-unpacks =
     (request book buffer : List ℕ) → Octets book →
     Unpacked (packedIssuers (listIssuers request book buffer .answer)) (permittedIssuersCode (listIssuers request book buffer .answer))
 
--- and of the two calls on lines, whose answers are lengths or refusals
+-- For every input of the two calls on lines, which answer with a length or a refusal.
 abbrev pub Written-line-unpacks : Type 0
 Written-line-unpacks =
     (d buffer : List ℕ) → Octets d → Unpacked (packedLine (writeLine d buffer .answer)) (lineCode (writeLine d buffer .answer))
@@ -40,8 +40,8 @@ Written-line-unpacks =
 abbrev pub Read-line-unpacks : Type 0
 Read-line-unpacks = (s buffer : List ℕ) → Unpacked (packedLine (parseLine s buffer .answer)) (lineCode (parseLine s buffer .answer))
 
--- answers as one number, worked out by hand: the number, the place or the first value times 256, the second times 4294967296.
--- Names 7, 2 and 1, records 4, 5 and 3, 32 octets, a list of 2 in 32 octets, a line of 36 octets.
+-- Packed answers, worked out by hand: the number, plus the place or the first value times 256, plus the second value times 4294967296.
+-- Names 7, 2 and 1, records 4, 5 and 3, 32 octets, a list of 2 names in 32 octets, a line of 36 octets.
 abbrev pub Packed-answers : Type 0
 Packed-answers =
     (packedJudgement Permitted ≡ 0)
@@ -64,12 +64,12 @@ Packed-answers =
     × (packedLine (LineRefused LineTooLong) ≡ 10)
     × (packedLine (LineRefused BadData) ≡ 11)
 
--- an answer as one number, which holds this number and these values
+-- An answer is packed as the word x. Taken apart again, x gives the number n, a and b, and 0 in field c.
 abbrev pub PackedAs : ℕ → ℕ → ℕ → ℕ → ℕ → Type 0
 PackedAs answer x n a b = (answer ≡ x) × (numberIn x ≡ n) × (fieldA x ≡ a) × (fieldB x ≡ b) × (fieldC x ≡ 0)
 
--- No field cuts off what the limits allow. The largest numbers: name 249 of 250, record 1,023 of 1,024, the places 250 and 1,024, a list of
--- 1,024 issuers, and as many octets as a book or a line may have. Each answer as one number, worked out by hand, and what is found in it.
+-- No field cuts off a number that the limits allow. The largest ones, worked out by hand: name 249, record 1,023, the places 250 and 1,024, a
+-- list of 1,024 names, 49,152 octets of a list, 16,384 octets of a line.
 abbrev pub Largest-answers : Type 0
 Largest-answers =
     PackedAs (packedJudgement (UnknownCritical (denial 249 1023))) 4393751607572 20 249 1023

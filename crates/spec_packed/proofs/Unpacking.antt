@@ -1,4 +1,4 @@
--- What is packed is found again; of a refusal the number and the place.
+-- Unpacking returns what was packed; for a refusal its number and place.
 use Prim.Native.Nat.{_^_, _<_}
 use native.Mathlib.Omega.{arith}
 use mathlib.Core.Path.{refl}

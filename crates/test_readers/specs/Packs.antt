@@ -1,4 +1,4 @@
--- The answers of the readers as numbers.
+-- The results of the readers, packed into numbers.
 use Prim.Native.Nat.{ℕ}
 use mathlib.Core.Bool.{Bool, true, false, cond}
 use Rattle.spec_packed.specs.Packed.{packed}
