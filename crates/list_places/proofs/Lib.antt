@@ -1,0 +1,5 @@
+pub mod Joining
+pub mod GrantNames
+pub mod CandidateLaws
+pub mod CollectedNames
+pub mod NarrowedNames
