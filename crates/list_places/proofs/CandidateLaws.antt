@@ -3,7 +3,9 @@ use Prim.Native.Nat.{ℕ, zero, suc, _+_, _*_, _≤_, _<_}
 use native.Mathlib.Omega.{arith}
 use native.Mathlib.Nat.{add-zero, add-suc}
 use mathlib.Core.Path.{_≡_, refl, ap, _∙_}
+use mathlib.Core.Bool.{Bool, true, false, cond}
 use mathlib.Core.List.{List, [], _∷_, _++_}
+use lib.Dec.{ltb}
 use lib.ListN.{length, getD, set, length-set}
 use lib.Seq.{getD-set-same, getD-set-other}
 use borrow.Author.Tests.{lt-ltb, le-ltb}
@@ -64,6 +66,14 @@ module _ (c : Candidates) (g : Grant) where
   pub push-full : length (c .names) ≤ 2 * c .count + 1 → pushed c g ≡ c
   unfolding pushed
   push-full h = rw (le-ltb (2 * c .count + 1) (length (c .names)) h)
+
+  pub pushed-most : pushed c g .count ≤ suc (c .count)
+  unfolding pushed
+  pushed-most = go (ltb (2 * c .count + 1) (length (c .names)))
+    where
+      go : (t : Bool) → cond t (record { count = suc (c .count); names = withOne [] (c .names) (c .count) (g .at) (g .octets) }) c .count ≤ suc (c .count)
+      go true = omega arith
+      go false = omega arith
 
   module _ (h : 2 * c .count + 1 < length (c .names)) where
     pub pushed-count : pushed c g .count ≡ suc (c .count)

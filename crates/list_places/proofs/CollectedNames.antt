@@ -55,7 +55,7 @@ module _ (book table : List ℕ) (tag : PropertyTag) where
       go false o h = omega arith
 
 -- at most one grant for each link
-few-grants : (book table links : List ℕ) (s : TaggedSet) (i : ℕ) → length (grantsFrom book table links s i) ≤ length links
+pub few-grants : (book table links : List ℕ) (s : TaggedSet) (i : ℕ) → length (grantsFrom book table links s i) ≤ length links
 unfolding grantsFrom ownedFrom chainFrom
 few-grants book table links s i =
     omega (
