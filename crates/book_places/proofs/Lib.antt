@@ -2,3 +2,10 @@ pub mod ChainLaws
 pub mod KeyLaws
 pub mod StandingRecords
 pub mod TableLaws
+pub mod ChainedRecords
+pub mod SetLaws
+pub mod LookLaws
+pub mod ClimbLaws
+pub mod AuthorizationLaws
+pub mod Bounds
+pub mod DataTests
