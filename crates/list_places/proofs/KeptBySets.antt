@@ -57,79 +57,80 @@ module _ (book names : List ℕ) where
       go true rest = omega (arith, rest c)
       go false rest = omega (arith, rest (pushed c g), pushed-most c g)
 
-module _ (book table links : List ℕ) (small : length book ≤ maxBookOctets) where
+module _ (book table links : List ℕ) where
   -- whom the records of a set grant, by its number
   abbrev pub grantsTo : ℕ → List (List ℕ)
   grantsTo c = setGrantees book table links (taggedSet c .tag) (taggedSet c .set)
 
-  collected-few : (s : TaggedSet) (names : List ℕ) → collected book table links s names .count ≤ length links
-  unfolding collected
-  collected-few s names =
-      omega (arith, pushed-few book names (grantsBy book table links s) (record { count = 0; names = names }), few-grants book table links s (s .set))
+  module _ (small : length book ≤ maxBookOctets) where
+    collected-few : (s : TaggedSet) (names : List ℕ) → collected book table links s names .count ≤ length links
+    unfolding collected
+    collected-few s names =
+        omega (arith, pushed-few book names (grantsBy book table links s) (record { count = 0; names = names }), few-grants book table links s (s .set))
 
-  granted-small : (c : ℕ) → All (λ m. lowered m ≡ m) (grantsTo c)
-  granted-small c =
-      rw (← grants-by-offset book table links small (taggedSet c))
-      (All-map {P = λ g. Unit} (λ g. lowered (grantOctets book g)) (λ g h. lowered-twice (grantOctets book g)) (anything (grantsBy book table links (taggedSet c))))
-    where
-      anything : (gs : List Grant) → All (λ g. Unit) gs
-      anything [] = all-nil
-      anything (g ∷ gs) = all-cons _ (anything gs)
-
-  -- further sets, from round t on
-  module _ (names : List ℕ) (count : ℕ) where
-    kept-behind :
-        (t : ℕ) (cs rounds : List ℕ) → t + length cs ≤ 65535 → All (λ r. r ≤ t) rounds →
-        keptNames book names count (narrowedBy book table links names count t cs rounds) (t + length cs)
-        ≡ select (λ m. all (λ c. any (same m) (grantsTo c)) cs) (keptNames book names count rounds t)
-    kept-behind t [] rounds h k = rw add-zero (sym (select-every (keptNames book names count rounds t)))
-    kept-behind t (c ∷ cs) rounds h k =
-        let one = narrowed-by-offset book table links names rounds small count t (omega arith) k (taggedSet c) in
-        let after : List ℕ = narrowed book names table links (taggedSet c) count t rounds in
-        ap (keptNames book names count (narrowedBy book table links names count (suc t) cs after)) (omega arith)
-        ∙ kept-behind (suc t) cs after (omega arith) (one .1)
-        ∙ rw (one .0) (select-twice (λ m. any (same m) (grantsTo c)) (λ m. all (λ d. any (same m) (grantsTo d)) cs) (keptNames book names count rounds t))
-
-  module _ (names : List ℕ) (room : 2 * length links ≤ length names) (k : ℕ) (places : length links ≤ k) (c : ℕ) where
-    abbrev first : Candidates
-    first = collected book table links (taggedSet c) names
-
-    all-kept : keptNames book (first .names) (first .count) (replicate k 0) 0 ≡ distinct (grantsTo c)
-    unfolding keptNames candidates
-    all-kept =
-        round-0 book (first .names) (first .count) 0 k (omega (arith, collected-few (taggedSet c) names))
-        ∙ collected-by-offset book table links names small room (taggedSet c) first refl
-
-    kept-names :
-        (cs : List ℕ) → length cs ≤ 65535 → (n : Kept) → n ≡ keptBy book table links (c ∷ cs) names (replicate k 0) →
-        keptNames book (n .names) (n .count) (n .rounds) (length cs) ≡ select (λ m. all (λ d. any (same m) (grantsTo d)) cs) (distinct (grantsTo c))
-    kept-names cs few n e =
-        rw e
-        (ap (keptNames book (first .names) (first .count) (narrowedBy book table links (first .names) (first .count) 0 cs (replicate k 0))) (omega arith)
-        ∙ kept-behind (first .names) (first .count) 0 cs (replicate k 0) (omega arith) (all-0 book names k)
-        ∙ rw all-kept)
-
-    -- names in lower case are among themselves
-    among : (ns : List (List ℕ)) → All (λ n. lowered n ≡ n) ns → All (λ m. (lowered m ≡ m) × (any (same (lowered m)) ns ≡ true)) ns
-    among [] all-nil = all-nil
-    among (n ∷ ns) (all-cons e h) = all-cons
-        (e, or-eq-true (same (lowered n) n) (any (same (lowered n)) ns) .1 (inl (same-equal (lowered n) n .1 e)))
-        (All-imp (λ m j. (j .0, or-eq-true (same (lowered m) n) (any (same (lowered m)) ns) .1 (inr (j .1)))) (among ns h))
-
-    -- the sets that follow, each once, narrow as all of them do
-    pub kept-sets :
-        (cs : List ℕ) → length cs ≤ 65535 → (n : Kept) → n ≡ keptBy book table links (once (c ∷ cs)) names (replicate k 0) →
-        listed (keptNames book (n .names) (n .count) (n .rounds) (length (others c cs))) ≡ setIssuers grantsTo (c ∷ cs)
-    kept-sets cs few n e =
-        ap listed
-        (kept-names (others c cs) (omega (arith, others-fewer c cs)) n (e ∙ rw (once-first c cs))
-        ∙ select-alike
-        (λ m. all (λ d. any (same m) (grantsTo d)) (others c cs))
-        (grantedBy grantsTo cs)
-        (distinct-all (All-imp (λ m j. alike m (j .0) (j .1)) (among (grantsTo c) (granted-small c)))))
+    granted-small : (c : ℕ) → All (λ m. lowered m ≡ m) (grantsTo c)
+    granted-small c =
+        rw (← grants-by-offset book table links small (taggedSet c))
+        (All-map {P = λ g. Unit} (λ g. lowered (grantOctets book g)) (λ g h. lowered-twice (grantOctets book g)) (anything (grantsBy book table links (taggedSet c))))
       where
-        alike :
-            (m : List ℕ) → lowered m ≡ m → any (same (lowered m)) (grantsTo c) ≡ true →
-            all (λ d. any (same m) (grantsTo d)) (others c cs) ≡ grantedBy grantsTo cs m
-        alike m j h =
-            others-all c cs (λ d. any (same m) (grantsTo d)) (rw j at h) ∙ rw j
+        anything : (gs : List Grant) → All (λ g. Unit) gs
+        anything [] = all-nil
+        anything (g ∷ gs) = all-cons _ (anything gs)
+
+    -- further sets, from round t on
+    module _ (names : List ℕ) (count : ℕ) where
+      kept-behind :
+          (t : ℕ) (cs rounds : List ℕ) → t + length cs ≤ 65535 → All (λ r. r ≤ t) rounds →
+          keptNames book names count (narrowedBy book table links names count t cs rounds) (t + length cs)
+          ≡ select (λ m. all (λ c. any (same m) (grantsTo c)) cs) (keptNames book names count rounds t)
+      kept-behind t [] rounds h k = rw add-zero (sym (select-every (keptNames book names count rounds t)))
+      kept-behind t (c ∷ cs) rounds h k =
+          let one = narrowed-by-offset book table links names rounds small count t (omega arith) k (taggedSet c) in
+          let after : List ℕ = narrowed book names table links (taggedSet c) count t rounds in
+          ap (keptNames book names count (narrowedBy book table links names count (suc t) cs after)) (omega arith)
+          ∙ kept-behind (suc t) cs after (omega arith) (one .1)
+          ∙ rw (one .0) (select-twice (λ m. any (same m) (grantsTo c)) (λ m. all (λ d. any (same m) (grantsTo d)) cs) (keptNames book names count rounds t))
+
+    module _ (names : List ℕ) (room : 2 * length links ≤ length names) (k : ℕ) (places : length links ≤ k) (c : ℕ) where
+      abbrev first : Candidates
+      first = collected book table links (taggedSet c) names
+
+      all-kept : keptNames book (first .names) (first .count) (replicate k 0) 0 ≡ distinct (grantsTo c)
+      unfolding keptNames candidates
+      all-kept =
+          round-0 book (first .names) (first .count) 0 k (omega (arith, collected-few (taggedSet c) names))
+          ∙ collected-by-offset book table links names small room (taggedSet c) first refl
+
+      kept-names :
+          (cs : List ℕ) → length cs ≤ 65535 → (n : Kept) → n ≡ keptBy book table links (c ∷ cs) names (replicate k 0) →
+          keptNames book (n .names) (n .count) (n .rounds) (length cs) ≡ select (λ m. all (λ d. any (same m) (grantsTo d)) cs) (distinct (grantsTo c))
+      kept-names cs few n e =
+          rw e
+          (ap (keptNames book (first .names) (first .count) (narrowedBy book table links (first .names) (first .count) 0 cs (replicate k 0))) (omega arith)
+          ∙ kept-behind (first .names) (first .count) 0 cs (replicate k 0) (omega arith) (all-0 book names k)
+          ∙ rw all-kept)
+
+      -- names in lower case are among themselves
+      among : (ns : List (List ℕ)) → All (λ n. lowered n ≡ n) ns → All (λ m. (lowered m ≡ m) × (any (same (lowered m)) ns ≡ true)) ns
+      among [] all-nil = all-nil
+      among (n ∷ ns) (all-cons e h) = all-cons
+          (e, or-eq-true (same (lowered n) n) (any (same (lowered n)) ns) .1 (inl (same-equal (lowered n) n .1 e)))
+          (All-imp (λ m j. (j .0, or-eq-true (same (lowered m) n) (any (same (lowered m)) ns) .1 (inr (j .1)))) (among ns h))
+
+      -- the sets that follow, each once, narrow as all of them do
+      pub kept-sets :
+          (cs : List ℕ) → length cs ≤ 65535 → (n : Kept) → n ≡ keptBy book table links (once (c ∷ cs)) names (replicate k 0) →
+          listed (keptNames book (n .names) (n .count) (n .rounds) (length (others c cs))) ≡ setIssuers grantsTo (c ∷ cs)
+      kept-sets cs few n e =
+          ap listed
+          (kept-names (others c cs) (omega (arith, others-fewer c cs)) n (e ∙ rw (once-first c cs))
+          ∙ select-alike
+          (λ m. all (λ d. any (same m) (grantsTo d)) (others c cs))
+          (grantedBy grantsTo cs)
+          (distinct-all (All-imp (λ m j. alike m (j .0) (j .1)) (among (grantsTo c) (granted-small c)))))
+        where
+          alike :
+              (m : List ℕ) → lowered m ≡ m → any (same (lowered m)) (grantsTo c) ≡ true →
+              all (λ d. any (same m) (grantsTo d)) (others c cs) ≡ grantedBy grantsTo cs m
+          alike m j h =
+              others-all c cs (λ d. any (same m) (grantsTo d)) (rw j at h) ∙ rw j

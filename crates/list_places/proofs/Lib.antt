@@ -6,3 +6,6 @@ pub mod NarrowedNames
 pub mod SetIssuers
 pub mod OnceLaws
 pub mod KeptBySets
+pub mod NotedSets
+pub mod SaidNames
+pub mod ByOffset

@@ -1,13 +1,12 @@
 -- The issuers for all names of a request, by the sets that govern them: the first set's names are the candidates, and each further set narrows them.
-use Prim.Native.Nat.{ℕ, suc, _-_}
+use Prim.Native.Nat.{ℕ, suc}
 use mathlib.Core.Bool.{true, false, cond}
-use lib.Dec.{eqb}
-use mathlib.Core.List.{List, [], _∷_, _++_}
-use lib.ListN.{length, take, drop, replicate}
+use mathlib.Core.List.{List, [], _∷_}
+use lib.ListN.{length, take, replicate}
 use Rattle.spec_limits.specs.Limits.{maxNames}
 use Rattle.spec_rule.specs.IssuerLists.{Issuers, anyone, listed}
 use Rattle.book_places.specs.Table.{tableOf}
-use Rattle.book_places.specs.Chains.{Chains, chainsOf}
+use Rattle.book_places.specs.Chains.{chainsOf}
 use Rattle.list_places.specs.declared.GoverningSets.{GoverningSets}
 use Rattle.list_places.specs.declared.GoverningSets.the-variants.{Nobody, Sets}
 use Rattle.list_places.specs.declared.Permitted.{Permitted}
@@ -53,21 +52,23 @@ module _ (book table links names rounds : List ℕ) where
   abbrev pub anyoneIn : PermittedIn
   anyoneIn = record { answer = record { restricted = false; count = 0; round = 0 }; names = names; rounds = rounds }
 
-  -- each set once
+  -- where no set governs, no name is restricted
   abbrev pub bySets : List ℕ → PermittedIn
-  bySets codes = listedIn (length codes - 1) (keptBy book table links codes names rounds)
+  bySets [] = anyoneIn
+  bySets (c ∷ cs) = listedIn (length cs) (keptBy book table links (c ∷ cs) names rounds)
 
+  -- each set once
   abbrev pub byNoted : GoverningSets → List ℕ → PermittedIn
   byNoted Nobody codes = nobodyIn
-  byNoted (Sets n) codes = cond (eqb n 0) anyoneIn (bySets (once (take n codes)))
+  byNoted (Sets n) codes = bySets (once (take n codes))
 
--- by the table of the book and its chains
+-- the sets that govern the names of a request, by the table of the book and its chains
+unfoldable pub notedIn : List ℕ → List ℕ → Noted
+notedIn request book = noted (replicate maxNames 0) (said request book (tableOf book) (chainsOf book .links) (chainsOf book .heads))
+
 unfoldable pub permittedIn : List ℕ → List ℕ → List ℕ → List ℕ → PermittedIn
-permittedIn request book names rounds = go (chainsOf book)
-  where
-    go : Chains → PermittedIn
-    go c = let k = noted (replicate maxNames 0) (said request book (tableOf book) (c .links) (c .heads)) in
-        byNoted book (tableOf book) (c .links) names rounds (k .answer) (k .codes)
+permittedIn request book names rounds =
+    byNoted book (tableOf book) (chainsOf book .links) names rounds (notedIn request book .answer) (notedIn request book .codes)
 
 -- who may sign by such an answer
 abbrev pub issuersIn : List ℕ → PermittedIn → Issuers
