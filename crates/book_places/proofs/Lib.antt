@@ -4,6 +4,7 @@ pub mod StandingRecords
 pub mod TableLaws
 pub mod ChainedRecords
 pub mod SetLaws
+pub mod OwnedWalk
 pub mod LookLaws
 pub mod ClimbLaws
 pub mod AuthorizationLaws

@@ -21,10 +21,10 @@ use Rattle.book_places.proofs.ChainLaws.{behind-later, chain-step}
 
 -- the first of those that pass along a chain: it passes, has a link, and the chain from there on has the same
 module _ (p : ℕ → Bool) (links : List ℕ) where
-  record FirstAlong (f : ℕ) (fs : List ℕ) : Type 0 where
-    passes : p f ≡ true
-    below : f < length links
-    same : select p (chainFrom links f) ≡ f ∷ fs
+  pub record FirstAlong (f : ℕ) (fs : List ℕ) : Type 0 where
+    pub passes : p f ≡ true
+    pub below : f < length links
+    pub same : select p (chainFrom links f) ≡ f ∷ fs
 
   first-along : (steps i f : ℕ) (fs : List ℕ) → length links ≤ i + steps → select p (chainFrom links i) ≡ f ∷ fs → FirstAlong f fs
   first-along zero i f fs h e = absurd (nil≢cons (rw (chain-step links i, le-ltb i (length links) (omega arith)) at e))
@@ -54,7 +54,7 @@ module _ (book table links : List ℕ) where
   owned-alike x y e i = let same = same-text y x .0 e in rw same
 
   module _ (x : List ℕ) (i f : ℕ) (fs : List ℕ) (e : ownedFrom book table links x i ≡ f ∷ fs) where
-    first-owned : FirstAlong (isOwned book table x) links f fs
+    pub first-owned : FirstAlong (isOwned book table x) links f fs
     unfolding ownedFrom
     first-owned = first-along (isOwned book table x) links (length links) i f fs (omega arith) e
 
@@ -68,7 +68,7 @@ module _ (book table links : List ℕ) where
         select-alike (isOwned book table (ownerAt book table f)) (isOwned book table x) (owned-alike x (ownerAt book table f) owner) (chainFrom links f)
         ∙ first-owned .same
 
-first-at : (is : List ℕ) (r : RecordNo) → firstOf is ≡ At r → (fs : List ℕ) × (is ≡ r .0 ∷ fs)
+pub first-at : (is : List ℕ) (r : RecordNo) → firstOf is ≡ At r → (fs : List ℕ) × (is ≡ r .0 ∷ fs)
 first-at [] r e = let z : _≡_ {A = ℕ} 0 1 = cc in absurd (omega arith)
 first-at (i ∷ is) r e = let same : i ≡ r .0 = cc in (is, rw same)
 
