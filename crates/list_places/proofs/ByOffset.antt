@@ -81,7 +81,7 @@ module _ (request book : List ℕ) (r : requestRefusal request ≡ none) (b : bo
     by-sets [] few = refl
     by-sets (c ∷ cs) few =
         rw (once-first c cs)
-        (kept-sets book table links (book-small book b) names (rw (chains-fit book .0) room) maxRecords (omega (arith, chains-fit book .0)) c cs (omega arith) _ (rw (once-first c cs)))
+        (kept-sets book table links (book-small book b) names (rw (chains-fit book .0) room) (omega (arith, chains-fit book .0)) c cs (omega arith) _ (rw (once-first c cs)))
 
     by-answer :
         (a : GoverningSets) (codes : List ℕ) → ((n : ℕ) → length (take n codes) ≤ maxNames) →

@@ -6,8 +6,9 @@ use mathlib.Core.Path.{_≡_, refl, sym, ap, _∙_}
 use mathlib.Core.Logic.{inl, inr}
 use mathlib.Core.Bool.{Bool, true, false, cond}
 use mathlib.Core.List.{List, [], _∷_}
-use lib.ListN.{length, replicate}
-use Rattle.spec_limits.specs.Limits.{maxBookOctets}
+use lib.ListN.{length, replicate, length-replicate}
+use lib.Seq.{take-all}
+use Rattle.spec_limits.specs.Limits.{maxBookOctets, maxRecords}
 use Rattle.spec_octets.specs.Lists.{all, any, select, All, all-nil, all-cons}
 use Rattle.spec_octets.specs.Octets.{same, lowered}
 use Rattle.spec_octets.proofs.ListLaws.{or-eq-true, All-imp, All-map}
@@ -91,23 +92,24 @@ module _ (book table links : List ℕ) where
           ∙ kept-behind (suc t) cs after (omega arith) (one .1)
           ∙ rw (one .0) (select-twice (λ m. any (same m) (grantsTo c)) (λ m. all (λ d. any (same m) (grantsTo d)) cs) (keptNames book names count rounds t))
 
-    module _ (names : List ℕ) (room : 2 * length links ≤ length names) (k : ℕ) (places : length links ≤ k) (c : ℕ) where
+    module _ (names : List ℕ) (room : 2 * length links ≤ length names) (places : length links ≤ maxRecords) (c : ℕ) where
       abbrev first : Candidates
       first = collected book table links (taggedSet c) names
 
-      all-kept : keptNames book (first .names) (first .count) (replicate k 0) 0 ≡ distinct (grantsTo c)
+      all-kept : keptNames book (first .names) (first .count) (replicate maxRecords 0) 0 ≡ distinct (grantsTo c)
       unfolding keptNames candidates
       all-kept =
-          round-0 book (first .names) (first .count) 0 k (omega (arith, collected-few (taggedSet c) names))
+          ap (keptFrom book (first .names) 0 (first .count) 0) (take-all maxRecords (replicate maxRecords 0) (omega (arith, length-replicate {A = ℕ} maxRecords 0)))
+          ∙ round-0 book (first .names) (first .count) 0 maxRecords (omega (arith, collected-few (taggedSet c) names))
           ∙ collected-by-offset book table links names small room (taggedSet c) first refl
 
       kept-names :
-          (cs : List ℕ) → length cs ≤ 65535 → (n : Kept) → n ≡ keptBy book table links (c ∷ cs) names (replicate k 0) →
+          (cs : List ℕ) → length cs ≤ 65535 → (n : Kept) → n ≡ keptBy book table links (c ∷ cs) names (replicate maxRecords 0) →
           keptNames book (n .names) (n .count) (n .rounds) (length cs) ≡ select (λ m. all (λ d. any (same m) (grantsTo d)) cs) (distinct (grantsTo c))
       kept-names cs few n e =
           rw e
-          (ap (keptNames book (first .names) (first .count) (narrowedBy book table links (first .names) (first .count) 0 cs (replicate k 0))) (omega arith)
-          ∙ kept-behind (first .names) (first .count) 0 cs (replicate k 0) (omega arith) (all-0 book names k)
+          (ap (keptNames book (first .names) (first .count) (narrowedBy book table links (first .names) (first .count) 0 cs (replicate maxRecords 0))) (omega arith)
+          ∙ kept-behind (first .names) (first .count) 0 cs (replicate maxRecords 0) (omega arith) (all-0 book names maxRecords)
           ∙ rw all-kept)
 
       -- names in lower case are among themselves
@@ -119,7 +121,7 @@ module _ (book table links : List ℕ) where
 
       -- the sets that follow, each once, narrow as all of them do
       pub kept-sets :
-          (cs : List ℕ) → length cs ≤ 65535 → (n : Kept) → n ≡ keptBy book table links (once (c ∷ cs)) names (replicate k 0) →
+          (cs : List ℕ) → length cs ≤ 65535 → (n : Kept) → n ≡ keptBy book table links (once (c ∷ cs)) names (replicate maxRecords 0) →
           listed (keptNames book (n .names) (n .count) (n .rounds) (length (others c cs))) ≡ setIssuers grantsTo (c ∷ cs)
       kept-sets cs few n e =
           ap listed

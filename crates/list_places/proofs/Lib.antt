@@ -3,6 +3,7 @@ pub mod GrantNames
 pub mod CandidateLaws
 pub mod CollectedNames
 pub mod NarrowedNames
+pub mod RoundLaws
 pub mod SetIssuers
 pub mod OnceLaws
 pub mod KeptBySets

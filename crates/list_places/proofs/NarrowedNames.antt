@@ -1,12 +1,13 @@
 -- The candidates in the next round are those of this round that a tagged set grants.
 use Prim.Native.Nat.{ℕ, zero, suc, _≤_, _<_}
 use native.Mathlib.Omega.{arith}
-use mathlib.Core.Path.{_≡_, refl, sym, ap, _∙_, fun-ext}
+use mathlib.Core.Path.{_≡_, refl, sym, _∙_}
 use mathlib.Core.Bool.{Bool, true, false, cond, _&&_, _||_}
 use mathlib.Core.List.{List, [], _∷_, map}
 use lib.Dec.{eqb}
-use borrow.Author.Tests.{eqb-true, eq-eqb, ne-eqb}
-use Rattle.spec_limits.specs.Limits.{maxBookOctets}
+use lib.ListN.{take}
+use borrow.Author.Tests.{eq-eqb, ne-eqb}
+use Rattle.spec_limits.specs.Limits.{maxRecords}
 use Rattle.spec_octets.specs.Lists.{any, consIf, select, All, all-nil, all-cons}
 use Rattle.spec_octets.specs.Octets.{same, lowered}
 use Rattle.spec_octets.proofs.ListLaws.{All-imp}
@@ -16,6 +17,11 @@ use Rattle.list_places.specs.Candidates.{candidateAt}
 use Rattle.list_places.specs.Rounds.{keptFrom, keptNames, nextRound, movedFrom, marked, markedBy, narrowed}
 use Rattle.list_places.specs.Theorems.{Narrowed-by-offset}
 use Rattle.list_places.proofs.GrantNames.{grants-by-offset}
+
+All-take : {P : ℕ → Type 0} (k : ℕ) {rounds : List ℕ} → All P rounds → All P (take k rounds)
+All-take zero h = all-nil
+All-take (suc k) all-nil = all-nil
+All-take (suc k) (all-cons h more) = all-cons h (All-take k more)
 
 module _ (book names : List ℕ) (t : ℕ) (small : t < 65535) where
   next-is : nextRound book names t ≡ suc t
@@ -94,6 +100,14 @@ module _ (book names : List ℕ) (t : ℕ) (small : t < 65535) where
       go true e false k = rw (below, k)
       go false e b k = rw below
 
+  -- the front of the rounds is moved on by itself
+  moved-front :
+      (p : List ℕ → Bool) (k n i : ℕ) (rounds : List ℕ) → take k (movedFrom book names p t n i rounds) ≡ movedFrom book names p t n i (take k rounds)
+  moved-front p k zero i rounds = refl
+  moved-front p zero (suc n) i rounds = refl
+  moved-front p (suc k) (suc n) i [] = refl
+  moved-front p (suc k) (suc n) i (r ∷ rounds) = rw (moved-front p k n (suc i) rounds)
+
   moved-within : (p : List ℕ → Bool) (n i : ℕ) (rounds : List ℕ) → All (λ r. r ≤ t) rounds → All (λ r. r ≤ suc t) (movedFrom book names p t n i rounds)
   moved-within p zero i rounds h = All-imp (λ r k. omega arith) h
   moved-within p (suc n) i [] all-nil = all-nil
@@ -108,6 +122,7 @@ pub narrowed-by-offset : Narrowed-by-offset
 unfolding keptNames narrowed
 narrowed-by-offset book table links names rounds fits count t small h s =
     rw (marked-by book names t small count (grantsBy book table links s) rounds, ← grants-by-offset book table links fits s) (
-      moved-kept book names t small _ count 0 rounds h,
+      rw (moved-front book names t small _ maxRecords count 0 rounds)
+          (moved-kept book names t small _ count 0 (take maxRecords rounds) (All-take maxRecords h)),
       moved-within book names t small _ count 0 rounds h,
     )

@@ -4,6 +4,8 @@ use Prim.Native.Nat.{ℕ, zero, suc, _+_, _%_}
 use mathlib.Core.Bool.{Bool, cond, _&&_}
 use mathlib.Core.List.{List, [], _∷_}
 use lib.Dec.{eqb}
+use lib.ListN.{take}
+use Rattle.spec_limits.specs.Limits.{maxRecords}
 use Rattle.spec_octets.specs.Lists.{consIf}
 use Rattle.spec_octets.specs.Octets.{same, lowered}
 use Rattle.list_places.specs.declared.TaggedSet.{TaggedSet}
@@ -18,8 +20,9 @@ module _ (book names : List ℕ) where
   keptFrom t (suc n) i [] = []
   keptFrom t (suc n) i (r ∷ rounds) = consIf (eqb r t) (lowered (candidateAt book names i)) (keptFrom t n (suc i) rounds)
 
+  -- those of the first `count` candidates; there are no more of them than a book may have records
   unfoldable pub keptNames : ℕ → List ℕ → ℕ → List (List ℕ)
-  keptNames count rounds t = keptFrom t count 0 rounds
+  keptNames count rounds t = keptFrom t count 0 (take maxRecords rounds)
 
   -- the round behind t. Rounds are kept in 16 bits
   abbrev pub nextRound : ℕ → ℕ
