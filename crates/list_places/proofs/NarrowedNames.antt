@@ -24,23 +24,23 @@ All-take (suc k) all-nil = all-nil
 All-take (suc k) (all-cons h more) = all-cons h (All-take k more)
 
 module _ (book names : List ℕ) (t : ℕ) (small : t < 65535) where
-  next-is : nextRound book names t ≡ suc t
+  next-is : nextRound t ≡ suc t
   next-is = omega arith
 
   -- one candidate, in round r, moved on by a test or two
   abbrev moved : Bool → ℕ → ℕ
-  moved b r = cond (eqb r t && b) (nextRound book names t) r
+  moved b r = cond (eqb r t && b) (nextRound t) r
 
   -- moved on by one test and then by another is moved on by either
   moved-twice : (a b : Bool) (r : ℕ) → moved b (moved a r) ≡ moved (a || b) r
   moved-twice a b r = go (eqb r t) refl a
     where
-      past : eqb (nextRound book names t) t ≡ false
-      past = ne-eqb (nextRound book names t) t (λ e. omega (arith, next-is))
+      past : eqb (nextRound t) t ≡ false
+      past = ne-eqb (nextRound t) t (λ e. omega (arith, next-is))
 
       go :
           (s : Bool) → eqb r t ≡ s → (a : Bool) →
-          moved b (cond (s && a) (nextRound book names t) r) ≡ cond (s && (a || b)) (nextRound book names t) r
+          moved b (cond (s && a) (nextRound t) r) ≡ cond (s && (a || b)) (nextRound t) r
       go true e true = rw past
       go true e false = rw e
       go false e a = rw e
@@ -58,7 +58,7 @@ module _ (book names : List ℕ) (t : ℕ) (small : t < 65535) where
   moved-never (suc n) i [] = refl
   moved-never (suc n) i (r ∷ rounds) = rw (moved-never n (suc i) rounds) (go (eqb r t))
     where
-      go : (s : Bool) → cond (s && false) (nextRound book names t) r ∷ rounds ≡ r ∷ rounds
+      go : (s : Bool) → cond (s && false) (nextRound t) r ∷ rounds ≡ r ∷ rounds
       go true = refl
       go false = refl
 
@@ -90,12 +90,12 @@ module _ (book names : List ℕ) (t : ℕ) (small : t < 65535) where
       below : eqb r (suc t) ≡ false
       below = ne-eqb r (suc t) (λ e. omega arith)
 
-      here : eqb (nextRound book names t) (suc t) ≡ true
-      here = eq-eqb (nextRound book names t) (suc t) next-is
+      here : eqb (nextRound t) (suc t) ≡ true
+      here = eq-eqb (nextRound t) (suc t) next-is
 
       go :
           (s : Bool) → eqb r t ≡ s → (b : Bool) → p m ≡ b →
-          consIf (eqb (cond (s && b) (nextRound book names t) r) (suc t)) m (select p left) ≡ select p (consIf s m left)
+          consIf (eqb (cond (s && b) (nextRound t) r) (suc t)) m (select p left) ≡ select p (consIf s m left)
       go true e true k = rw (here, k)
       go true e false k = rw (below, k)
       go false e b k = rw below
@@ -114,7 +114,7 @@ module _ (book names : List ℕ) (t : ℕ) (small : t < 65535) where
   moved-within p (suc n) i (r ∷ rounds) (all-cons h more) =
       all-cons (go (eqb r t && p (lowered (candidateAt book names i)))) (moved-within p n (suc i) rounds more)
     where
-      go : (s : Bool) → cond s (nextRound book names t) r ≤ suc t
+      go : (s : Bool) → cond s (nextRound t) r ≤ suc t
       go true = omega (arith, next-is)
       go false = omega arith
 

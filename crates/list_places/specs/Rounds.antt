@@ -13,6 +13,10 @@ use Rattle.list_places.specs.declared.Grant.{Grant}
 use Rattle.list_places.specs.Grants.{grantsBy, grantOctets}
 use Rattle.list_places.specs.Candidates.{candidateAt}
 
+-- the round behind t. Rounds are kept in 16 bits
+abbrev pub nextRound : ℕ → ℕ
+nextRound t = (t % 65536 + 1) % 65536
+
 module _ (book names : List ℕ) where
   -- those of n candidates from the i-th on that are in round t, in lower case
   abbrev pub keptFrom : ℕ → ℕ → ℕ → List ℕ → List (List ℕ)
@@ -23,10 +27,6 @@ module _ (book names : List ℕ) where
   -- those of the first `count` candidates; there are no more of them than a book may have records
   unfoldable pub keptNames : ℕ → List ℕ → ℕ → List (List ℕ)
   keptNames count rounds t = keptFrom t count 0 (take maxRecords rounds)
-
-  -- the round behind t. Rounds are kept in 16 bits
-  abbrev pub nextRound : ℕ → ℕ
-  nextRound t = (t % 65536 + 1) % 65536
 
   -- those of n candidates from the i-th on that are in round t and whose names pass a test are moved on
   abbrev pub movedFrom : (List ℕ → Bool) → ℕ → ℕ → ℕ → List ℕ → List ℕ
