@@ -1,7 +1,7 @@
 -- What CAA says of a name by a set that was found means what the rule says of it.
 use Prim.Native.Nat.{ℕ}
 use native.Mathlib.Omega.{arith}
-use mathlib.Core.Path.{_≡_, refl, sym, ap, _∙_}
+use mathlib.Core.Path.{_≡_, refl, ap, _∙_}
 use mathlib.Core.Bool.{Bool, true, false, _||_}
 use mathlib.Core.List.{List, [], _∷_}
 use mathlib.Core.Option.{Option, none, some}
@@ -22,8 +22,8 @@ use Rattle.book_places.specs.declared.FirstRecord.the-variants.{At, Noth
 use Rattle.book_places.specs.declared.NameAuthorization.{NameAuthorization}
 use Rattle.book_places.specs.declared.NameAuthorization.the-variants.{Unrestricted}
 use Rattle.book_places.specs.Table.{tableOf, dataAt}
-use Rattle.book_places.specs.Chains.{Chains, chainsOf}
-use Rattle.book_places.specs.Sets.{firstOf, setAt, dataHasTag, dataIsUnknownCritical, dataGrants, inSet, firstUnknownCritical, firstTagged, setGrants}
+use Rattle.book_places.specs.Chains.{chainsOf}
+use Rattle.book_places.specs.Sets.{setAt, dataHasTag, dataIsUnknownCritical, dataGrants, inSet, firstUnknownCritical, firstTagged, setGrants}
 use Rattle.book_places.specs.NameAuthorizations.{governedBy, byIssue, byTags, unlessCritical, bySet, nameAuthorization, granteesAt, setGrantees, meaning}
 use Rattle.book_places.specs.Theorems.{recordsIn, numbersOf, firstNumber, Finds, Authorization-by-offset, Set-grants}
 use Rattle.book_places.proofs.LookLaws.{Holds, first-numbers, caas, caas-hold}

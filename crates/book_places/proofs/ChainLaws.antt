@@ -2,21 +2,20 @@
 use Prim.Native.Nat.{ℕ, zero, suc, _+_, _≤_, _<_}
 use native.Mathlib.Omega.{arith}
 use mathlib.Core.Path.{_≡_, refl}
+use mathlib.Core.Logic.{⊎-elim}
 use mathlib.Core.Bool.{Bool, true, false, cond}
 use mathlib.Core.List.{List, [], _∷_}
 use lib.Dec.{ltb}
 use lib.ListN.{length, getD}
 use borrow.Author.Tests.{ltb-true, le-ltb}
+use Rattle.spec_octets.proofs.ListLaws.{decided}
 use Rattle.book_places.specs.Chains.{behind, along, chainFrom}
 
 -- behind a record that has a link comes a later one, or the end
 pub behind-later : (links : List ℕ) (i : ℕ) → i < length links → i < behind links i
 unfolding behind
-behind-later links i h = go (ltb i (getD links i 0)) refl
-  where
-    go : (t : Bool) → ltb i (getD links i 0) ≡ t → i < cond t (getD links i 0) (length links)
-    go true e = ltb-true i (getD links i 0) e
-    go false e = h
+behind-later links i h =
+    ⊎-elim (λ e. rw e (omega (arith, ltb-true i (getD links i 0) e))) (λ e. rw e h) (decided (ltb i (getD links i 0)))
 
 -- any number of steps that is enough gives the same records
 steps-enough : (links : List ℕ) (f g i : ℕ) → length links ≤ i + f → length links ≤ i + g → along f links i ≡ along g links i

@@ -3,7 +3,7 @@ use Prim.Native.Nat.{ℕ, zero, suc, _+_, _≤_, _<_}
 use native.Mathlib.Omega.{arith}
 use mathlib.Core.Path.{_≡_, refl, sym, ap, _∙_}
 use mathlib.Core.Logic.{_⊎_, inl, inr}
-use mathlib.Core.Bool.{Bool, true, false, cond, true≢false, and-eq-true-iff}
+use mathlib.Core.Bool.{Bool, true, false, cond, true≢false}
 use mathlib.Core.List.{List, [], _∷_}
 use lib.Dec.{ltb, eqb}
 use lib.ListN.{length, getD, set, replicate, length-set, length-replicate, getD-replicate}
@@ -11,15 +11,15 @@ use lib.Seq.{getD-set-same, getD-set-other}
 use borrow.Author.Tests.{ltb-true, lt-ltb, le-ltb, eqb-true, eqb-false, eq-eqb}
 use Rattle.spec_limits.specs.Limits.{maxRecords}
 use Rattle.spec_octets.specs.Lists.{consIf, select}
-use Rattle.spec_octets.specs.Octets.{equalIgnoringCase}
 use Rattle.spec_octets.proofs.ListLaws.{decided}
-use Rattle.book_places.specs.Table.{tabled, tableOf, ownerAt, isCaaAt}
+use Rattle.book_places.specs.Table.{tabled, tableOf, ownerAt}
 use Rattle.book_places.specs.Keys.{keyOf}
 use Rattle.book_places.specs.Chains.{Chains, linked, linkedBelow, unlinked, chainsOf, behind, along, chainFrom}
 use Rattle.book_places.specs.Sets.{isOwned, ownedFrom}
 use Rattle.book_places.specs.Theorems.{numbersFrom, Chains-fit, Chains-skip-nothing}
 use Rattle.book_places.proofs.ChainLaws.{behind-later, chain-step}
 use Rattle.book_places.proofs.KeyLaws.{key-below, same-key}
+use Rattle.book_places.proofs.SetLaws.{owned-both}
 use Rattle.book_places.proofs.StandingRecords.{few-tabled}
 
 -- inside a list it is the same what a number past its end would be
@@ -153,9 +153,7 @@ module _ (book table : List ℕ) where
 
   -- what a text owns has its key
   owned-key : (x : List ℕ) (i : ℕ) → isOwned book table x i ≡ true → hasKey (keyOf x) i ≡ true
-  owned-key x i e =
-      let owner = and-eq-true-iff (isCaaAt table i) (equalIgnoringCase (ownerAt book table i) x) .0 e .1 in
-      eq-eqb (key i) (keyOf x) (same-key (ownerAt book table i) x owner)
+  owned-key x i e = eq-eqb (key i) (keyOf x) (same-key (ownerAt book table i) x (owned-both book table x i e .1))
 
   module _ (n : ℕ) (c : Chains) (w : Linked 0 n c) where
     owned-told : (x : List ℕ) → ownedFrom book table (c .links) x (getD (c .heads) (keyOf x) (length (c .links))) ≡ select (isOwned book table x) (numbersFrom 0 n)

@@ -4,7 +4,6 @@ use native.Mathlib.Nat.{not-suc-le-zero}
 use native.Mathlib.Omega.{arith}
 use mathlib.Core.Path.{_≡_, refl}
 use mathlib.Core.List.{List, [], _∷_, _++_, map, append-nil}
-use mathlib.Core.Option.{none}
 use lib.ListN.{length, drop, length-append}
 use borrow.Author.Tests.{eq-eqb, ne-eqb}
 use Rattle.spec_octets.specs.Lists.{select, All, all-nil, all-cons}
@@ -15,12 +14,11 @@ use Rattle.spec_name.specs.Names.{Label, Name, wire, sameName, ancestors}
 use Rattle.spec_name.specs.Theorems.{GoodName}
 use Rattle.spec_name.proofs.NameLaws.{fewer-labels}
 use Rattle.read_name.proofs.Parents.{root-stays, behind-label, label-passed}
-use Rattle.spec_record.specs.Records.{bookRefusal}
 use Rattle.spec_rule.specs.RelevantSet.{CaaRecord, Lookup, empty, found, asLookup, lookup, firstFound, relevantSet}
 use Rattle.book_places.specs.declared.FirstRecord.{FirstRecord}
 use Rattle.book_places.specs.declared.FirstRecord.the-variants.{At, Nothing}
 use Rattle.book_places.specs.Table.{tableOf}
-use Rattle.book_places.specs.Chains.{Chains, chainsOf}
+use Rattle.book_places.specs.Chains.{chainsOf}
 use Rattle.book_places.specs.Sets.{firstOwned, orNext, nearestFrom, nearestRecord}
 use Rattle.book_places.specs.Theorems.{recordsIn, Finds, Climb-by-offset}
 use Rattle.book_places.proofs.LookLaws.{caas, look-finds}

@@ -42,8 +42,11 @@ alike-mixed h (x ∷ a) (y ∷ b) e = let first : lower x ≡ lower y = cc in rw
 alike-key : (a b : List ℕ) → Alike a b → keyOf a ≡ keyOf b
 unfolding keyOf
 alike-key a b e =
-    rw (alike-length a b e, alike-mixed (length b % 65536) (take 10 a) (take 10 b) (alike-take 10 a b e))
-    (ap (λ h. h % maxRecords) (alike-mixed _ (drop (length b - 6) a) (drop (length b - 6) b) (alike-drop (length b - 6) a b e)))
+    rw (
+      alike-length a b e,
+      alike-mixed (length b % 65536) (take 10 a) (take 10 b) (alike-take 10 a b e),
+      alike-mixed _ (drop (length b - 6) a) (drop (length b - 6) b) (alike-drop (length b - 6) a b e),
+    )
 
 some-records : 0 < maxRecords
 unfolding maxRecords

@@ -1,35 +1,27 @@
 -- A look at a name, by a table that tells of the records and chains that skip none, finds what the rule's lookup finds.
-use Prim.Native.Nat.{ℕ, zero, suc}
-use native.Mathlib.Omega.{arith}
-use mathlib.Core.Path.{_≡_, refl, sym, ap, _∙_}
-use mathlib.Core.Bool.{Bool, true, false, cond, true≢false, _&&_}
-use mathlib.Core.List.{List, [], _∷_, _++_, map}
+use Prim.Native.Nat.{ℕ, suc}
+use mathlib.Core.Path.{_≡_, refl, sym, _∙_}
+use mathlib.Core.Bool.{Bool, true, false, cond, _&&_}
+use mathlib.Core.List.{List, [], _∷_, _++_}
 use mathlib.Core.Option.{Option, none, some, Option·none-ne-some}
-use lib.Dec.{leb, ltb}
-use lib.ListN.{length, getD}
+use lib.Dec.{ltb}
+use lib.ListN.{length}
 use borrow.Author.Tests.{ltb-false, le-leb}
-use Rattle.spec_limits.specs.Limits.{maxBookOctets, maxRecords}
-use Rattle.spec_refusal.specs.declared.RecordNo.{RecordNo}
-use Rattle.spec_refusal.specs.declared.Refusal.{Refusal}
+use Rattle.spec_limits.specs.Limits.{maxBookOctets}
 use Rattle.spec_refusal.specs.declared.Refusal.the-variants.{BookTooLong}
 use Rattle.spec_octets.specs.Lists.{consIf, select, All, all-nil, all-cons}
-use Rattle.spec_octets.specs.Octets.{equalIgnoringCase}
-use Rattle.spec_octets.proofs.ListLaws.{decided, All-join}
+use Rattle.spec_octets.proofs.ListLaws.{All-join}
 use Rattle.spec_name.specs.Names.{Name, wire, sameName}
 use Rattle.spec_name.specs.Theorems.{GoodName}
 use Rattle.spec_name.proofs.WholeNames.{whole-names}
 use Rattle.spec_record.specs.Property.{Property, property}
 use Rattle.spec_record.specs.Records.{Record, isCaa, recordRefusal, recordItems, records, bookRefusal}
-use Rattle.spec_rule.specs.RelevantSet.{CaaRecord, withProperty, caaRecord, caaRecordsFrom, caaRecords, Lookup, asLookup, lookup}
-use Rattle.book_relevant.specs.Places.{readable}
+use Rattle.spec_rule.specs.RelevantSet.{CaaRecord, withProperty, caaRecordsFrom, caaRecords, asLookup, lookup}
 use Rattle.book_relevant.proofs.AcceptedBook.{accepted-readable}
-use Rattle.book_places.specs.declared.FirstRecord.{FirstRecord}
-use Rattle.book_places.specs.declared.FirstRecord.the-variants.{At, Nothing}
-use Rattle.book_places.specs.Table.{tabled, tableOf, ownerAt, dataAt, isCaaAt}
-use Rattle.book_places.specs.Keys.{keyOf}
-use Rattle.book_places.specs.Chains.{Chains, chainsOf}
-use Rattle.book_places.specs.Sets.{isOwned, ownedFrom, firstOf, firstOwned, setAt}
-use Rattle.book_places.specs.Theorems.{RowTells, numbersFrom, recordsIn, numbersOf, firstNumber, Finds, Look-by-offset}
+use Rattle.book_places.specs.Table.{tabled, tableOf, dataAt}
+use Rattle.book_places.specs.Chains.{chainsOf}
+use Rattle.book_places.specs.Sets.{isOwned, ownedFrom, firstOf, firstOwned}
+use Rattle.book_places.specs.Theorems.{numbersFrom, recordsIn, numbersOf, firstNumber, Finds, Look-by-offset}
 use Rattle.book_places.proofs.TableLaws.{TellsFrom, rows-tell, Sound, tabled-sound}
 use Rattle.book_places.proofs.ChainedRecords.{chains-skip-nothing}
 use Rattle.book_places.proofs.SetLaws.{set-by-its-first}

@@ -1,8 +1,8 @@
 -- The set that is named by its first record: the same as along the chain before it, and of numbers that have a link.
 use Prim.Native.Nat.{ℕ, zero, suc, _+_, _≤_, _<_}
 use native.Mathlib.Omega.{arith}
-use mathlib.Core.Path.{_≡_, refl, sym, ap, _∙_}
-use mathlib.Core.Bool.{Bool, true, false, cond, _&&_, and-eq-true-iff}
+use mathlib.Core.Path.{_≡_, refl, sym, _∙_}
+use mathlib.Core.Bool.{Bool, true, false, cond, and-eq-true-iff}
 use mathlib.Core.List.{List, [], _∷_, nil≢cons}
 use lib.Dec.{ltb}
 use lib.ListN.{length}
@@ -11,7 +11,6 @@ use Rattle.spec_refusal.specs.declared.RecordNo.{RecordNo}
 use Rattle.spec_octets.specs.Lists.{consIf, select}
 use Rattle.spec_octets.specs.Octets.{equalIgnoringCase}
 use Rattle.spec_octets.proofs.Texts.{same-text}
-use Rattle.book_places.specs.declared.FirstRecord.{FirstRecord}
 use Rattle.book_places.specs.declared.FirstRecord.the-variants.{At}
 use Rattle.book_places.specs.Table.{ownerAt, isCaaAt}
 use Rattle.book_places.specs.Chains.{behind, chainFrom}
@@ -47,6 +46,10 @@ select-alike : {A : Type 0} (p q : A → Bool) → ((x : A) → p x ≡ q x) →
 select-alike p q h [] = refl
 select-alike p q h (x ∷ xs) = rw (h x, select-alike p q h xs)
 
+-- what a text owns is a CAA record, and has that owner
+pub owned-both : (book table x : List ℕ) (i : ℕ) → isOwned book table x i ≡ true → (isCaaAt table i ≡ true) × (equalIgnoringCase (ownerAt book table i) x ≡ true)
+owned-both book table x i e = and-eq-true-iff (isCaaAt table i) (equalIgnoringCase (ownerAt book table i) x) .0 e
+
 module _ (book table links : List ℕ) where
   -- the same records have an owner and a text that is the same
   owned-alike : (x y : List ℕ) → equalIgnoringCase y x ≡ true → (i : ℕ) → isOwned book table y i ≡ isOwned book table x i
@@ -64,7 +67,7 @@ module _ (book table links : List ℕ) where
     set-there : setAt book table links f ≡ f ∷ fs
     unfolding setAt ownedFrom
     set-there =
-        let owner = and-eq-true-iff (isCaaAt table f) (equalIgnoringCase (ownerAt book table f) x) .0 (first-owned .passes) .1 in
+        let owner = owned-both book table x f (first-owned .passes) .1 in
         select-alike (isOwned book table (ownerAt book table f)) (isOwned book table x) (owned-alike x (ownerAt book table f) owner) (chainFrom links f)
         ∙ first-owned .same
 

@@ -1,12 +1,12 @@
 -- The records that can be read stand in the book end to end, and each has its parts where a row of the table says.
 use Prim.Native.Nat.{ℕ, zero, suc, _+_, _-_, _≤_}
 use native.Mathlib.Omega.{arith}
-use mathlib.Core.Path.{_≡_, refl, sym, subst, _∙_}
+use mathlib.Core.Path.{_≡_, refl, subst}
 use mathlib.Core.Bool.{Bool, true, false, cond}
 use mathlib.Core.List.{List, [], _∷_}
 use mathlib.Core.Option.{Option, none, some}
 use lib.Dec.{leb}
-use lib.ListN.{length, take, drop, length-append}
+use lib.ListN.{length, drop, length-append}
 use Rattle.spec_limits.specs.Limits.{maxBookOctets, maxRecords}
 use Rattle.spec_octets.proofs.ReaderLaws.{bind-some}
 use Rattle.spec_name.specs.Names.{name, wire}
@@ -47,7 +47,7 @@ module _ (book : List ℕ) where
         (placesFrom book e, subst (RecordTo book at (placesFrom book e)) same (record-to book at owner e k whole), behind)
 
   module _ (at : ℕ) (p : RecordAt) (r : Record) (t : RecordTo book at p r) where
-    ends : at + length (wireRecord r) ≡ p .next
+    pub ends : at + length (wireRecord r) ≡ p .next
     ends = simp length-append (omega (arith, t .owner .long, t .ten, t .order, data-long book at p r t))
 
     stands : Standing at r

@@ -5,7 +5,7 @@ use mathlib.Core.Path.{_≡_, refl, sym, _∙_}
 use mathlib.Core.Bool.{true}
 use mathlib.Core.List.{List, [], _∷_, _++_, append-assoc}
 use mathlib.Core.Option.{some, Option·none-ne-some, Option·some-injective}
-use lib.ListN.{length, getD, getElem?, replicate, length-append}
+use lib.ListN.{length, getD, getElem?, replicate, length-append, length-replicate}
 use lib.Seq.{getD-append-add}
 use borrow.Author.Tests.{lt-ltb}
 use Rattle.spec_limits.specs.Limits.{maxRecords}
@@ -14,7 +14,7 @@ use Rattle.spec_name.specs.Theorems.{GoodName}
 use Rattle.spec_record.specs.Property.{Property, property}
 use Rattle.spec_record.specs.Records.{Record, wireRecord, isCaa}
 use Rattle.book_places.specs.Table.{row, rowsFrom, tabled, tableOf, cell, ownerAt, dataAt, isCaaAt}
-use Rattle.book_places.specs.Theorems.{RowTells, Table-tells}
+use Rattle.book_places.specs.Theorems.{RowTells, Table-tells, Table-fits}
 use Rattle.book_places.proofs.StandingRecords.{Standing, StandFrom, tabled-stand, few-tabled, has-property}
 
 module _ (book table : List ℕ) where
@@ -78,6 +78,17 @@ rows-tell book =
 
 pub table-tells : Table-tells
 table-tells book i r e = let there : 0 + i ≡ i = omega arith in rw there at (row-of book (tableOf book) (tabled book) 0 i r (rows-tell book) e)
+
+rows-long : (at : ℕ) (rs : List Record) → length (rowsFrom at rs) ≡ 6 * length rs
+rows-long at [] = omega arith
+rows-long at (r ∷ rs) = omega (arith, rows-long (at + length (wireRecord r)) rs)
+
+pub table-fits : Table-fits
+unfolding tableOf
+table-fits book = (
+  rw (length-append, rows-long 0 (tabled book), length-replicate) (omega (arith, few-tabled book)),
+  few-tabled book,
+)
 
 -- the owner is a good name, and the data of a CAA record holds a property
 pub record Sound (r : Record) : Type 0 where

@@ -1,5 +1,5 @@
 -- What the definitions of this crate mean. Each statement is proved under its name in proofs/.
-use Prim.Native.Nat.{ℕ, zero, suc, _<_}
+use Prim.Native.Nat.{ℕ, zero, suc, _*_, _≤_, _<_}
 use mathlib.Core.Path.{_≡_}
 use mathlib.Core.Logic.{_↔_, _⊎_}
 use mathlib.Core.Bool.{Bool, true, false}
@@ -20,7 +20,7 @@ use Rattle.spec_rule.specs.RelevantSet.{CaaRecord, caaRecords, Lookup, empty, f
 use Rattle.spec_rule.specs.Authorizations.{decided}
 use Rattle.book_places.specs.Table.{tabled, tableOf, ownerAt, dataAt, isCaaAt}
 use Rattle.book_places.specs.Keys.{keyOf}
-use Rattle.book_places.specs.Chains.{Chains, chainsOf}
+use Rattle.book_places.specs.Chains.{chainsOf}
 use Rattle.book_places.specs.Sets.{isOwned, ownedFrom, firstOf, firstOwned, nearestRecord, setAt, dataHasTag, dataIsUnknownCritical, dataGrants, setGrants}
 use Rattle.book_places.specs.NameAuthorizations.{nameAuthorization, setGrantees, meaning}
 use Rattle.book_places.specs.declared.FirstRecord.{FirstRecord}
@@ -41,6 +41,10 @@ pub record RowTells (book table : List ℕ) (i : ℕ) (r : Record) : Type 0 wher
 -- each row of the table of a book tells of the record of its number, whatever the octets of the book
 abbrev pub Table-tells : Type 0
 Table-tells = (book : List ℕ) (i : ℕ) (r : Record) → getElem? (tabled book) i ≡ some r → RowTells book (tableOf book) i r
+
+-- the table has six numbers for each record that a book may have, and no book has more records
+abbrev pub Table-fits : Type 0
+Table-fits = (book : List ℕ) → (length (tableOf book) ≡ 6 * maxRecords) × (length (tabled book) ≤ maxRecords)
 
 -- there are as many links as a book may have records, and as many heads as there are keys
 abbrev pub Chains-fit : Type 0
