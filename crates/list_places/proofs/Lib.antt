@@ -4,6 +4,7 @@ pub mod CandidateLaws
 pub mod CollectedNames
 pub mod NarrowedNames
 pub mod RoundLaws
+pub mod GrantWalk
 pub mod SetIssuers
 pub mod OnceLaws
 pub mod KeptBySets
