@@ -106,6 +106,7 @@ module _ (book table links : List ℕ) where
       kept-names :
           (cs : List ℕ) → length cs ≤ 65535 → (n : Kept) → n ≡ keptBy book table links (c ∷ cs) names (replicate maxRecords 0) →
           keptNames book (n .names) (n .count) (n .rounds) (length cs) ≡ select (λ m. all (λ d. any (same m) (grantsTo d)) cs) (distinct (grantsTo c))
+      unfolding keptBy
       kept-names cs few n e =
           rw e
           (ap (keptNames book (first .names) (first .count) (narrowedBy book table links (first .names) (first .count) 0 cs (replicate maxRecords 0))) (omega arith)

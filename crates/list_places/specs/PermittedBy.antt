@@ -31,7 +31,7 @@ module _ (book table links : List ℕ) where
   keptOf c cs rounds = record { count = c .count; names = c .names; rounds = narrowedBy (c .names) (c .count) 0 cs rounds }
 
   -- by some sets, in two arrays
-  abbrev pub keptBy : List ℕ → List ℕ → List ℕ → Kept
+  unfoldable pub keptBy : List ℕ → List ℕ → List ℕ → Kept
   keptBy [] names rounds = record { count = 0; names = names; rounds = rounds }
   keptBy (c ∷ cs) names rounds = keptOf (collected book table links (taggedSet c) names) cs rounds
 
