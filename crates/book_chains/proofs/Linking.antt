@@ -7,7 +7,7 @@ use mathlib.Core.List.{List}
 use lib.Dec.{leb}
 use lib.ListN.{length, getD, set, length-set, List·getD-eq-default}
 use lib.Seq.{set-out}
-use borrow.Author.Tests.{le-leb, lt-leb, leb-true, leb-false}
+use borrow.Author.Tests.{le-leb, lt-leb, leb-true}
 use Rattle.spec_limits.specs.Limits.{maxRecords}
 use Rattle.book_places.specs.Table.{tabled, ownerAt}
 use Rattle.book_places.specs.Keys.{keyOf}

@@ -3,7 +3,7 @@ use Prim.Native.Nat.{ℕ, zero, suc, _-_, _≤_, _<_}
 use native.Mathlib.Nat.{not-suc-le-zero}
 use native.Mathlib.Omega.{arith}
 use mathlib.Core.Path.{_≡_, refl, sym, _∙_}
-use mathlib.Core.Bool.{Bool, true, false, _&&_}
+use mathlib.Core.Bool.{Bool, true, false}
 use mathlib.Core.List.{List, [], _∷_}
 use lib.ListN.{length, getD, List·getD-eq-default}
 use borrow.Author.Tests.{lt-ltb, le-ltb}
@@ -13,7 +13,7 @@ use Rattle.book_places.specs.declared.FirstRecord.{FirstRecord}
 use Rattle.book_places.specs.declared.FirstRecord.the-variants.{At, Nothing}
 use Rattle.book_places.specs.Table.{ownerAt, isCaaAt}
 use Rattle.book_places.specs.Keys.{keyOf}
-use Rattle.book_places.specs.Chains.{behind, chainFrom}
+use Rattle.book_places.specs.Chains.{behind}
 use Rattle.book_places.specs.Sets.{isOwned, ownedFrom, firstOf, firstOwned}
 use Rattle.book_places.proofs.ChainLaws.{behind-later, chain-step}
 
