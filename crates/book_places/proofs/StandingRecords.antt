@@ -18,7 +18,7 @@ use Rattle.read_record.proofs.RecordPlaces.{RecordTo, record-to, data-long}
 use Rattle.spec_record.specs.Property.{Property, property}
 use Rattle.spec_record.specs.Records.{Record, wireRecord, isCaa, isLaidOut, resourceRecord}
 use Rattle.spec_record.proofs.RecordLaws.{is-some}
-use Rattle.book_relevant.specs.Places.{before, readable}
+use Rattle.book_places.specs.Readable.{before, readable}
 use Rattle.book_places.specs.Table.{tabled, octetsAt}
 
 module _ (book : List ℕ) where

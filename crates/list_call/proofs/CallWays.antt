@@ -16,7 +16,7 @@ use Rattle.spec_refusal.specs.Checks.{checked}
 use Rattle.spec_refusal.proofs.Checked as checks
 use Rattle.spec_octets.specs.Lists.{All}
 use Rattle.spec_octets.proofs.ListLaws.{All-imp}
-use Rattle.text_buffer.specs.Buffer.{filled}
+use Rattle.spec_octets.specs.Buffer.{filled}
 use Rattle.spec_request.specs.Request.{requestRefusal}
 use Rattle.spec_record.specs.Records.{bookRefusal}
 use Rattle.spec_rule.specs.declared.PermittedIssuers.{PermittedIssuers}

@@ -11,7 +11,7 @@ use borrow.Author.Tests.{le-ltb, eq-eqb, ne-eqb}
 use Rattle.spec_limits.specs.Limits.{maxRecords}
 use Rattle.spec_octets.specs.Lists.{consIf, flatten}
 use Rattle.spec_octets.specs.Octets.{lower, lowered}
-use Rattle.text_buffer.specs.Buffer.{Put, filled, filledLength}
+use Rattle.spec_octets.specs.Buffer.{Put, filled, filledLength}
 use Rattle.text_buffer.proofs.Filled.{no-room-octets, put-room, put-octets}
 use Rattle.text_buffer.proofs.LentRest.{put-nothing, put-one, put-more, rest-room}
 use Rattle.spec_rule.specs.IssuerLists.{entry}

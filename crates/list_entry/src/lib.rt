@@ -4,7 +4,7 @@ ghost use mathlib.Core.Path.{_≡_};
 ghost use Prim.Native.Nat.{_≤_};
 ghost use lib.ListN.{length};
 ghost use Rattle.spec_octets.specs.Octets.{lowered};
-ghost use Rattle.text_buffer.specs.Buffer.{Put, filled};
+ghost use Rattle.spec_octets.specs.Buffer.{Put, filled};
 ghost use Rattle.list_places.specs.Rounds.{keptNames};
 ghost use Rattle.list_entry.specs.Entries.{entryOf, EntryLength, entriesOf, sizeOf};
 

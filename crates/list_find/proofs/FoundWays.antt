@@ -28,7 +28,7 @@ parts request book names rounds e =
     (sym (ap (λ (p : PermittedIn). p .answer) e), (sym (ap (λ (p : PermittedIn). p .names) e), sym (ap (λ (p : PermittedIn). p .rounds) e)))
 
 -- what is made for a call, by the sizes of its arrays
-pub record Made (request book table links : List ℕ) (answer : GoverningSets) (codes : List ℕ) : Type 0 where
+pub record SetsNoted (request book table links : List ℕ) (answer : GoverningSets) (codes : List ℕ) : Type 0 where
   pub rows : table ≡ tableOf book
   pub chained : links ≡ chainsOf book .links
   pub told : answer ≡ notedIn request book .answer
@@ -40,7 +40,7 @@ pub made :
     links ≡ indexedChains book (replicate m 0) (record { links = replicate k k; heads = replicate k k }) .links →
     heads ≡ indexedChains book (replicate m 0) (record { links = replicate k k; heads = replicate k k }) .heads →
     (answer : GoverningSets) (codes : List ℕ) → answer ≡ noted (replicate j 0) (said request book table links heads) .answer →
-    codes ≡ noted (replicate j 0) (said request book table links heads) .codes → Made request book table links answer codes
+    codes ≡ noted (replicate j 0) (said request book table links heads) .codes → SetsNoted request book table links answer codes
 unfolding notedIn
 made request book m k j zeros ends names table links heads t l h answer codes a c =
     let rows = table-of-book book m k zeros ends table t in
@@ -48,7 +48,7 @@ made request book m k j zeros ends names table links heads t l h answer codes a 
     let headed = heads-of-book book m k zeros ends heads h in
     record { rows = rows; chained = chained; told = a ∙ rw (names, rows, chained, headed); numbers = c ∙ rw (names, rows, chained, headed) }
 
-module _ (request book names rounds table links : List ℕ) (answer : GoverningSets) (codes : List ℕ) (k : Made request book table links answer codes) where
+module _ (request book names rounds table links : List ℕ) (answer : GoverningSets) (codes : List ℕ) (k : SetsNoted request book table links answer codes) where
   by-answer : permittedIn request book names rounds ≡ byNoted book table links names rounds answer codes
   unfolding permittedIn
   by-answer = sym (rw (k .rows, k .chained, k .told, k .numbers))

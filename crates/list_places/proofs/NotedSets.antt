@@ -38,10 +38,10 @@ told-by-code g h (inr e) = rw (e, mod-eq-of-lt h, twice (g .set .0) .0, twice (g
     twice n = (omega arith, omega arith)
 
 -- what governs a name is told by its number
-abbrev pub Told : NameAuthorization → Type 0
-Told a = (g : Governing) → a ≡ Governed g → taggedSet (setCode g) ≡ record { set = g .set .0; tag = g .tag }
+abbrev pub AnswerCode : NameAuthorization → Type 0
+AnswerCode a = (g : Governing) → a ≡ Governed g → taggedSet (setCode g) ≡ record { set = g .set .0; tag = g .tag }
 
-pub name-told : (book table links heads x : List ℕ) (wildcard : Bool) → length links ≤ 32768 → Told (nameAuthorization book table links heads x wildcard)
+pub name-told : (book table links heads x : List ℕ) (wildcard : Bool) → length links ≤ 32768 → AnswerCode (nameAuthorization book table links heads x wildcard)
 name-told book table links heads x wildcard few g e =
     let (set-below, first-below, tag) = authorization-bounds book table links heads x wildcard .0 g e in
     told-by-code g (omega arith) tag
@@ -56,7 +56,7 @@ module _ (book table links : List ℕ) where
   notedIssuers k = byAnswer (k .answer) (k .codes)
 
   pub noted-issuers :
-      (says : List NameAuthorization) (n : ℕ) (codes : List ℕ) → n + length says ≤ length codes → All Told says →
+      (says : List NameAuthorization) (n : ℕ) (codes : List ℕ) → n + length says ≤ length codes → All AnswerCode says →
       notedIssuers (notedBehind n codes says) ≡ left (setIssuers (grantsTo book table links) (take n codes)) (map (meaning book table links) says)
   noted-issuers [] n codes h all-nil = sym (left-end (setIssuers (grantsTo book table links) (take n codes)))
   noted-issuers (Unrestricted ∷ says) n codes h (all-cons t more) =

@@ -10,14 +10,14 @@ use lib.ListN.{length, take, drop}
 use borrow.Author.Tests.{leb-true, leb-false}
 use Rattle.spec_limits.specs.Limits.{maxNames, maxRecords}
 use Rattle.spec_octets.specs.Lists.{All, all-nil, all-cons}
-use Rattle.spec_name.specs.Names.{Name, wire}
-use Rattle.spec_name.specs.Theorems.{GoodName}
+use Rattle.spec_name.specs.Names.{Name, wire, GoodName}
 use Rattle.spec_request.specs.Request.{isWildcard, base, requestedNames, requestRefusal}
 use Rattle.read_request.specs.Places.{requestedAt}
 use Rattle.read_request.specs.declared.Requested.{Requested}
 use Rattle.read_request.specs.declared.RequestedRead.{RequestedRead}
 use Rattle.read_request.specs.declared.RequestedRead.the-variants.{Good, Fault}
-use Rattle.read_request.proofs.RequestPlaces.{good-base, next-after}
+use Rattle.spec_request.proofs.RequestedNames.{good-base}
+use Rattle.read_request.proofs.RequestPlaces.{next-after}
 use Rattle.read_request.proofs.AcceptedNames.{NamesLeft, NextName, all-names, names-end, names-few, names-good, next-name}
 use Rattle.spec_record.specs.Records.{records, bookRefusal}
 use Rattle.spec_rule.specs.RelevantSet.{caaRecords}
@@ -30,7 +30,7 @@ use Rattle.book_places.specs.NameAuthorizations.{nameAuthorization, meaning}
 use Rattle.book_places.proofs.ChainedRecords.{chains-fit}
 use Rattle.book_places.proofs.AuthorizationLaws.{authorization-by-offset}
 use Rattle.list_places.specs.SetCodes.{saidOf, saidFrom, said}
-use Rattle.list_places.proofs.NotedSets.{Told, name-told}
+use Rattle.list_places.proofs.NotedSets.{AnswerCode, name-told}
 
 module _ (request book : List ℕ) (good : bookRefusal book ≡ none) where
   abbrev table : List ℕ
@@ -57,7 +57,7 @@ module _ (request book : List ℕ) (good : bookRefusal book ≡ none) where
   pub record SaidOf (k : ℕ) (names : List Name) (ss : List NameAuthorization) : Type 0 where
     pub same : map (meaning book table (chains .links)) ss ≡ map says names
     pub few : k + length ss ≤ maxNames
-    pub told : All Told ss
+    pub told : All AnswerCode ss
 
   abbrev SaysOf : ℕ → Type 0
   SaysOf steps =

@@ -8,7 +8,7 @@ use mathlib.Core.List.{List, [], _∷_, _++_, append-nil, append-assoc}
 use lib.ListN.{length, take, drop, getD, set, replicate, length-take, length-set, length-replicate, drop-of-length-le, List·getD-eq-default}
 use lib.Seq.{drop-cons, getD-drop, getD-take, drop-append-seam, set-out}
 use Rattle.spec_limits.specs.Limits.{maxRecords}
-use Rattle.text_buffer.specs.Buffer.{Put}
+use Rattle.spec_octets.specs.Buffer.{Put}
 use Rattle.text_buffer.proofs.LentRest.{put-nothing, put-octet}
 use Rattle.list_places.specs.SetCodes.{onceBehind, once}
 

@@ -21,7 +21,7 @@ use Rattle.spec_record.specs.Property.{Property, property}
 use Rattle.spec_record.specs.Records.{Record, isCaa, resourceRecord, recordItems, recordRefusal, records, bookRefusal}
 use Rattle.read_record.proofs.RecordFields.{fields-read}
 use Rattle.spec_rule.specs.RelevantSet.{CaaRecord, withProperty, caaRecordsFrom, caaRecords}
-use Rattle.book_relevant.specs.Places.{before, readable}
+use Rattle.book_places.specs.Readable.{before, readable}
 
 -- a record that is read begins with its owner, whatever the octets
 owner-first :
