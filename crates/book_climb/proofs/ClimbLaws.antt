@@ -13,6 +13,10 @@ use Rattle.book_places.specs.declared.FirstRecord.{FirstRecord}
 use Rattle.book_places.specs.declared.FirstRecord.the-variants.{At, Nothing}
 use Rattle.book_places.specs.Sets.{firstOwned, orNext, nearestFrom, nearestRecord}
 
+-- a parent begins inside the name
+pub parent-inside : (s : List ℕ) (at p : ℕ) → p ≡ parentPlace s at → (p ≡ at → ⊥) → p ≤ length s
+parent-inside s at p up other = further s at p up other .1
+
 -- from `at` on, with as many steps as there are octets left
 pub record Climbing (book table links heads s : List ℕ) (at : ℕ) : Type 0 where
   pub steps : ℕ

@@ -14,7 +14,7 @@ use Rattle.read_record.specs.declared.RecordAt.{RecordAt}
 use Rattle.read_record.specs.declared.RecordRead.{RecordRead}
 use Rattle.read_record.specs.declared.RecordRead.the-variants.{Good, Fault}
 use Rattle.read_record.proofs.RecordPlaces.{RecordTo, no-record, record-there}
-use Rattle.book_relevant.specs.Places.{readable}
+use Rattle.book_places.specs.Readable.{readable}
 use Rattle.book_places.specs.Table.{row, rowsFrom, tabled, tableOf}
 use Rattle.book_places.proofs.StandingRecords.{ends, few-tabled}
 use Rattle.book_fill.specs.Filled.{fillable, filledRows, filledTable, rowAt}

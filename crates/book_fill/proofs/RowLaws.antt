@@ -31,7 +31,7 @@ module _ (book : List ℕ) (at : ℕ) (p : RecordAt) (r : Record) (t : RecordTo 
   pub row-told : rowAt at p ≡ row at r
   row-told =
       let begins : at + length (wireRecord r) - length (r .rdata) ≡ p .rdata = omega (arith, ends book at p r t, data-long book at p r t, t .order) in
-      let owner : p .fixed - at ≡ length (wire (r .owner)) = omega (arith, t .owner .long) in
+      let owner : p .«owner_end» - at ≡ length (wire (r .owner)) = omega (arith, t .owner .long) in
       rw (begins, owner, ← data-long book at p r t, t .type, t .class)
 
   module _ (octets : (i : ℕ) → Fits w8 (getD book i 0)) (short : length book ≤ maxBookOctets) where
@@ -40,17 +40,17 @@ module _ (book : List ℕ) (at : ℕ) (p : RecordAt) (r : Record) (t : RecordTo 
 
     fits : RowFits at p
     fits =
-        let (whole, same, behind) = fields-read book at (r .owner) (p .fixed) (t .owner) r (drop (p .next) book) (t .found) in
-        let type : p .rtype ≡ valueFrom 0 (take 2 (drop (p .fixed) book)) = t .type ∙ sym (ap (λ (r : Record). r .type) same) in
-        let class : p .class ≡ valueFrom 0 (take 2 (drop (p .fixed + 2) book)) = t .class ∙ sym (ap (λ (r : Record). r .class) same) in
-        let ten : p .fixed + 10 ≤ length book = omega (arith, t .ten, t .order, t .inside) in
+        let (whole, same, behind) = fields-read book at (r .owner) (p .«owner_end») (t .owner) r (drop (p .next) book) (t .found) in
+        let type : p .rtype ≡ valueFrom 0 (take 2 (drop (p .«owner_end») book)) = t .type ∙ sym (ap (λ (r : Record). r .type) same) in
+        let class : p .class ≡ valueFrom 0 (take 2 (drop (p .«owner_end» + 2) book)) = t .class ∙ sym (ap (λ (r : Record). r .class) same) in
+        let ten : p .«owner_end» + 10 ≤ length book = omega (arith, t .ten, t .order, t .inside) in
         record {
           owner = omega (arith, fewer-labels (r .owner), t .owner .long);
           fixed = omega (arith, t .ten);
           order = t .order;
           inside = omega (arith, t .inside, octets-fit);
-          type = rw type (two-fit (p .fixed) (omega arith));
-          class = rw class (two-fit (p .fixed + 2) (omega arith));
+          type = rw type (two-fit (p .«owner_end») (omega arith));
+          class = rw class (two-fit (p .«owner_end» + 2) (omega arith));
         }
 
 pub row-fits :

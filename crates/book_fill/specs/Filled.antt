@@ -19,12 +19,12 @@ filledTable book table = rowsFrom 0 (fillable book (length table)) ++ drop (6 * 
 
 -- the row of a record that begins at an offset, by its places
 abbrev pub rowAt : ℕ → RecordAt → List ℕ
-rowAt at p = at ∷ p .rtype ∷ p .rdata ∷ (p .fixed - at) ∷ (p .next - p .rdata) ∷ p .class ∷ []
+rowAt at p = at ∷ p .rtype ∷ p .rdata ∷ (p .«owner_end» - at) ∷ (p .next - p .rdata) ∷ p .class ∷ []
 
 -- its numbers fit 16 bits
 pub record RowFits (at : ℕ) (p : RecordAt) : Type 0 where
-  pub owner : at < p .fixed
-  pub fixed : p .fixed ≤ p .rdata
+  pub owner : at < p .«owner_end»
+  pub fixed : p .«owner_end» ≤ p .rdata
   pub order : p .rdata ≤ p .next
   pub inside : p .next < 65536
   pub type : p .rtype < 65536

@@ -18,7 +18,7 @@ fn put_row(table: &mut [u16], n: usize, at: usize, r: RecordAt)
     table[w] = at as u16;
     table[w + 1] = r.rtype as u16;
     table[w + 2] = r.rdata as u16;
-    table[w + 3] = (r.fixed - at) as u16;
+    table[w + 3] = (r.owner_end - at) as u16;
     table[w + 4] = (r.next - r.rdata) as u16;
     table[w + 5] = r.class as u16;
 }

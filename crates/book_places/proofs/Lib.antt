@@ -1,3 +1,4 @@
+pub mod AcceptedBook
 pub mod ChainLaws
 pub mod KeyLaws
 pub mod StandingRecords

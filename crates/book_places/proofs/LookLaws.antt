@@ -16,7 +16,7 @@ use Rattle.spec_name.proofs.WholeNames.{whole-names}
 use Rattle.spec_record.specs.Property.{Property, property}
 use Rattle.spec_record.specs.Records.{Record, isCaa, recordRefusal, recordItems, records, bookRefusal}
 use Rattle.spec_rule.specs.RelevantSet.{CaaRecord, withProperty, caaRecordsFrom, caaRecords, asLookup, lookup}
-use Rattle.book_relevant.proofs.AcceptedBook.{accepted-readable}
+use Rattle.book_places.proofs.AcceptedBook.{accepted-readable}
 use Rattle.book_places.specs.Table.{tabled, tableOf, dataAt}
 use Rattle.book_places.specs.Chains.{chainsOf}
 use Rattle.book_places.specs.Sets.{isOwned, ownedFrom, firstOf, firstOwned}

@@ -18,7 +18,7 @@ use Rattle.read_record.proofs.RecordPlaces.{RecordTo, record-to, data-long}
 use Rattle.spec_record.specs.Property.{Property, property}
 use Rattle.spec_record.specs.Records.{Record, wireRecord, isCaa, isLaidOut, resourceRecord}
 use Rattle.spec_record.proofs.RecordLaws.{is-some}
-use Rattle.book_relevant.specs.Places.{before, readable}
+use Rattle.book_places.specs.Readable.{before, readable}
 use Rattle.book_places.specs.Table.{tabled, octetsAt}
 
 module _ (book : List ℕ) where
@@ -52,12 +52,12 @@ module _ (book : List ℕ) where
     stands : Standing at r
     stands =
         let begins : at + length (wireRecord r) - length (r .rdata) ≡ p .rdata = omega (arith, ends, data-long book at p r t, t .order) in
-        let owner-long : p .fixed - at ≡ length (wire (r .owner)) = omega (arith, t .owner .long) in
-        let (whole, same, behind) = fields-read book at (r .owner) (p .fixed) (t .owner) r (drop (p .next) book) (t .found) in
+        let owner-long : p .«owner_end» - at ≡ length (wire (r .owner)) = omega (arith, t .owner .long) in
+        let (whole, same, behind) = fields-read book at (r .owner) (p .«owner_end») (t .owner) r (drop (p .next) book) (t .found) in
         record {
           owner = rw owner-long at (t .owner .octets);
           rdata = rw (begins, data-long book at p r t) (t .rdata);
-          good = name-is-its-labels (drop at book) (r .owner) (drop (p .fixed) book) .0 (t .owner .found) .1;
+          good = name-is-its-labels (drop at book) (r .owner) (drop (p .«owner_end») book) .0 (t .owner .found) .1;
           laid-out = subst (λ (r : Record). isLaidOut (r .type) (r .class) (r .rdata) ≡ true) same (whole .laid-out);
         }
 

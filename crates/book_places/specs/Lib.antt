@@ -1,3 +1,4 @@
+pub mod Readable
 pub mod Table
 pub mod Keys
 pub mod Chains

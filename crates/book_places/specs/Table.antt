@@ -7,7 +7,7 @@ use lib.ListN.{length, take, drop, getD, replicate}
 use Rattle.spec_limits.specs.Limits.{maxBookOctets, maxRecords}
 use Rattle.spec_name.specs.Names.{wire}
 use Rattle.spec_record.specs.Records.{Record, wireRecord, isCaa}
-use Rattle.book_relevant.specs.Places.{readable}
+use Rattle.book_places.specs.Readable.{readable}
 
 -- of the record r that begins at an offset: owner offset, type, data offset, owner length with its closing zero, data length, class
 abbrev pub row : ℕ → Record → List ℕ

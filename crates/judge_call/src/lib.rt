@@ -123,10 +123,9 @@ fn judge_accepted(request: &[u8], issuer: &[u8], book: &[u8]) -> Judgement
     ensures { λ r. ⌜ r ≡ judge (now (request .entry)) (now (issuer .entry)) (now (book .entry)) ⌝ }
 {
     let mut table = [0u16; TABLE];
-    let n = book_fill::fill_table(book, &mut table);
     let mut links = [END; MAX_RECORDS];
     let mut heads = [END; MAX_RECORDS];
-    book_chains::link(book, &table, n, &mut links, &mut heads);
+    book_index::index_book(book, &mut table, &mut links, &mut heads);
     judge_names(request, issuer, book, &table, &links, &heads)
 }
 

@@ -11,10 +11,10 @@ use Rattle.read_record.specs.declared.RecordRead.the-variants.{Good}
 use Rattle.read_record.proofs.RecordPlaces.{record-there}
 
 module _ (book : List ℕ) (at : ℕ) (o : RecordRead) (f : o ≡ recordAt book at) (p : RecordAt) (g : o ≡ Good p) where
-  pub owner-before : at ≤ p .fixed
+  pub owner-before : at ≤ p .«owner_end»
   owner-before = let (r, t) = record-there book at o f p g in omega (arith, t .owner .long)
 
-  pub owner-inside : p .fixed ≤ length book
+  pub owner-inside : p .«owner_end» ≤ length book
   owner-inside = let (r, t) = record-there book at o f p g in t .owner .inside
 
   pub data-before : p .rdata ≤ p .next

@@ -30,7 +30,7 @@ module _ (s : List ℕ) where
 
   abbrev pub placesFrom : ℕ → RecordAt
   placesFrom e = record {
-    fixed = e;
+    «owner_end» = e;
     rtype = valueFrom 0 (take 2 (drop e s));
     class = valueFrom 0 (take 2 (drop (e + 2) s));
     rdata = e + 10;

@@ -14,7 +14,7 @@ abbrev pub recordPlaces : List ℕ → ℕ → Option (Record × List ℕ) → R
 recordPlaces s at none = RecordFault
 recordPlaces s at (some r) =
     RecordThere (record {
-      fixed = at + length (wire (r .0 .owner));
+      «owner_end» = at + length (wire (r .0 .owner));
       rtype = r .0 .type;
       class = r .0 .class;
       rdata = placeOf s (r .1) - length (r .0 .rdata);

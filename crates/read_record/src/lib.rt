@@ -48,9 +48,9 @@ fn two_octets(s: &[u8], at: usize) -> usize
     high * 256 + low
 }
 
-// A record by its offsets: `fixed`, where the owner ends and the type begins; type and class; where the data begins and where it ends.
+// A record by its offsets: `owner_end`, where the owner ends and the type begins; type and class; where the data begins and where it ends.
 pub struct RecordAt {
-    pub fixed: usize,
+    pub owner_end: usize,
     pub rtype: usize,
     pub class: usize,
     pub rdata: usize,
@@ -84,7 +84,7 @@ pub fn read_record(s: &[u8], at: usize) -> RecordRead
         return RecordRead::Fault;
     }
     RecordRead::Good(RecordAt {
-        fixed,
+        owner_end: fixed,
         rtype,
         class,
         rdata,

@@ -79,7 +79,7 @@ fn record(s: &[u8], at: usize) -> u64
     let RecordRead::Good(r) = read_record::read_record(s, at) else {
         return 0;
     };
-    spec_packed::pack(1, r.next as u64, r.fixed as u64, r.rdata as u64)
+    spec_packed::pack(1, r.next as u64, r.owner_end as u64, r.rdata as u64)
 }
 
 // 0: malformed. 1: no name. 2: a has the offset after the name, b the offset of its first octet.

@@ -1,9 +1,10 @@
 -- `nearest_record` meets its contract. The loop's invariant: the nearest record is found from the offset reached.
+-- `parent-inside` is for an edit that looks at the parent: its part of the name is sound, and its answer is not.
 use Prim.Native.Nat.{_-_}
 use lib.ListN.{length}
 use borrow.Author.Needs.{needs}
 use Rattle.read_name.proofs.Parents.{at-before, closer}
-use Rattle.book_climb.proofs.ClimbLaws.{Climbing, climb-start, no-parent, none-owned, some-owned}
+use Rattle.book_climb.proofs.ClimbLaws.{parent-inside, Climbing, climb-start, no-parent, none-owned, some-owned}
 use Rattle.book_climb.proofs.nearest_record.Statement.{statement}
 use Rattle.book_climb.proofs.nearest_record.Tie as tie
 
@@ -23,10 +24,10 @@ returns : tie.Need-returns Inv-loop μ-loop
 returns c = search (needs, no-parent)
 
 sub-x : tie.Need-sub-x Inv-loop μ-loop
-sub-x c = search (needs, at-before)
+sub-x c = search (needs, at-before, parent-inside)
 
 part-x-start : tie.Need-part-x-start Inv-loop μ-loop
-part-x-start c = search (needs, at-before)
+part-x-start c = search (needs, at-before, parent-inside)
 
 part-x-end : tie.Need-part-x-end Inv-loop μ-loop
 part-x-end c = search needs
