@@ -69,8 +69,8 @@ impl Generator {
                 let rdata = self.caa_data();
                 [self.book(), self.record_of(owner, 257, 1, &rdata)].concat()
             }
-            8..=10 => self.crowded_book(),
-            11 => self.book_of_long_list(),
+            8 | 9 => self.crowded_book(),
+            10 => self.book_of_long_list(),
             _ => self.book(),
         }
     }
