@@ -5,12 +5,7 @@ use list_places::Permitted;
 use spec_limits::MAX_NAMES;
 use spec_limits::MAX_RECORDS;
 ghost use mathlib.Core.Path.{_≡_};
-ghost use Prim.Native.Nat.{_-_};
-ghost use lib.ListN.{length, take};
-ghost use Rattle.book_places.specs.Table.{tableOf};
-ghost use Rattle.book_places.specs.Chains.{Chains, chainsOf};
-ghost use Rattle.list_places.specs.SetCodes.{once};
-ghost use Rattle.list_places.specs.PermittedBy.{keptBy, permittedIn};
+ghost use Rattle.list_places.specs.PermittedBy.{permittedIn};
 
 // No record: the end of a chain.
 const END: u16 = MAX_RECORDS as u16;
