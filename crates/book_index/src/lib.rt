@@ -1,6 +1,5 @@
 // A book read once: the table of its records, and the chains through them.
 ghost use mathlib.Core.Path.{_≡_};
-ghost use Rattle.book_places.specs.Chains.{Chains};
 ghost use Rattle.book_fill.specs.Filled.{filledTable};
 ghost use Rattle.book_index.specs.Indexes.{indexedChains};
 

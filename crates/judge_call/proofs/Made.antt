@@ -6,7 +6,6 @@ use mathlib.Core.Option.{none}
 use lib.ListN.{replicate}
 use Rattle.spec_limits.specs.Limits.{maxRecords}
 use Rattle.spec_rule.specs.Calls.{firstRefusal, judgeChecks}
-use Rattle.book_places.specs.Chains.{Chains}
 use Rattle.book_fill.specs.Filled.{filledTable}
 use Rattle.book_index.specs.Indexes.{indexedChains}
 use Rattle.book_index.proofs.Indexed.{table-of-book, links-of-book, heads-of-book}

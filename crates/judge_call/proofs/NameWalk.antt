@@ -2,7 +2,7 @@
 use Prim.Native.Nat.{ℕ, suc, _≤_, _<_, _+_, _-_}
 use native.Mathlib.Numerals.{add-one}
 use native.Mathlib.Omega.{arith}
-use mathlib.Core.Path.{_≡_, refl, sym, ap, _∙_}
+use mathlib.Core.Path.{_≡_, sym, ap, _∙_}
 use mathlib.Core.Logic.{⊎-elim}
 use mathlib.Core.Bool.{Bool, true, false, cond}
 use mathlib.Core.List.{List, map}
@@ -27,7 +27,7 @@ use Rattle.spec_request.specs.Request.{isWildcard, base, requestedNames}
 use Rattle.read_request.specs.Places.{requestedAt}
 use Rattle.read_request.proofs.RequestPlaces.{requested-there, good-base}
 use Rattle.read_request.proofs.AcceptedNames.{NamesLeft, NextName, all-names, names-end, names-few, names-good, next-name}
-use Rattle.spec_record.specs.Records.{records, bookRefusal}
+use Rattle.spec_record.specs.Records.{records}
 use Rattle.spec_rule.specs.declared.Judgement.{Judgement}
 use Rattle.spec_rule.specs.declared.Judgement.the-variants.{Permitted, UnknownCritical, NotGranted, Refused}
 use Rattle.spec_rule.specs.RelevantSet.{caaRecords}
@@ -38,7 +38,6 @@ use Rattle.read_inputs.proofs.CheckLaws.{none-refuses}
 use Rattle.book_places.specs.declared.Governing.{Governing}
 use Rattle.book_places.specs.declared.NameAuthorization.{NameAuthorization}
 use Rattle.book_places.specs.declared.NameAuthorization.the-variants.{Unrestricted, Forbidden, Governed}
-use Rattle.book_places.specs.Chains.{Chains, chainsOf}
 use Rattle.book_places.specs.Sets.{setGrants}
 use Rattle.book_places.specs.NameAuthorizations.{nameAuthorization, meaning}
 use Rattle.book_places.proofs.ChainedRecords.{chains-fit}

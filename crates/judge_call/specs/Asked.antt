@@ -13,7 +13,7 @@ use Rattle.spec_rule.specs.Authorizations.{isIssueWildTag}
 use Rattle.spec_rule.specs.Calls.{firstRefusal, judgeChecks}
 use Rattle.book_places.specs.declared.Governing.{Governing}
 use Rattle.book_places.specs.Table.{tableOf}
-use Rattle.book_places.specs.Chains.{Chains, chainsOf}
+use Rattle.book_places.specs.Chains.{chainsOf}
 use Rattle.book_places.specs.Sets.{setGrants}
 
 pub record Ready (request issuer book table links heads : List ℕ) : Type 0 where
