@@ -1,4 +1,5 @@
 // May this issuer sign? The call that judges.
+use book_places::END;
 use book_places::Governing;
 use book_places::NameAuthorization;
 use book_places::TABLE;
@@ -21,9 +22,6 @@ ghost use Rattle.judge_call.specs.Asked.{Ready, noteAt, Asked, Noted};
 
 // Two notes for each record: that the set which begins there permits the issuer, by its issue and by its issuewild records.
 const NOTES: usize = 2 * MAX_RECORDS;
-
-// Ends a chain: no record has this number.
-const END: u16 = MAX_RECORDS as u16;
 
 // Where it is noted of the records that govern a name.
 fn note_at(g: Governing) -> usize

@@ -1,8 +1,8 @@
 -- permitted_issuers: a law for each way out.
 use Prim.Native.Nat.{ℕ, _*_, _≤_, _<_}
 use native.Mathlib.Omega.{arith}
-use mathlib.Core.Path.{_≡_, refl, sym, ap, _∙_}
-use mathlib.Core.Bool.{Bool, true, false, cond, not}
+use mathlib.Core.Path.{_≡_, refl, sym, ap}
+use mathlib.Core.Bool.{true, false, not}
 use mathlib.Core.List.{List, [], _∷_}
 use mathlib.Core.Option.{Option, none, some}
 use lib.ListN.{length, replicate, length-replicate}
@@ -26,7 +26,7 @@ use Rattle.spec_rule.specs.Calls.{authorizations, firstRefusal, Listing, listIs
 use Rattle.spec_rule.proofs.PermittedLaws.{permitted-issuers}
 use Rattle.list_places.specs.declared.Permitted.{Permitted}
 use Rattle.list_places.specs.Rounds.{keptNames}
-use Rattle.list_places.specs.PermittedBy.{PermittedIn, permittedIn, issuersIn}
+use Rattle.list_places.specs.PermittedBy.{permittedIn, issuersIn}
 use Rattle.list_places.proofs.ByOffset.{permitted-by-offset}
 use Rattle.list_entry.specs.declared.ListSize.{ListSize}
 use Rattle.list_entry.specs.Entries.{entriesOf, sizeOf}

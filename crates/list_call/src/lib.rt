@@ -1,6 +1,4 @@
 // Who may sign? The call that lists the permitted issuers.
-use list_entry::ListSize;
-use list_places::Permitted;
 use spec_limits::MAX_RECORDS;
 use spec_refusal::Check;
 use spec_refusal::Refusal;

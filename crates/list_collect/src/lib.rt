@@ -1,5 +1,4 @@
 // The issuers that the records of a tagged set grant: collected as candidates, or taken to narrow the candidates of another set.
-use list_places::Grant;
 use list_places::NextGrant;
 use list_places::TaggedSet;
 ghost use mathlib.Core.Path.{_≡_};

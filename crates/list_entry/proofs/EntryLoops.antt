@@ -2,14 +2,14 @@
 use Prim.Native.Nat.{ℕ, suc, _+_, _*_, _-_, _≤_, _<_, _^_}
 use native.Mathlib.Omega.{arith}
 use mathlib.Core.Path.{_≡_, refl, ap, _∙_}
-use mathlib.Core.List.{List, [], _∷_, _++_, append-assoc, append-nil, map}
+use mathlib.Core.List.{List, [], _∷_, _++_, append-assoc, append-nil}
 use lib.Dec.{eqb}
 use lib.ListN.{length, take, drop, set, getD, length-append, length-map, length-set}
 use mir.Syntax.{w64}
 use mir.Val.{Fits}
 use borrow.Author.Tests.{le-ltb, eq-eqb, ne-eqb}
 use Rattle.spec_limits.specs.Limits.{maxRecords}
-use Rattle.spec_octets.specs.Lists.{consIf, flatten}
+use Rattle.spec_octets.specs.Lists.{consIf}
 use Rattle.spec_octets.specs.Octets.{lower, lowered}
 use Rattle.spec_octets.specs.Buffer.{Put, filled, filledLength}
 use Rattle.text_buffer.proofs.Filled.{no-room-octets, put-room, put-octets}

@@ -1,5 +1,5 @@
 -- find_permitted: a law for each way out.
-use Prim.Native.Nat.{ℕ, zero, suc, _-_, _*_}
+use Prim.Native.Nat.{ℕ, _-_, _*_}
 use native.Mathlib.Omega.{arith}
 use mathlib.Core.Path.{_≡_, refl, sym, ap, _∙_}
 use mathlib.Core.Bool.{true, false}
@@ -8,15 +8,15 @@ use lib.ListN.{length, take, drop, replicate}
 use lib.Seq.{take-at}
 use Rattle.spec_limits.specs.Limits.{maxNames, maxRecords}
 use Rattle.book_places.specs.Table.{tableOf}
-use Rattle.book_places.specs.Chains.{Chains, chainsOf}
+use Rattle.book_places.specs.Chains.{chainsOf}
 use Rattle.book_fill.specs.Filled.{filledTable}
 use Rattle.book_index.specs.Indexes.{indexedChains}
 use Rattle.book_index.proofs.Indexed.{table-of-book, links-of-book, heads-of-book}
 use Rattle.list_places.specs.declared.GoverningSets.{GoverningSets}
 use Rattle.list_places.specs.declared.GoverningSets.the-variants.{Nobody, Sets}
 use Rattle.list_places.specs.declared.Permitted.{Permitted}
-use Rattle.list_places.specs.SetCodes.{said, Noted, noted, once}
-use Rattle.list_places.specs.PermittedBy.{Kept, keptBy, PermittedIn, bySets, byNoted, notedIn, permittedIn}
+use Rattle.list_places.specs.SetCodes.{said, noted, once}
+use Rattle.list_places.specs.PermittedBy.{keptBy, PermittedIn, bySets, byNoted, notedIn, permittedIn}
 
 -- the three ensures from one equation
 pub parts :

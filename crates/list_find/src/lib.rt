@@ -1,19 +1,12 @@
 // Who may sign for all names of a request, found in the table of the book: the candidates, and the round that those on the list are in.
+use book_places::END;
 use book_places::TABLE;
 use list_places::GoverningSets;
 use list_places::Permitted;
 use spec_limits::MAX_NAMES;
 use spec_limits::MAX_RECORDS;
 ghost use mathlib.Core.Path.{_≡_};
-ghost use Prim.Native.Nat.{_-_};
-ghost use lib.ListN.{length, take};
-ghost use Rattle.book_places.specs.Table.{tableOf};
-ghost use Rattle.book_places.specs.Chains.{Chains, chainsOf};
-ghost use Rattle.list_places.specs.SetCodes.{once};
-ghost use Rattle.list_places.specs.PermittedBy.{keptBy, permittedIn};
-
-// No record: the end of a chain.
-const END: u16 = MAX_RECORDS as u16;
+ghost use Rattle.list_places.specs.PermittedBy.{permittedIn};
 
 // The issuers for all names of a request. The names of the candidates and their rounds are left in two lent arrays.
 pub fn find_permitted(

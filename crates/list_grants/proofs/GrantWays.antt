@@ -1,8 +1,8 @@
 -- next_grant: the records that the walk has passed do not change the first grant; a law for each way out.
 use Prim.Native.Nat.{ℕ}
-use mathlib.Core.Path.{_≡_, refl, sym, _∙_}
+use mathlib.Core.Path.{_≡_, sym, _∙_}
 use mathlib.Core.Bool.{Bool, true, false, not}
-use mathlib.Core.List.{List, []}
+use mathlib.Core.List.{List}
 use borrow.Author.Tests.{not-true, not-false}
 use Rattle.spec_refusal.specs.declared.RecordNo.{RecordNo}
 use Rattle.read_value.specs.declared.NameAt.{NameAt}

@@ -5,7 +5,6 @@ use list_places::NextGrant;
 use list_places::TaggedSet;
 use read_grantee::GranteeRead;
 use read_value::NameAt;
-use spec_refusal::RecordNo;
 ghost use mathlib.Core.Path.{_≡_};
 ghost use Prim.Native.Nat.{_≤_};
 ghost use Rattle.list_places.specs.Grants.{grantIn, grantsFrom, firstGrant};

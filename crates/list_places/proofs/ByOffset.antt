@@ -1,32 +1,31 @@
 -- The candidates found for an accepted request and book are those who may sign.
 use Prim.Native.Nat.{ℕ, suc, _*_, _≤_}
 use native.Mathlib.Omega.{arith}
-use mathlib.Core.Path.{_≡_, refl, sym, ap, _∙_}
+use mathlib.Core.Path.{_≡_, refl, ap, _∙_}
 use mathlib.Core.Bool.{Bool, true, false, cond}
 use mathlib.Core.List.{List, [], _∷_}
-use mathlib.Core.Option.{Option, none, some}
+use mathlib.Core.Option.{none, some}
 use lib.Dec.{ltb}
 use lib.ListN.{length, take, set, replicate, length-take, length-set, length-replicate}
 use borrow.Author.Tests.{ltb-false}
 use Rattle.spec_limits.specs.Limits.{maxNames, maxBookOctets, maxRecords}
-use Rattle.spec_refusal.specs.declared.Refusal.{Refusal}
 use Rattle.spec_refusal.specs.declared.Refusal.the-variants.{BookTooLong}
 use Rattle.spec_request.specs.Request.{requestRefusal}
 use Rattle.spec_record.specs.Records.{bookRefusal, recordRefusal, recordItems}
-use Rattle.spec_rule.specs.IssuerLists.{Issuers, issuers}
+use Rattle.spec_rule.specs.IssuerLists.{issuers}
 use Rattle.spec_rule.specs.Calls.{authorizations}
 use Rattle.book_places.specs.Table.{tableOf}
-use Rattle.book_places.specs.Chains.{Chains, chainsOf}
+use Rattle.book_places.specs.Chains.{chainsOf}
 use Rattle.book_places.specs.declared.NameAuthorization.{NameAuthorization}
 use Rattle.book_places.specs.declared.NameAuthorization.the-variants.{Unrestricted, Forbidden, Governed}
 use Rattle.book_places.proofs.ChainedRecords.{chains-fit}
 use Rattle.list_places.specs.declared.GoverningSets.{GoverningSets}
 use Rattle.list_places.specs.declared.GoverningSets.the-variants.{Nobody, Sets}
 use Rattle.list_places.specs.Rounds.{keptNames}
-use Rattle.list_places.specs.SetCodes.{setCode, said, Noted, notedBehind, noted, once}
+use Rattle.list_places.specs.SetCodes.{setCode, said, notedBehind, noted, once}
 use Rattle.list_places.specs.PermittedBy.{bySets, byNoted, notedIn, permittedIn, issuersIn}
 use Rattle.list_places.specs.Theorems.{Permitted-by-offset}
-use Rattle.list_places.proofs.OnceLaws.{others, once-first}
+use Rattle.list_places.proofs.OnceLaws.{once-first}
 use Rattle.list_places.proofs.KeptBySets.{grantsTo, kept-sets}
 use Rattle.list_places.proofs.SetIssuers.{setIssuers}
 use Rattle.list_places.proofs.NotedSets.{byAnswer, noted-issuers}

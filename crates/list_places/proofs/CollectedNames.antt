@@ -1,12 +1,11 @@
 -- The candidates collected are the issuers that a tagged set grants, each once.
 use Prim.Native.Nat.{ℕ, zero, suc, _+_, _*_, _≤_, _<_}
 use native.Mathlib.Omega.{arith}
-use mathlib.Core.Path.{_≡_, refl, sym, ap, _∙_}
+use mathlib.Core.Path.{_≡_, refl, _∙_}
 use mathlib.Core.Bool.{Bool, true, false, cond}
 use mathlib.Core.List.{List, [], _∷_, _++_, map}
 use lib.Dec.{ltb}
-use lib.ListN.{length, length-append}
-use Rattle.spec_limits.specs.Limits.{maxBookOctets}
+use lib.ListN.{length}
 use Rattle.spec_octets.specs.Lists.{consIf, select}
 use Rattle.spec_octets.specs.Octets.{lowered}
 use Rattle.spec_record.specs.declared.PropertyTag.{PropertyTag}

@@ -3,12 +3,11 @@ use Prim.Native.Nat.{ℕ, _+_, _-_, _%_, _≤_, _<_}
 use native.Mathlib.Nat.{add-mod, mod-eq-of-lt}
 use native.Mathlib.Omega.{arith}
 use mathlib.Core.Path.{_≡_, refl, sym, ap, _∙_}
-use mathlib.Core.Logic.{⊎-elim}
 use mathlib.Core.Bool.{Bool, true, false, cond}
 use mathlib.Core.List.{List, [], _∷_, _++_, map}
 use lib.Dec.{leb}
 use lib.ListN.{length, take, drop, length-drop, length-take, take-append-drop, drop-of-length-le}
-use lib.Seq.{drop-drop, drop-append-le, take-append-le, take-nil}
+use lib.Seq.{drop-drop, drop-append-le, take-append-le}
 use borrow.Author.Tests.{leb-true, leb-false}
 use Rattle.spec_limits.specs.Limits.{maxBookOctets}
 use Rattle.spec_octets.specs.Lists.{consIf, select}
@@ -20,11 +19,11 @@ use Rattle.read_grantee.specs.Places.{granteeAt, granteeOfData, nameAt}
 use Rattle.read_grantee.specs.declared.GranteeRead.{GranteeRead}
 use Rattle.read_grantee.specs.declared.GranteeRead.the-variants.{At, Nobody}
 use Rattle.read_grantee.proofs.Grantees.{nobody-granted, somebody-granted, grantee-from, grantee-to}
-use Rattle.book_places.specs.Table.{cell, octetsAt, dataAt}
+use Rattle.book_places.specs.Table.{cell, dataAt}
 use Rattle.book_places.specs.Sets.{dataHasTag, setAt}
 use Rattle.book_places.specs.NameAuthorizations.{granteesAt, setGrantees}
 use Rattle.list_places.specs.declared.Grant.{Grant}
-use Rattle.list_places.specs.Grants.{grantIn, grantRead, grantAt, grantsOf, grantsFrom, grantOctets}
+use Rattle.list_places.specs.Grants.{grantIn, grantRead, grantsOf, grantsFrom, grantOctets}
 use Rattle.list_places.specs.Theorems.{Grants-by-offset}
 
 sum-fits : (a b : ℕ) → a + b < 65536 → (a % 65536 + b % 65536) % 65536 ≡ a + b

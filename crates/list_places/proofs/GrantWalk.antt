@@ -1,5 +1,5 @@
 -- A walk over the grants of a tagged set: behind the first grant come the others, from behind its record on.
-use Prim.Native.Nat.{ℕ, zero, suc, _+_, _≤_, _<_}
+use Prim.Native.Nat.{ℕ, zero, suc, _≤_, _<_}
 use native.Mathlib.Omega.{arith}
 use mathlib.Core.Path.{_≡_, refl, sym, ap, _∙_}
 use mathlib.Core.Bool.{Bool, true, false, cond}
@@ -14,7 +14,7 @@ use Rattle.book_places.specs.Chains.{behind}
 use Rattle.book_places.specs.Sets.{ownedFrom, firstOf, dataHasTag}
 use Rattle.book_places.specs.declared.FirstRecord.{FirstRecord}
 use Rattle.book_places.specs.declared.FirstRecord.the-variants.{At as RecordAt, Nothing as NoRecord}
-use Rattle.book_places.proofs.OwnedWalk.{owned-over, owned-on, fewer-left}
+use Rattle.book_places.proofs.OwnedWalk.{owned-over, owned-on}
 use Rattle.list_places.specs.declared.TaggedSet.{TaggedSet}
 use Rattle.list_places.specs.declared.Grant.{Grant}
 use Rattle.list_places.specs.declared.NextGrant.{NextGrant}

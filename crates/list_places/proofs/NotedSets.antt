@@ -1,27 +1,25 @@
 -- The sets noted govern as what CAA says of the names does.
-use Prim.Native.Nat.{ℕ, zero, suc, _+_, _*_, _/_, _%_, _≤_, _<_}
+use Prim.Native.Nat.{ℕ, suc, _+_, _*_, _/_, _%_, _≤_, _<_}
 use native.Mathlib.Omega.{arith}
 use native.Mathlib.Nat.{mod-eq-of-lt}
-use mathlib.Core.Path.{_≡_, refl, sym, ap, _∙_}
-use mathlib.Core.Logic.{_⊎_, inl, inr, ⊎-elim}
-use mathlib.Core.Bool.{Bool, true, false, cond}
-use mathlib.Core.List.{List, [], _∷_, _++_, map}
+use mathlib.Core.Path.{_≡_, refl, sym, _∙_}
+use mathlib.Core.Logic.{_⊎_, inl, inr}
+use mathlib.Core.Bool.{Bool}
+use mathlib.Core.List.{List, [], _∷_, map}
 use lib.ListN.{length, take, set, length-set}
 use lib.Seq.{take-suc-set}
 use borrow.Author.Tests.{lt-ltb}
 use Rattle.spec_octets.specs.Lists.{All, all-nil, all-cons}
-use Rattle.spec_record.specs.declared.PropertyTag.{PropertyTag}
 use Rattle.spec_record.specs.declared.PropertyTag.the-variants.{Issue, IssueWild}
-use Rattle.spec_rule.specs.IssuerLists.{Issuers, listed, issuers}
+use Rattle.spec_rule.specs.IssuerLists.{Issuers, listed}
 use Rattle.book_places.specs.declared.Governing.{Governing}
 use Rattle.book_places.specs.declared.NameAuthorization.{NameAuthorization}
 use Rattle.book_places.specs.declared.NameAuthorization.the-variants.{Unrestricted, Forbidden, Governed}
 use Rattle.book_places.specs.NameAuthorizations.{nameAuthorization, meaning}
 use Rattle.book_places.proofs.Bounds.{authorization-bounds}
-use Rattle.list_places.specs.declared.TaggedSet.{TaggedSet}
 use Rattle.list_places.specs.declared.GoverningSets.{GoverningSets}
 use Rattle.list_places.specs.declared.GoverningSets.the-variants.{Nobody, Sets}
-use Rattle.list_places.specs.SetCodes.{wildDigit, setCode, taggedSet, Noted, notedBehind}
+use Rattle.list_places.specs.SetCodes.{setCode, taggedSet, Noted, notedBehind}
 use Rattle.list_places.proofs.KeptBySets.{grantsTo}
 use Rattle.list_places.proofs.SetIssuers.{left, left-end, left-unrestricted, left-forbidden, left-granted, setIssuers}
 

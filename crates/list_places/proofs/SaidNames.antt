@@ -1,28 +1,26 @@
 -- What is said of the names of an accepted request by offset is what the rule says of them.
-use Prim.Native.Nat.{ℕ, zero, suc, _+_, _-_, _≤_, _<_}
+use Prim.Native.Nat.{ℕ, zero, suc, _+_, _≤_, _<_}
 use native.Mathlib.Omega.{arith}
-use mathlib.Core.Path.{_≡_, refl, sym, ap, _∙_}
+use mathlib.Core.Path.{_≡_, refl}
 use mathlib.Core.Bool.{Bool, true, false, cond}
-use mathlib.Core.List.{List, [], _∷_, map}
+use mathlib.Core.List.{List, [], map}
 use mathlib.Core.Option.{none}
 use lib.Dec.{leb}
-use lib.ListN.{length, take, drop}
+use lib.ListN.{length}
 use borrow.Author.Tests.{leb-true, leb-false}
 use Rattle.spec_limits.specs.Limits.{maxNames, maxRecords}
 use Rattle.spec_octets.specs.Lists.{All, all-nil, all-cons}
 use Rattle.spec_name.specs.Names.{Name, wire, GoodName}
 use Rattle.spec_request.specs.Request.{isWildcard, base, requestedNames, requestRefusal}
 use Rattle.read_request.specs.Places.{requestedAt}
-use Rattle.read_request.specs.declared.Requested.{Requested}
 use Rattle.read_request.specs.declared.RequestedRead.{RequestedRead}
 use Rattle.read_request.specs.declared.RequestedRead.the-variants.{Good, Fault}
 use Rattle.spec_request.proofs.RequestedNames.{good-base}
 use Rattle.read_request.proofs.RequestPlaces.{next-after}
-use Rattle.read_request.proofs.AcceptedNames.{NamesLeft, NextName, all-names, names-end, names-few, names-good, next-name}
+use Rattle.read_request.proofs.AcceptedNames.{NamesLeft, all-names, names-end, names-good, next-name}
 use Rattle.spec_record.specs.Records.{records, bookRefusal}
 use Rattle.spec_rule.specs.RelevantSet.{caaRecords}
 use Rattle.spec_rule.specs.Authorizations.{Authorization, authorization}
-use Rattle.spec_rule.specs.Calls.{authorizations}
 use Rattle.book_places.specs.declared.NameAuthorization.{NameAuthorization}
 use Rattle.book_places.specs.Table.{tableOf}
 use Rattle.book_places.specs.Chains.{Chains, chainsOf}

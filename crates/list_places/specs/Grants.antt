@@ -2,7 +2,6 @@
 use Prim.Native.Nat.{ℕ, _+_, _-_, _%_}
 use mathlib.Core.Bool.{cond}
 use mathlib.Core.List.{List, [], _∷_, _++_}
-use Rattle.spec_octets.specs.Octets.{lowered}
 use Rattle.spec_record.specs.declared.PropertyTag.{PropertyTag}
 use Rattle.read_value.specs.declared.NameAt.{NameAt}
 use Rattle.read_grantee.specs.Places.{granteeAt}

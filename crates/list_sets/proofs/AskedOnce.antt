@@ -3,7 +3,7 @@ use Prim.Native.Nat.{ℕ, _+_, _-_, _*_, _≤_, _<_}
 use native.Mathlib.Omega.{arith}
 use native.Mathlib.Numerals.{add-one}
 use mathlib.Core.Path.{_≡_, refl, sym, ap, _∙_}
-use mathlib.Core.Bool.{Bool, true, false, cond}
+use mathlib.Core.Bool.{Bool, true, false}
 use mathlib.Core.List.{List, [], _∷_, _++_, append-nil, append-assoc}
 use lib.ListN.{length, take, drop, getD, set, replicate, length-take, length-set, length-replicate, drop-of-length-le, List·getD-eq-default}
 use lib.Seq.{drop-cons, getD-drop, getD-take, drop-append-seam, set-out}
@@ -39,12 +39,6 @@ module _ (n : ℕ) (d : List ℕ) where
   module _ (codes : List ℕ) (asked : List Bool) (w i : ℕ) (m : Asking codes asked w i) where
     pub ask-length : length codes ≡ length d
     ask-length = m .same-length
-
-    pub asked-long : length asked ≡ 2 * maxRecords
-    asked-long = m .long
-
-    pub ask-few : w ≤ i
-    ask-few = m .few
 
     -- nothing is left
     over : length numbers ≤ i → once numbers ≡ m .before

@@ -5,7 +5,6 @@ use list_places::GoverningSets;
 use read_request::RequestedRead;
 use spec_limits::MAX_RECORDS;
 use spec_record::PropertyTag;
-use spec_refusal::RecordNo;
 ghost use mathlib.Core.Path.{_≡_};
 ghost use mathlib.Core.List.{_++_};
 ghost use lib.ListN.{length, take, drop};
@@ -46,13 +45,14 @@ pub fn note_sets(
             return GoverningSets::Nobody;
         };
         let base = r.base;
-        at = r.next;
+        let next = r.next;
+        at = next;
         match book_authorization::name_authorization(
             book,
             table,
             links,
             heads,
-            &request[base..at],
+            &request[base..next],
             r.wildcard,
         ) {
             NameAuthorization::Unrestricted => {}

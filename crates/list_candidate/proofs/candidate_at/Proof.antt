@@ -5,9 +5,6 @@ use Rattle.list_candidate.proofs.CandidateWays.{no-candidate, candidate
 use borrow.Author.Needs.{needs}
 use Rattle.list_candidate.proofs.candidate_at.Statement.{statement}
 use Rattle.list_candidate.proofs.candidate_at.Tie as tie
-use Rattle.list_candidate.proofs.candidate_at.Reads as reads
-use Rattle.list_candidate.proofs.candidate_at.Lts as lts
-use Rattle.book_table.proofs.octets_at.Reads as octets-at-reads
 
 sub-result : tie.Need-sub-result
 sub-result c = search needs

@@ -4,10 +4,6 @@ use Rattle.list_candidate.proofs.CandidateWays.{Held, held-start, held-
 use borrow.Author.Needs.{needs}
 use Rattle.list_candidate.proofs.is_candidate.Statement.{statement}
 use Rattle.list_candidate.proofs.is_candidate.Tie as tie
-use Rattle.list_candidate.proofs.is_candidate.Reads as reads
-use Rattle.list_candidate.proofs.is_candidate.Lts as lts
-use Rattle.list_candidate.proofs.candidate_at.Reads as candidate-at-reads
-use Rattle.text_compare.proofs.same_ignoring_case.Reads as same-ignoring-case-reads
 
 abbrev Inv-loop : tie.InvT-loop
 Inv-loop book names count x i₀ i = Held book names count x i

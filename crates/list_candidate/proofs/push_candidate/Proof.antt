@@ -5,8 +5,6 @@ use Rattle.list_candidate.proofs.CandidateWays.{no-more, no-change, one
 use borrow.Author.Needs.{needs}
 use Rattle.list_candidate.proofs.push_candidate.Statement.{statement}
 use Rattle.list_candidate.proofs.push_candidate.Tie as tie
-use Rattle.list_candidate.proofs.push_candidate.Reads as reads
-use Rattle.list_candidate.proofs.push_candidate.Lts as lts
 
 returns : tie.Need-returns
 returns c = (search (needs, no-more), search (needs, no-change))

@@ -3,8 +3,6 @@ use Rattle.list_entry.proofs.EntryLoops.{no-length, one-length}
 use borrow.Author.Needs.{needs}
 use Rattle.list_entry.proofs.entry_length.Statement.{statement}
 use Rattle.list_entry.proofs.entry_length.Tie as tie
-use Rattle.list_entry.proofs.entry_length.Reads as reads
-use Rattle.list_entry.proofs.entry_length.Lts as lts
 
 returns : tie.Need-returns
 returns c = search (needs, no-length)

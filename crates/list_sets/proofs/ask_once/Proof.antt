@@ -3,7 +3,7 @@ use Prim.Native.Nat.{_-_}
 use native.Mathlib.Omega.{arith}
 use mathlib.Core.Logic.{⊎-elim}
 use Rattle.spec_limits.specs.Limits.{maxRecords}
-use Rattle.list_sets.proofs.AskedOnce.{Asking, ask-start, ask-length, ask-few, done-answer, done-numbers, past-answer, past-numbers, known, first-time, no-place}
+use Rattle.list_sets.proofs.AskedOnce.{Asking, ask-start, ask-length, done-answer, done-numbers, past-answer, past-numbers, known, first-time, no-place}
 use borrow.Author.Needs.{needs}
 use Rattle.list_sets.proofs.ask_once.Statement.{statement}
 use Rattle.list_sets.proofs.ask_once.Tie as tie
