@@ -1,36 +1,113 @@
--- Two texts compared octet by octet from the front: what is left of them gives the answer.
-use Prim.Native.Nat.{ℕ, _+_, _≤_, _<_}
+-- Two texts compared part by part. They are the same where each part is; one octet that differs is enough to tell them apart.
+use Prim.Native.Nat.{ℕ, suc, zero, _+_, _-_, _≤_, _<_}
 use native.Mathlib.Omega.{arith}
 use mathlib.Core.Path.{_≡_, refl, sym, ap, _∙_}
-use mathlib.Core.Bool.{true, false}
-use mathlib.Core.List.{List}
-use lib.ListN.{length, getD, drop, drop-of-length-le}
+use mathlib.Core.Bool.{Bool, true, false, _&&_, and-false, and-true, and-assoc, and-eq-true-iff}
+use mathlib.Core.List.{List, [], _∷_}
+use lib.Dec.{eqb}
+use lib.ListN.{length, getD, take, drop, length-take, length-drop, drop-of-length-le}
+use lib.Seq.{drop-drop}
 use borrow.Author.Tests.{eq-eqb, ne-eqb}
 use Rattle.spec_octets.specs.Octets.{lower, equalIgnoringCase}
 use Rattle.spec_octets.proofs.Texts.{same-text}
 use Rattle.spec_octets.proofs.WholeLists.{lengths-differ}
-use Rattle.spec_octets.proofs.Walks.{drop-step}
+use Rattle.spec_octets.proofs.Walks.{drop-step, rest-whole}
 
 pub lengths-first : (a b : List ℕ) → (length a ≡ length b → ⊥) → false ≡ equalIgnoringCase a b
 lengths-first a b h = sym (lengths-differ lower equalIgnoringCase same-text a b h)
 
-module _ (a b : List ℕ) (i : ℕ) (left : equalIgnoringCase a b ≡ equalIgnoringCase (drop i a) (drop i b)) (long : length a ≡ length b) where
-  pub same-end : length a ≤ i → true ≡ equalIgnoringCase a b
-  unfolding equalIgnoringCase
-  same-end h = sym (left ∙ rw (drop-of-length-le a h, drop-of-length-le b {i = i} (omega arith)))
+-- a front and the rest of each, cut at one place
+same-parts : (k : ℕ) (a b : List ℕ) →
+    equalIgnoringCase a b ≡ (equalIgnoringCase (take k a) (take k b) && equalIgnoringCase (drop k a) (drop k b))
+unfolding equalIgnoringCase
+same-parts zero a b = refl
+same-parts (suc k) [] [] = refl
+same-parts (suc k) [] (y ∷ b) = refl
+same-parts (suc k) (x ∷ a) [] = refl
+same-parts (suc k) (x ∷ a) (y ∷ b) = rw (same-parts k a b) (sym (and-assoc (eqb (lower x) (lower y)) _ _))
 
-  module _ (x y : ℕ) (h : i < length a) (xe : x ≡ lower (getD a i 0)) (ye : y ≡ lower (getD b i 0)) where
-    pub same-turn : (j : ℕ) → x ≡ y → j ≡ i + 1 → equalIgnoringCase a b ≡ equalIgnoringCase (drop j a) (drop j b)
+regroup : (s t u : Bool) → (s && (t && u)) ≡ ((t && s) && u)
+regroup true true u = refl
+regroup true false u = refl
+regroup false true u = refl
+regroup false false u = refl
+
+rest-same : (i : ℕ) (a b : List ℕ) → equalIgnoringCase a b ≡ true → equalIgnoringCase (drop i a) (drop i b) ≡ true
+rest-same i a b e =
+    and-eq-true-iff (equalIgnoringCase (take i a) (take i b)) (equalIgnoringCase (drop i a) (drop i b)) .0 (sym (same-parts i a b) ∙ e) .1
+
+module _ (a b : List ℕ) (i : ℕ) where
+  rest-differs : equalIgnoringCase (drop i a) (drop i b) ≡ false → false ≡ equalIgnoringCase a b
+  rest-differs e = sym (same-parts i a b ∙ rw (e, and-false))
+
+  -- a part of each, cut at the same two places
+  pub part-differs : (e : ℕ) (r : Bool) → r ≡ equalIgnoringCase (take (e - i) (drop i a)) (take (e - i) (drop i b)) → r ≡ false →
+      false ≡ equalIgnoringCase a b
+  part-differs e r part no-part = rest-differs (same-parts (e - i) (drop i a) (drop i b) ∙ rw (← part, no-part))
+
+  pub back-end : equalIgnoringCase (drop i a) (drop i b) ≡ true → i ≤ 0 → true ≡ equalIgnoringCase a b
+  back-end done h = let front : i ≡ 0 = omega arith in sym (rw front at done)
+
+  module _ (long : length a ≡ length b) where
+    -- the octets at a place, and what follows them
+    octet-parts : (j : ℕ) → i < length a → j ≡ i + 1 →
+        equalIgnoringCase (drop i a) (drop i b)
+        ≡ (eqb (lower (getD a i 0)) (lower (getD b i 0)) && equalIgnoringCase (drop j a) (drop j b))
     unfolding equalIgnoringCase
-    same-turn j e next =
-        left ∙ rw (drop-step 0 a i j h next, drop-step 0 b i j (omega arith) next, eq-eqb (lower (getD a i 0)) (lower (getD b i 0)) (cc))
+    octet-parts j h next = rw (drop-step 0 a i j h next, drop-step 0 b i j (omega arith) next)
 
-    pub same-stop : (x ≡ y → ⊥) → false ≡ equalIgnoringCase a b
+    octet-differs : (x y : ℕ) → i < length a → x ≡ lower (getD a i 0) → y ≡ lower (getD b i 0) → (x ≡ y → ⊥) →
+        false ≡ equalIgnoringCase a b
+    octet-differs x y h xe ye ne =
+        rest-differs (octet-parts (i + 1) h refl ∙ rw (ne-eqb (lower (getD a i 0)) (lower (getD b i 0)) (λ e. ne (cc))))
+
+    -- the octet before the last
+    pub last-differs : (x y : ℕ) → x ≡ lower (getD a i 0) → y ≡ lower (getD b i 0) → (x ≡ y → ⊥) → 16 ≤ length a → i ≡ length a - 2 →
+        false ≡ equalIgnoringCase a b
+    last-differs x y xe ye ne some there = octet-differs x y (omega arith) xe ye ne
+
+    pub nothing-left : length a ≤ i → equalIgnoringCase (drop i a) (drop i b) ≡ true
     unfolding equalIgnoringCase
-    same-stop ne =
-        sym (left
-        ∙ rw (drop-step 0 a i (i + 1) h, drop-step 0 b i (i + 1) (omega arith), ne-eqb (lower (getD a i 0)) (lower (getD b i 0)) (λ e. ne (cc))))
+    nothing-left h = rw (drop-of-length-le a h, drop-of-length-le b {i = i} (omega arith))
 
-  pub same-octet :
-      (j : ℕ) → getD a i 0 ≡ getD b i 0 → i < length a → j ≡ i + 1 → equalIgnoringCase a b ≡ equalIgnoringCase (drop j a) (drop j b)
-  same-octet j e h next = same-turn (lower (getD a i 0)) (lower (getD b i 0)) h refl refl j (ap lower e) next
+    -- from the back: what was compared is the same
+    module _ (j : ℕ) (done : equalIgnoringCase (drop j a) (drop j b) ≡ true) (some : 0 < j) (within : j ≤ length a) (next : i ≡ j - 1) where
+      pub back-turn : (x y : ℕ) → x ≡ lower (getD a i 0) → y ≡ lower (getD b i 0) → x ≡ y → equalIgnoringCase (drop i a) (drop i b) ≡ true
+      back-turn x y xe ye e =
+          octet-parts j (omega arith) (omega arith) ∙ rw (eq-eqb (lower (getD a i 0)) (lower (getD b i 0)) (cc)) done
+
+      pub back-stop : (x y : ℕ) → x ≡ lower (getD a i 0) → y ≡ lower (getD b i 0) → (x ≡ y → ⊥) → false ≡ equalIgnoringCase a b
+      back-stop x y xe ye ne = octet-differs x y (omega arith) xe ye ne
+
+      pub back-octet : getD a i 0 ≡ getD b i 0 → equalIgnoringCase (drop i a) (drop i b) ≡ true
+      back-octet e = back-turn (lower (getD a i 0)) (lower (getD b i 0)) refl refl (ap lower e)
+
+    -- without a way out: what was found of the octets passed, and what is left, give the answer
+    module _ (s : Bool) (left : equalIgnoringCase a b ≡ (s && equalIgnoringCase (drop i a) (drop i b))) where
+      pub once-turn : (r : Bool) (j x y : ℕ) → i < length a → x ≡ lower (getD a i 0) → y ≡ lower (getD b i 0) → r ≡ (eqb x y && s) →
+          j ≡ i + 1 → equalIgnoringCase a b ≡ (r && equalIgnoringCase (drop j a) (drop j b))
+      once-turn r j x y h xe ye re next =
+          left ∙ rw (octet-parts j h next, re, xe, ye) (regroup s (eqb (lower (getD a i 0)) (lower (getD b i 0))) _)
+
+      pub once-end : length a ≤ i → s ≡ equalIgnoringCase a b
+      once-end h = sym (left ∙ rw (nothing-left h, and-true))
+
+    -- block by block from the front, where the texts are the same from t on
+    module _ (left : equalIgnoringCase a b ≡ equalIgnoringCase (drop i a) (drop i b)) where
+      pub block-turn : (e j : ℕ) (r : Bool) → r ≡ equalIgnoringCase (take (e - i) (drop i a)) (take (e - i) (drop i b)) → r ≡ true →
+          e ≡ i + 16 → j ≡ i + 16 → equalIgnoringCase a b ≡ equalIgnoringCase (drop j a) (drop j b)
+      block-turn e j r part good ends next =
+          let there : i + (e - i) ≡ j = omega arith in
+          left ∙ same-parts (e - i) (drop i a) (drop i b) ∙ rw (← part, good, drop-drop (e - i) i a, drop-drop (e - i) i b, there)
+
+      pub blocks-end : (t : ℕ) (r : Bool) → r ≡ equalIgnoringCase (take (length a - t) (drop t a)) (take (length a - t) (drop t b)) →
+          r ≡ true → t ≤ i → true ≡ equalIgnoringCase a b
+      blocks-end t r part good h =
+          let there : t + (i - t) ≡ i = omega arith in
+          let whole : equalIgnoringCase (drop t a) (drop t b) ≡ true =
+          rw (← rest-whole a t, ← rest-whole b t, ← long) (sym part ∙ good) in
+          let rest = rest-same (i - t) (drop t a) (drop t b) whole in
+          sym (left ∙ rw (drop-drop (i - t) t a, drop-drop (i - t) t b, there) at rest)
+
+pub part-lengths : (a b : List ℕ) (i e : ℕ) → length a ≡ length b → length (take (e - i) (drop i a)) ≡ length (take (e - i) (drop i b))
+part-lengths a b i e long = simp (length-take, length-drop) (omega arith)

@@ -1,22 +1,54 @@
 // Texts of octets: the comparison that ignores letter case, labels, and pieces.
 use text_classes::Class;
 ghost use mathlib.Core.Path.{_≡_};
+ghost use mathlib.Core.Bool.{_&&_};
+ghost use Prim.Native.Nat.{_≤_};
+ghost use lib.Dec.{eqb};
+ghost use lib.ListN.{length};
 ghost use Rattle.spec_octets.specs.Octets.{equalIgnoringCase};
 ghost use Rattle.spec_octets.specs.Label.{isLabel};
 ghost use Rattle.text_compare.specs.Places.{pieceEnd};
 
-// The one comparison of names and of tags: whole, octet for octet, A to Z as a to z.
+// How many octets of long texts are compared at once.
+const BLOCK: usize = 16;
+
+// The one comparison of names and of tags: whole, octet for octet, A to Z as a to z. The lengths are tried first, then the last
+// octets, then the rest.
 pub fn same_ignoring_case(a: &[u8], b: &[u8]) -> bool
     ensures { λ r. ⌜ r ≡ equalIgnoringCase (now (a .entry)) (now (b .entry)) ⌝ }
 {
     if a.len() != b.len() {
         return false;
     }
-    let mut i: usize = 0;
-    while i < a.len() {
-        let x = a[i];
-        let y = b[i];
-        i += 1;
+    let n = a.len();
+    if n < BLOCK {
+        return same_short(a, b);
+    }
+    // The octet before the last: of a name in wire form the last letter, since a zero closes it.
+    let last = n - 2;
+    let p = a[last];
+    let q = b[last];
+    // The long comparison is called at two places: one that is called once is put in place by the compiler, and this function is
+    // then too long to be put in place where it is called, mostly on short texts.
+    if p == q {
+        return same_blocks(a, b);
+    }
+    if text_ascii::to_lower(p) != text_ascii::to_lower(q) {
+        return false;
+    }
+    same_blocks(a, b)
+}
+
+// Texts of one length, octet by octet, the last one first.
+fn same_short(a: &[u8], b: &[u8]) -> bool
+    requires { ⌜ length (now a) ≡ length (now b) ⌝ }
+    ensures { λ r. ⌜ r ≡ equalIgnoringCase (now (a .entry)) (now (b .entry)) ⌝ }
+{
+    let mut left: usize = a.len();
+    while 0 < left {
+        left -= 1;
+        let x = a[left];
+        let y = b[left];
         // Most equal octets are of one case.
         if x == y {
             continue;
@@ -26,6 +58,50 @@ pub fn same_ignoring_case(a: &[u8], b: &[u8]) -> bool
         }
     }
     true
+}
+
+// Texts of one length, a block or longer: the last block, then block by block from the front, until the last block is reached.
+fn same_blocks(a: &[u8], b: &[u8]) -> bool
+    requires { ⌜ (length (now a) ≡ length (now b)) × (16 ≤ length (now a)) ⌝ }
+    ensures { λ r. ⌜ r ≡ equalIgnoringCase (now (a .entry)) (now (b .entry)) ⌝ }
+{
+    let n = a.len();
+    let tail = n - BLOCK;
+    if !same_at_once(&a[tail..n], &b[tail..n]) {
+        return false;
+    }
+    let mut from: usize = 0;
+    while from < tail {
+        let to = from + BLOCK;
+        if !same_at_once(&a[from..to], &b[from..to]) {
+            return false;
+        }
+        from += BLOCK;
+    }
+    true
+}
+
+// Texts of one length, with no way out before the last octet: so a block is compared with a few machine instructions.
+fn same_at_once(a: &[u8], b: &[u8]) -> bool
+    requires { ⌜ length (now a) ≡ length (now b) ⌝ }
+    ensures { λ r. ⌜ r ≡ equalIgnoringCase (now (a .entry)) (now (b .entry)) ⌝ }
+{
+    let mut same: bool = true;
+    let mut i: usize = 0;
+    while i < a.len() {
+        same = still_same(same, text_ascii::to_lower(a[i]), text_ascii::to_lower(b[i]));
+        i += 1;
+    }
+    same
+}
+
+fn still_same(same: bool, x: u8, y: u8) -> bool
+    ensures { λ r. ⌜ r ≡ (eqb x y && same) ⌝ }
+{
+    if x == y {
+        return same;
+    }
+    false
 }
 
 // Letters, digits and inner hyphens.
