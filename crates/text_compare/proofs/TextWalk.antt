@@ -1,20 +1,28 @@
--- Two texts compared part by part. They are the same where each part is; one octet that differs is enough to tell them apart.
+-- Two texts compared part by part: they are the same where each part is, and one octet that differs tells them apart.
 use Prim.Native.Nat.{ℕ, suc, zero, _+_, _-_, _≤_, _<_}
 use native.Mathlib.Omega.{arith}
 use mathlib.Core.Path.{_≡_, refl, sym, ap, _∙_}
 use mathlib.Core.Bool.{Bool, true, false, _&&_, and-false, and-true, and-assoc, and-eq-true-iff}
 use mathlib.Core.List.{List, [], _∷_}
 use lib.Dec.{eqb}
-use lib.ListN.{length, getD, take, drop, length-take, length-drop, drop-of-length-le}
+use lib.ListN.{length, getD, take, drop, length-take, length-drop, drop-of-length-le, List·getD-map}
 use lib.Seq.{drop-drop}
-use borrow.Author.Tests.{eq-eqb, ne-eqb}
+use borrow.Author.Tests.{eq-eqb}
 use Rattle.spec_octets.specs.Octets.{lower, equalIgnoringCase}
+use Rattle.spec_octets.proofs.ListLaws.{not-passed}
 use Rattle.spec_octets.proofs.Texts.{same-text}
 use Rattle.spec_octets.proofs.WholeLists.{lengths-differ}
 use Rattle.spec_octets.proofs.Walks.{drop-step, rest-whole}
 
 pub lengths-first : (a b : List ℕ) → (length a ≡ length b → ⊥) → false ≡ equalIgnoringCase a b
 lengths-first a b h = sym (lengths-differ lower equalIgnoringCase same-text a b h)
+
+-- at whatever place
+pub octet-differs : (a b : List ℕ) (i x y : ℕ) → x ≡ lower (getD a i 0) → y ≡ lower (getD b i 0) → (x ≡ y → ⊥) → false ≡ equalIgnoringCase a b
+octet-differs a b i x y xe ye ne =
+    sym (not-passed (equalIgnoringCase a b) (λ e. ne (
+    xe ∙ sym (List·getD-map lower a i 0) ∙ ap (λ s. getD s i (lower 0)) (same-text a b .0 e) ∙ List·getD-map lower b i 0 ∙ sym ye
+    )))
 
 -- a front and the rest of each, cut at one place
 same-parts : (k : ℕ) (a b : List ℕ) →
@@ -26,24 +34,25 @@ same-parts (suc k) [] (y ∷ b) = refl
 same-parts (suc k) (x ∷ a) [] = refl
 same-parts (suc k) (x ∷ a) (y ∷ b) = rw (same-parts k a b) (sym (and-assoc (eqb (lower x) (lower y)) _ _))
 
+rest-same : (i : ℕ) (a b : List ℕ) → equalIgnoringCase a b ≡ true → equalIgnoringCase (drop i a) (drop i b) ≡ true
+rest-same i a b e =
+    and-eq-true-iff (equalIgnoringCase (take i a) (take i b)) (equalIgnoringCase (drop i a) (drop i b)) .0 (sym (same-parts i a b) ∙ e) .1
+
 regroup : (s t u : Bool) → (s && (t && u)) ≡ ((t && s) && u)
 regroup true true u = refl
 regroup true false u = refl
 regroup false true u = refl
 regroup false false u = refl
 
-rest-same : (i : ℕ) (a b : List ℕ) → equalIgnoringCase a b ≡ true → equalIgnoringCase (drop i a) (drop i b) ≡ true
-rest-same i a b e =
-    and-eq-true-iff (equalIgnoringCase (take i a) (take i b)) (equalIgnoringCase (drop i a) (drop i b)) .0 (sym (same-parts i a b) ∙ e) .1
-
 module _ (a b : List ℕ) (i : ℕ) where
-  rest-differs : equalIgnoringCase (drop i a) (drop i b) ≡ false → false ≡ equalIgnoringCase a b
-  rest-differs e = sym (same-parts i a b ∙ rw (e, and-false))
-
   -- a part of each, cut at the same two places
   pub part-differs : (e : ℕ) (r : Bool) → r ≡ equalIgnoringCase (take (e - i) (drop i a)) (take (e - i) (drop i b)) → r ≡ false →
       false ≡ equalIgnoringCase a b
-  part-differs e r part no-part = rest-differs (same-parts (e - i) (drop i a) (drop i b) ∙ rw (← part, no-part))
+  part-differs e r part off =
+      sym (same-parts i a b ∙ rw (same-parts (e - i) (drop i a) (drop i b), ← part, off, and-false))
+
+  pub part-lengths : (e : ℕ) → length a ≡ length b → length (take (e - i) (drop i a)) ≡ length (take (e - i) (drop i b))
+  part-lengths e long = simp (length-take, length-drop) (omega arith)
 
   pub back-end : equalIgnoringCase (drop i a) (drop i b) ≡ true → i ≤ 0 → true ≡ equalIgnoringCase a b
   back-end done h = let front : i ≡ 0 = omega arith in sym (rw front at done)
@@ -56,31 +65,20 @@ module _ (a b : List ℕ) (i : ℕ) where
     unfolding equalIgnoringCase
     octet-parts j h next = rw (drop-step 0 a i j h next, drop-step 0 b i j (omega arith) next)
 
-    octet-differs : (x y : ℕ) → i < length a → x ≡ lower (getD a i 0) → y ≡ lower (getD b i 0) → (x ≡ y → ⊥) →
-        false ≡ equalIgnoringCase a b
-    octet-differs x y h xe ye ne =
-        rest-differs (octet-parts (i + 1) h refl ∙ rw (ne-eqb (lower (getD a i 0)) (lower (getD b i 0)) (λ e. ne (cc))))
-
-    -- the octet before the last
-    pub last-differs : (x y : ℕ) → x ≡ lower (getD a i 0) → y ≡ lower (getD b i 0) → (x ≡ y → ⊥) → 16 ≤ length a → i ≡ length a - 2 →
-        false ≡ equalIgnoringCase a b
-    last-differs x y xe ye ne some there = octet-differs x y (omega arith) xe ye ne
-
     pub nothing-left : length a ≤ i → equalIgnoringCase (drop i a) (drop i b) ≡ true
     unfolding equalIgnoringCase
     nothing-left h = rw (drop-of-length-le a h, drop-of-length-le b {i = i} (omega arith))
 
     -- from the back: what was compared is the same
-    module _ (j : ℕ) (done : equalIgnoringCase (drop j a) (drop j b) ≡ true) (some : 0 < j) (within : j ≤ length a) (next : i ≡ j - 1) where
-      pub back-turn : (x y : ℕ) → x ≡ lower (getD a i 0) → y ≡ lower (getD b i 0) → x ≡ y → equalIgnoringCase (drop i a) (drop i b) ≡ true
-      back-turn x y xe ye e =
-          octet-parts j (omega arith) (omega arith) ∙ rw (eq-eqb (lower (getD a i 0)) (lower (getD b i 0)) (cc)) done
+    pub back-turn : (j x y : ℕ) → equalIgnoringCase (drop j a) (drop j b) ≡ true → j ≤ length a → i ≡ j - 1 → x ≡ lower (getD a i 0) →
+        y ≡ lower (getD b i 0) → x ≡ y → equalIgnoringCase (drop i a) (drop i b) ≡ true
+    back-turn zero x y done within next xe ye e = rw next done
+    back-turn (suc k) x y done within next xe ye e =
+        octet-parts (suc k) (omega arith) (omega arith) ∙ rw (eq-eqb (lower (getD a i 0)) (lower (getD b i 0)) (cc)) done
 
-      pub back-stop : (x y : ℕ) → x ≡ lower (getD a i 0) → y ≡ lower (getD b i 0) → (x ≡ y → ⊥) → false ≡ equalIgnoringCase a b
-      back-stop x y xe ye ne = octet-differs x y (omega arith) xe ye ne
-
-      pub back-octet : getD a i 0 ≡ getD b i 0 → equalIgnoringCase (drop i a) (drop i b) ≡ true
-      back-octet e = back-turn (lower (getD a i 0)) (lower (getD b i 0)) refl refl (ap lower e)
+    pub back-octet : (j : ℕ) → equalIgnoringCase (drop j a) (drop j b) ≡ true → j ≤ length a → i ≡ j - 1 → getD a i 0 ≡ getD b i 0 →
+        equalIgnoringCase (drop i a) (drop i b) ≡ true
+    back-octet j done within next e = back-turn j (lower (getD a i 0)) (lower (getD b i 0)) done within next refl refl (ap lower e)
 
     -- without a way out: what was found of the octets passed, and what is left, give the answer
     module _ (s : Bool) (left : equalIgnoringCase a b ≡ (s && equalIgnoringCase (drop i a) (drop i b))) where
@@ -108,6 +106,3 @@ module _ (a b : List ℕ) (i : ℕ) where
           rw (← rest-whole a t, ← rest-whole b t, ← long) (sym part ∙ good) in
           let rest = rest-same (i - t) (drop t a) (drop t b) whole in
           sym (left ∙ rw (drop-drop (i - t) t a, drop-drop (i - t) t b, there) at rest)
-
-pub part-lengths : (a b : List ℕ) (i e : ℕ) → length a ≡ length b → length (take (e - i) (drop i a)) ≡ length (take (e - i) (drop i b))
-part-lengths a b i e long = simp (length-take, length-drop) (omega arith)

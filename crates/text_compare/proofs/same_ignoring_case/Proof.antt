@@ -1,6 +1,6 @@
 -- `same_ignoring_case` meets its contract.
 use borrow.Author.Needs.{needs}
-use Rattle.text_compare.proofs.TextWalk.{lengths-first, last-differs}
+use Rattle.text_compare.proofs.TextWalk.{lengths-first, octet-differs}
 use Rattle.text_compare.proofs.same_ignoring_case.Statement.{statement}
 use Rattle.text_compare.proofs.same_ignoring_case.Tie as tie
 
@@ -35,7 +35,7 @@ to-lower-requires-2 : tie.Need-to-lower-requires-2
 to-lower-requires-2 c κs = search needs
 
 returns-4 : tie.Need-returns-4
-returns-4 c = search (needs, last-differs)
+returns-4 c = search (needs, octet-differs)
 
 same-blocks-requires-2 : tie.Need-same-blocks-requires-2
 same-blocks-requires-2 c κs = search needs

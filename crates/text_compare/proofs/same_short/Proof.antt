@@ -5,7 +5,7 @@ use mathlib.Core.Bool.{true}
 use lib.ListN.{length, drop}
 use borrow.Author.Needs.{needs}
 use Rattle.spec_octets.specs.Octets.{equalIgnoringCase}
-use Rattle.text_compare.proofs.TextWalk.{back-stop, nothing-left, back-turn, back-octet, back-end}
+use Rattle.text_compare.proofs.TextWalk.{octet-differs, nothing-left, back-turn, back-octet, back-end}
 use Rattle.text_compare.proofs.same_short.Statement.{statement}
 use Rattle.text_compare.proofs.same_short.Tie as tie
 
@@ -40,7 +40,7 @@ to-lower-requires-2 : tie.Need-to-lower-requires-2 Inv-loop μ-loop
 to-lower-requires-2 c κs = search needs
 
 returns : tie.Need-returns Inv-loop μ-loop
-returns c = search (needs, back-stop)
+returns c = search (needs, octet-differs)
 
 loop-less-2 : tie.Need-loop-less-2 Inv-loop μ-loop
 loop-less-2 c = search needs
