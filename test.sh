@@ -1,6 +1,7 @@
 #!/usr/bin/env bash
-# All tests. The proofs, the deliberately wrong versions and the stored runs come first, by `rt ci`. The rest works on the library
-# and the program that `rt ci` has just proved. The last line of `rt ci` is held back until all else has passed.
+# All tests. The documents come first, which takes seconds. Then `rt ci` checks the proofs, the deliberately wrong versions and the stored
+# runs. The rest works on the library and the program that `rt ci` has just proved. The last line of `rt ci` is held back until all else
+# has passed.
 set -euo pipefail
 script='test'
 cd "$(dirname "$0")"
@@ -11,10 +12,11 @@ usage() {
     cat <<'end'
 usage: bash test.sh
 
-Runs everything, in about 20 minutes: proves every crate from scratch, checks that each deliberately
-wrong version is rejected, runs the stored cases; then compares an independent Rust implementation with
-the proved library on stored and random inputs, links the library from C and Rust, and runs the desk
-program, the scripts and the tools. Removes target/ first. Progress goes to standard error.
+Runs everything, in about 20 minutes: looks up what the documents name; proves every crate from scratch,
+checks that each deliberately wrong version is rejected, and runs the stored cases. Then it compares an
+independent Rust implementation with the proved library on stored and random inputs, links the library
+from C and Rust, and runs the desk program, the scripts and the tools. Removes target/ first. Progress
+goes to standard error.
 
 The last line is `N passed, 0 failed` exactly when everything has passed. RT_JOBS is the number of
 checks that run at a time (four for each processor).
@@ -30,7 +32,7 @@ case ${1-} in
     ;;
 esac
 [ $# -eq 0 ] || fail "takes no arguments; see --help"
-for command in rt cargo cc python3; do
+for command in rt cargo cc git python3; do
     command -v $command > /dev/null || fail "$command is not on the path"
 done
 check_kit
@@ -41,6 +43,11 @@ export RT_JOBS="${RT_JOBS:-$((4 * $(nproc)))}"
 independent() {
     SPLINEPEARL_LIBS="$root/target/staticlib" cargo run --quiet --offline --locked --release --manifest-path compare/Cargo.toml "$@"
 }
+
+note "the documents"
+python3 tools/test_check_docs.py
+python3 tools/check-docs.py
+python3 tools/figures.py --check
 
 said=$(mktemp)
 trap 'rm -f "$said"' EXIT
@@ -62,6 +69,7 @@ note "the desk program and the scripts"
 bash desk-runs/test.sh
 note "the tools and the stored runs"
 python3 tools/test_caa_files.py
+python3 tools/test_try_fraud.py
 python3 crates/test_runs/make.py --check
 
 tail -n 1 "$said"

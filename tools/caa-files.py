@@ -1,43 +1,68 @@
 #!/usr/bin/env python3
-"""Makes the files that the desk reads from readable text, and shows them as text.
+"""Makes the files that the desk program reads from readable text, and shows them as text.
 
   caa-files.py make FOLDER --issuer NAME   writes request.bin, issuer.txt and book.bin to FOLDER,
                                            from FOLDER/names.txt and FOLDER/records.txt
-  caa-files.py show FOLDER                 shows the three files, names and records numbered
-                                           as the desk numbers them
+  caa-files.py show FOLDER                 shows the three files, with the numbers that the desk
+                                           program gives to names and records
   caa-files.py names FILE                  prints a request.bin as a names.txt
   caa-files.py records FILE                prints a book.bin as a records.txt
+
+caa-files.py COMMAND --help tells more about one command.
 """
 
 import argparse
+import collections
+import contextlib
 import os
 import re
+import secrets
+import signal
 import string
 import sys
+import unicodedata
 
 TEXT_FORM = r"""
-names.txt: one requested name to a line, a wildcard as *.example.com.
+names.txt: one requested name to a line, a wildcard name as *.example.com.
 
     www.example.com
     *.pay.example.com
 
-records.txt: one record to a line, CAA as in a zone file, others as octets (RFC 3597). Time to live
-and class may be left out (3600, IN). What dig prints with +noall +comments +answer can be put in as it
-is, for types other than CAA with +unknownformat too; a lookup that dig says failed is then a fault.
+records.txt: one record to a line, CAA records as in a zone file. TTL and class may be left out (3600, IN).
 
     example.com CAA 0 issue "ca1.example.net; account=230123"
     example.com. 300 IN CAA 128 tbs "Unknown"
-    example.com TYPE1 \# 4 C0000201
+    www.example.com CAA none
 
-Names are whole, with or without a closing dot: no $ORIGIN, no @, no owner left out. In a name \. is a
-dot within a label, \DDD an octet in decimal, \ before another character that character; in a quoted
-value \" \\ and \DDD. Empty lines, and lines that begin with # or ;, are passed over. FILE may be - for
-standard input. What the desk would refuse is not written, and the reason told.
+The last line says that www.example.com was looked up and has no CAA record. A record of another type is
+written in the form of RFC 3597, such as: example.com TYPE1 \# 4 C0000201
 
-Exit status: 0 done; 1 something is wrong with a file, and nothing was written; 2 wrong use.
+The output of dig, drill and kdig can be pasted into records.txt as it is. Look up every requested name and
+every name above it, up to the top-level domain:
+
+    dig +noall +comments +question +answer www.example.com CAA
+
+Keep all lines of the output: they show which name was looked up, and whether the lookup failed. Refused
+are a failed lookup, a truncated answer, and an answer with records missing. Once an answer is pasted,
+every name must have an answer or a line of its own: a name that was not looked up is refused too. Leave
+an empty line between pasted output and lines of your own.
+
+CNAME and DNAME records are refused: the desk program does not follow aliases. If www.example.com is an
+alias, look up the final target of the alias, and write each CAA record of the target into records.txt with
+the owner www.example.com. If the target has none, write: www.example.com CAA none
+
+Write names in full, with or without the final dot: $ORIGIN, @ and an omitted owner are not understood.
+In a name, \. is a dot inside a label, \DDD is an octet in decimal, and \ before any other character is that
+character; in a quoted value, use \" \\ and \DDD. Empty lines and comments are skipped: a comment is a whole
+line that begins with # or with one ;. FILE may be - for standard input.
 """
 
-# The desk's limits.
+EXIT_STATUS = """
+Exit status: 0 done; 1 something is wrong with a file or with the output, and make has written nothing;
+2 wrong use.
+"""
+
+# The desk program's limits.
 MAX_LABEL = 63
 MAX_NAME = 255
 MAX_ISSUER = 253
@@ -51,13 +76,17 @@ CLASS_IN = 1
 DEFAULT_TTL = 3600
 
 LETTERS_DIGITS = frozenset((string.ascii_letters + string.digits).encode())
-# What dig says of a lookup that failed, in a line that would be passed over as a comment.
-FAILED_LOOKUP = re.compile(r";;.*(no servers could be reached|status: (?!NOERROR\b|NXDOMAIN\b)\w+)")
 RECORD_FORM = 'a record is: owner [TTL] [IN] CAA flags tag "value"'
+LOOKUP = "dig +noall +comments +question +answer NAME CAA"
 
 
 class Fault(Exception):
-    """Something is wrong with what was handed in: the reason, for people."""
+    """Something is wrong with the input: the reason, for people. `line` is the number of the line it stands
+    on, where that is not the line being read."""
+
+    def __init__(self, reason, line=None):
+        super().__init__(reason)
+        self.line = line
 
 
 # ---- Text to octets
@@ -78,23 +107,28 @@ def unescaped(text, plain):
         behind = text[at + 1 : at + 4]
         if re.match("[0-9]", behind):
             if not re.fullmatch("[0-9]{3}", behind) or int(behind) > 255:
-                raise Fault(rf"\{behind} is no escape: three digits up to 255 follow the backslash")
+                raise Fault(rf"\{behind} is no escape: after a backslash, write three digits up to 255")
             octets.append((int(behind), True))
             at += 4
         elif behind and " " <= behind[0] <= "~":
             octets.append((ord(behind[0]), True))
             at += 2
         else:
-            raise Fault("a backslash has nothing behind it that it can escape")
+            raise Fault("a backslash is followed by nothing that it can escape")
     return octets
 
 
 def not_plain(c):
-    if ord(c) > 126:
-        return f"{c!r} is not ASCII: write a name that holds it in its xn-- form, an octet as \\DDD"
-    if " " <= c:
-        return f"{c!r} has to stand in double quotes, or have a backslash before it"
-    return f"{c!r} is not printable: write it as \\{ord(c):03}"
+    if ord(c) < 128:
+        if " " <= c <= "~":
+            return f"{c!r} must stand in double quotes, or have a backslash before it"
+        return f"{c!r} is not printable: write it as \\{ord(c):03}"
+    what = f"{c!r} (U+{ord(c):04X} {unicodedata.name(c, 'without a name')}) is not ASCII"
+    if c in "\u201c\u201d\u201e\u201f\u00ab\u00bb":
+        return f'{what}: use the straight double quote "'
+    if unicodedata.category(c)[0] in "ZC":
+        return f"{what}, and looks like a space or like nothing: take it out, or use a plain space"
+    return f"{what}: write a name that holds it in its xn-- form (dig +noidnout, kdig +noidn), an octet as \\DDD"
 
 
 def labels_of(text):
@@ -108,10 +142,10 @@ def labels_of(text):
         else:
             labels[-1] += bytes([octet])
     if labels[-1] == b"":
-        labels.pop()  # a closing dot, or the root
+        labels.pop()  # a final dot, or the root
     for label in labels:
         if not label:
-            raise Fault(f"{text} has an empty label")
+            raise Fault(f"{text} has an empty label: two dots in a row, or a dot at the front")
         if len(label) > MAX_LABEL:
             raise Fault(f"a label of {len(label)} octets; {MAX_LABEL} are allowed")
     if len(wire_name(labels)) > MAX_NAME:
@@ -127,17 +161,22 @@ def check_host_label(label):
     """Letters, digits and inner hyphens."""
     for octet in label:
         if octet not in LETTERS_DIGITS and octet != ord("-"):
-            raise Fault(f"label {label_text(label)}: letters, digits and hyphens alone are allowed")
+            hint = "; * may only be the whole first label of a requested name" if octet == ord("*") else ""
+            raise Fault(f"label {label_text(label)}: letters, digits and hyphens alone are allowed{hint}")
     if label.startswith(b"-") or label.endswith(b"-"):
         raise Fault(f"label {label_text(label)} begins or ends with a hyphen")
 
 
 def requested_name(text):
     """One name of a request, in wire form."""
+    if re.search("[ \t,]", text):
+        raise Fault(f"{text}: more than one name, or something behind the name: write one name per line, and nothing else")
+    if re.search("[/:]", text):
+        raise Fault(f"{text}: write the host name alone, without https://, port or path")
     labels = labels_of(text)
     rest = labels[1:] if labels[:1] == [b"*"] else labels
     if not rest:
-        raise Fault(f"{text} has no label to ask for")
+        raise Fault(f"{text} has no label to ask for: write a name such as www.example.com or *.example.com")
     for label in rest:
         check_host_label(label)
     return wire_name(labels)
@@ -149,20 +188,48 @@ def check_issuer(issuer):
         raise Fault("the issuer name has a line end behind it")
     if not 1 <= len(issuer) <= MAX_ISSUER:
         raise Fault(f"an issuer name of {len(issuer)} octets; 1 to {MAX_ISSUER} are allowed")
+    if not issuer.isascii():
+        raise Fault("the issuer name has letters that are not ASCII: write it in its xn-- form, such as xn--bcher-kva.example")
+    if re.search(rb"[ \t;/:]", issuer):
+        raise Fault("the issuer name is a domain name alone: no white space, parameters, https://, port or path")
     if issuer.endswith(b"."):
-        raise Fault("an issuer name has no closing dot")
+        raise Fault("an issuer name has no closing dot: take the dot off")
     for label in issuer.split(b"."):
         if not 1 <= len(label) <= MAX_LABEL:
             raise Fault(f"a label of {len(label)} octets in the issuer name; 1 to {MAX_LABEL} are allowed")
         check_host_label(label)
 
 
-def record(line):
-    """One record in wire form."""
+# ---- Records
+
+Head = collections.namedtuple("Head", "labels ttl rr_class type_word rest")
+
+ALIASES = {"CNAME": 5, "DNAME": 39}
+KNOWN_TYPES = {"CAA": TYPE_CAA, "RRSIG": 46, **ALIASES}
+
+
+class Alias(Fault):
+    """A CNAME or DNAME record."""
+
+    def __init__(self, word, owner, looked_up=None):
+        self.word, self.owner = word, owner
+        word = {"TYPE5": "TYPE5 (CNAME)", "TYPE39": "TYPE39 (DNAME)"}.get(word.upper(), word)
+        name = looked_up or "the name that was looked up"
+        example = looked_up or "www.example.com"
+        super().__init__(
+            f"{owner} has a {word} record, and the desk program does not follow aliases. Take this whole answer out, with "
+            f"its header. Look up the final target of the alias, and write each CAA record of the target with {name} as "
+            f'its owner, for example: {example} CAA 0 issue "ca1.example.net". If the target has no CAA record, write: '
+            f"{example} CAA none"
+        )
+
+
+def head_of(line):
+    """What stands before the data of a record. An alias is a fault, whatever its class."""
     if line[0] in " \t":
-        raise Fault("the line begins with a blank: write the owner on each line")
+        raise Fault("the line begins with white space: write the owner on each line, at its front")
     if line[0] == "$":
-        raise Fault("directives such as $ORIGIN are not read: write names and times out")
+        raise Fault("directives such as $ORIGIN are not read: write names and times in full")
     owner, rest = field(line)
     labels = labels_of(owner)
     ttl = rr_class = None
@@ -170,18 +237,30 @@ def record(line):
         word, rest = field(rest)
         if word[:1].isdigit() and ttl is None:
             if not re.fullmatch("[0-9]{1,10}", word) or int(word) >= 1 << 32:
-                raise Fault(f"a time to live is a number of seconds that fits 4 octets, not {word}")
+                raise Fault(f"a time to live is a number of seconds that fits 4 octets, not {word}; {RECORD_FORM}")
             ttl = int(word)
-        elif rr_class is None and (number := numbered("CLASS", word, IN=CLASS_IN)) is not None:
+        elif rr_class is None and (number := numbered("CLASS", word, {"IN": CLASS_IN})) is not None:
             rr_class = number
         else:
             break
+    if word.upper() in ("CH", "HS", "CS"):
+        if numbered("TYPE", field(rest)[0], ALIASES) not in ALIASES.values():
+            raise Fault(f"class {word}: write IN, the only class whose CAA records count, or another as CLASSn")
+        word, rest = field(rest)
+    if numbered("TYPE", word, ALIASES) in ALIASES.values():
+        raise Alias(word, name_text(labels))
     ttl = DEFAULT_TTL if ttl is None else ttl
     rr_class = CLASS_IN if rr_class is None else rr_class
-    rr_type = numbered("TYPE", word, CAA=TYPE_CAA)
+    return Head(labels, ttl, rr_class, word, rest)
+
+
+def record(line):
+    """One record in wire form."""
+    labels, ttl, rr_class, word, rest = head_of(line)
+    rr_type = numbered("TYPE", word, {"CAA": TYPE_CAA})
     if rr_type is None:
         raise Fault(
-            rf"type {word} is not read by name, only CAA is: write TYPEn \# length hex; {RECORD_FORM}"
+            rf"type {word} is not read by name, only CAA is (others as TYPEn \# length hex); {RECORD_FORM}"
             if word
             else f"the record ends before its type; {RECORD_FORM}"
         )
@@ -190,7 +269,7 @@ def record(line):
     elif word.upper() == "CAA":
         data = caa_data(rest)
     else:
-        raise Fault(rf"the data of {word} has to be written as \# length hex")
+        raise Fault(rf"the data of {word} must be written as \# length hex")
     if len(data) > 65_535:
         raise Fault(f"{len(data)} octets of data; 65535 fit a record")
     if (rr_type, rr_class) == (TYPE_CAA, CLASS_IN):
@@ -200,12 +279,12 @@ def record(line):
 
 
 def field(text):
-    """What stands before the first blank, and what stands behind the blanks. A backslash keeps a blank."""
+    """What stands before the first white space, and what stands behind it. A backslash keeps a space."""
     word = re.match(r"(?:\\.|[^ \t\\])*\\?", text).group()
     return word, text[len(word) :].lstrip(" \t")
 
 
-def numbered(prefix, word, **mnemonics):
+def numbered(prefix, word, mnemonics):
     """The number of a type or class by its mnemonic or as TYPE257; None where it is neither."""
     if word.upper() in mnemonics:
         return mnemonics[word.upper()]
@@ -218,13 +297,13 @@ def numbered(prefix, word, **mnemonics):
 
 
 def generic_data(text):
-    """Data as a length and hex digits, with blanks anywhere between (RFC 3597)."""
+    """Data as a length and hex digits, with white space anywhere between (RFC 3597)."""
     length, digits = field(text.lstrip(" \t"))
     digits = re.sub("[ \t]", "", digits)
     if not re.fullmatch("[0-9]{1,5}", length):
-        raise Fault(rf"a length up to 65535 has to follow \#, not {length or 'nothing'}")
+        raise Fault(rf"a length up to 65535 must follow \#, not {length or 'nothing'}")
     if not re.fullmatch("(?:[0-9A-Fa-f]{2})*", digits):
-        raise Fault(r"behind \# and the length only pairs of hex digits may stand")
+        raise Fault(r"after \# and the length, only pairs of hex digits are allowed")
     data = bytes.fromhex(digits)
     if len(data) != int(length):
         raise Fault(rf"\# says {int(length)} octets, and {len(data)} follow")
@@ -236,9 +315,9 @@ def caa_data(text):
     flags, rest = field(text)
     tag, value = field(rest)
     if not re.fullmatch("[0-9]{1,3}", flags) or int(flags) > 255:
-        raise Fault(f"flags are a number from 0 to 255, not {flags or 'nothing'}")
+        raise Fault(f"flags are a number from 0 to 255, not {flags or 'nothing'}; {RECORD_FORM}")
     if not re.fullmatch("[A-Za-z0-9]{1,255}", tag):
-        raise Fault(f"a tag is 1 to 255 letters and digits, not {tag or 'nothing'}")
+        raise Fault(f"a tag is 1 to 255 letters and digits, not {tag or 'nothing'}; {RECORD_FORM}")
     if not value:
         raise Fault('the value is missing: write "" for an empty one')
     return bytes([int(flags), len(tag)]) + tag.encode() + value_of(value)
@@ -251,7 +330,7 @@ def value_of(text):
         if inner is None:
             raise Fault("the value's closing quote is missing")
         if inner.end() != len(text):
-            raise Fault(f"{text[inner.end():].strip()} stands behind the value; a comment has a line of its own")
+            raise Fault(f"{text[inner.end():].strip()} stands behind the value; write a comment on a line of its own")
         octets = unescaped(inner[1], lambda c: " " <= c <= "~")
     else:
         octets = unescaped(text, lambda c: "!" <= c <= "~" and c not in '";()')
@@ -270,26 +349,489 @@ def property_of(data):
     return data[0], data[2 : 2 + length], data[2 + length :]
 
 
+# ---- The lines of a text file
+
+
+def lines_of(text):
+    """The lines with their numbers, without white space at their ends."""
+    for number, line in enumerate(re.split("\r\n|\n|\r", text), 1):
+        yield number, line.rstrip(" \t")
+
+
+def is_comment(line):
+    """Whether the line is empty or a comment. A comment must not hide a second line."""
+    text = line.lstrip(" \t")
+    if text and text[0] not in "#;":
+        return False
+    for c in text:
+        if unicodedata.category(c) in ("Cc", "Zl", "Zp") and c != "\t":
+            raise Fault(f"the comment holds U+{ord(c):04X}, which may look like a line end: take it out")
+    return True
+
+
+@contextlib.contextmanager
+def placed(file, number):
+    """Tells a fault with its file and line."""
+    try:
+        yield
+    except Fault as fault:
+        raise Fault(f"{file}:{fault.line or number}: {fault}") from None
+
+
+class Items:
+    """Items end to end, within the desk program's limits."""
+
+    def __init__(self, what, most, most_octets):
+        self.what, self.most, self.most_octets = what, most, most_octets
+        self.octets = b""
+        self.count = 0
+
+    def add(self, octets):
+        self.octets += octets
+        self.count += 1
+        if self.count > self.most:
+            raise Fault(f"{self.most} {self.what} are allowed, and this is one more")
+        if len(self.octets) > self.most_octets:
+            raise Fault(f"{self.most_octets} octets of {self.what} are allowed, and this makes {len(self.octets)}")
+
+
 def items_of(file, text, item, what, most, most_octets):
-    """One item from each line, end to end. A fault is told with the file and the line."""
-    octets = b""
-    count = 0
-    for number, line in enumerate(text.split("\n"), 1):
-        line = line.rstrip(" \t\r")
+    """One item from each line that is neither empty nor a comment."""
+    items = Items(what, most, most_octets)
+    for number, line in lines_of(text):
+        with placed(file, number):
+            if not is_comment(line):
+                items.add(item(line))
+    return items.octets, items.count
+
+
+def book_of(file, text):
+    """The records of a records.txt, as RecordsReader has them at the end."""
+    reader = RecordsReader()
+    for number, line in lines_of(text):
+        with placed(file, number):
+            reader.read(number, line)
+    with placed(file, reader.number):
+        reader.end()
+    return reader
+
+
+# ---- What dig, drill and kdig print
+
+HEADER_MARK = "->>HEADER<<-"
+HEADER = re.compile(HEADER_MARK + r"\s+opcode: ([^,;]+)[,;] +(?:status|rcode): ([^,;]+)[,;] +id: *\d+")
+FLAGS_AND_COUNTS = re.compile(
+    r"(?:flags:(?P<flags>[a-z ]*?) *(?:; MBZ: 0x[0-9a-f]+)?; *)?"
+    r"QUERY: (?P<QUERY>\d+)[,;] ANSWER: (?P<ANSWER>\d+)[,;] AUTHORITY: (?P<AUTHORITY>\d+)[,;] ADDITIONAL: (?P<ADDITIONAL>\d+)",
+    re.IGNORECASE,
+)
+SECTION = re.compile(r"(QUESTION|ANSWER|AUTHORITY|ADDITIONAL) SECTION:|(?:OPT|EDNS|TSIG|SIG0) PSEUDOSECTION:")
+# Lines that come before the header of an answer, in this order.
+BEFORE_HEADER = [
+    re.compile(
+        r"Truncated, retrying|WARNING: truncated reply from .*, retrying|BADCOOKIE, retrying"
+        r"|TLS session |HTTP session .*\(status: 200\)$|QUIC session "
+    ),
+    re.compile(r"<<>> DiG .*<<>>"),
+    re.compile(r"global options:"),
+    re.compile(r"Got answer:"),
+]
+# Lines of an answer that say nothing about its records, between its header and its sections, and behind its sections.
+BEFORE_SECTIONS = re.compile(
+    r"WARNING: recursion requested but not available$"  # what matters is in the flags
+    r"|Version: 0; flags:[a-z ]*; UDP size: \d+ B; ext-rcode: (NOERROR|NXDOMAIN)$"
+    r"|(NSID|CLIENT-SUBNET|PADDING|COOKIE|EXPIRE|Option \(\d+\)): "  # kdig's options of EDNS
+)
+BEHIND_SECTIONS = re.compile(
+    r"Query time: |SERVER: |WHEN: |MSG SIZE +rcvd: |Received \d+ B$|Time \d|From \S+ in "
+    r"|EDNS: version 0; flags:[a-z ]*; udp: \d+$|Data: "
+)
+# Lines with one ; that dig prints within an answer. Other lines with one ; are comments.
+WITHIN_ANSWER = re.compile(r"EDNS: version: |COOKIE: [0-9a-f]")
+# Other lines of these programs, with a reason for people. They are refused, and so is every line that is not known.
+FAILURES = [
+    (r"malformed|bad packet|extra byte|short \(|mismatch|(is|are) different|not set|can't print", "an answer is damaged"),
+    (r"truncated", "an answer was truncated"),
+    (r"^(Sending:|To |Sent )", "this is a query and no answer (do not use +qr)"),
+    (r"communications error|no servers|timed out|timeout|too long|failed|can't (connect|send|receive)|ERROR", "a lookup failed"),
+]
+# Types that may stand beside an answer.
+BESIDE = {"SOA", "NS", "DS", "NSEC", "NSEC3", "RRSIG", "A", "AAAA"}
+CLOSED = "closed"  # in the place of a section: the answer may be at its end, and other lines may follow
+OWN_LINES = "Leave an empty line between a pasted answer and lines of your own"
+
+
+class LookupFault(Fault):
+    """A lookup that failed, or may have failed."""
+
+    def __init__(self, reason, line=None, hint=""):
+        what_to_do = "look the name up again, and paste all lines of a good answer"
+        super().__init__(f"{reason}, so it is not known which records there are: {what_to_do}{hint}", line)
+
+
+class Answer:
+    """One pasted answer, from its header on."""
+
+    def __init__(self, line, status):
+        self.line = line
+        self.status = status
+        self.flags = self.counts = self.question = None
+        self.section = None
+        self.sections = []
+        self.records = collections.Counter()  # by section
+        self.owners = set()
+        self.properties = []  # the CAA data
+        self.authority = set()  # the types in the authority section
+
+    def check(self):
+        """At the end of the answer: all of it is there, and it is an answer."""
+        if self.counts is None:
+            raise LookupFault("the line with flags and counts is missing behind this header", self.line)
+        announced, found = self.counts["ANSWER"], self.records["ANSWER"]
+        if announced != found:
+            hint = f". {OWN_LINES}" if found > announced else ""
+            raise LookupFault(f"the header says ANSWER: {announced}, and {found} answer records follow", self.line, hint)
+        if found and self.status == "NXDOMAIN":
+            raise LookupFault("the status is NXDOMAIN (no such name), and records follow", self.line)
+        if not found and "aa" not in self.flags and (self.is_referral() or not {"rd", "ra"} <= self.flags):
+            raise LookupFault(
+                "this is a referral: the server that answered is not in charge of the name (no flag aa), and did not ask others",
+                self.line,
+                ", from a resolver or from a server of the zone",
+            )
+
+    def is_referral(self):
+        return self.authority & {"NS", "TYPE2"} and not self.authority & {"SOA", "TYPE6"}
+
+
+class RecordsReader:
+    """Reads a records.txt line by line: records, and what dig, drill and kdig print around them. What could hide a failed
+    lookup is a fault."""
+
+    def __init__(self):
+        self.number = 0
+        self.items = Items("records", MAX_RECORDS, MAX_BOOK)
+        self.answer = None
+        self.begun = None  # of a lookup that has no header yet: line number and place in BEFORE_HEADER
+        self.pasted = 0  # answers
+        self.answers = {}  # name to its answer
+        self.unnamed = []  # answers without records that do not show the name that was looked up
+        self.without = {}  # names with "CAA none", and the line
+        self.signatures = {}  # owners of an RRSIG record over CAA records, and the line
+
+    def read(self, number, line):
+        self.number = number
+        text = line.lstrip(" \t")
+        if not is_comment(line):
+            self.record(line)
+        elif not text:
+            self.empty_line()
+        elif text[0] == ";":
+            self.comment(text)
+
+    def end(self):
+        """The text is at its end."""
+        self.close()
+        owners = {lower(labels) for labels, *_ in caa_records(self.items.octets)}
+        for name, line in self.signatures.items():
+            if name not in owners:
+                raise LookupFault(f"this signs the CAA records of {name_text(name)}, and none is here", line)
+        for name, line in self.without.items():
+            if name in owners:
+                raise Fault(f"this says none, and the file has CAA records of {name_text(name)}: take one of the two out", line)
+
+    def close(self):
+        """The answer that was read is at its end."""
+        self.check_begun()
+        answer, self.answer = self.answer, None
+        if answer is None:
+            return
+        answer.check()
+        self.pasted += 1
+        if answer.records["ANSWER"] and not answer.properties:
+            if answer.question:
+                raise LookupFault("the answer has records, and none is a CAA record", answer.line)
+            return  # a lookup of another type
+        name = answer.question or next(iter(answer.owners), None)
+        if name is None:
+            self.unnamed.append(answer)
+            return
+        other = self.answers.setdefault(name, answer)
+        if sorted(other.properties) != sorted(answer.properties):
+            raise Fault(
+                f"{name_text(name)} is looked up a second time here, and the CAA records are not those of the answer at line "
+                f"{other.line}: take the old answer out",
+                answer.line,
+            )
+
+    def check_begun(self):
+        if self.begun is not None:
+            line, _ = self.begun
+            raise LookupFault("a lookup begins here, and its answer has no header (->>HEADER<<-)", line)
+
+    # -- Lines that are no records
+
+    def empty_line(self):
+        answer = self.answer
+        if answer and answer.counts and (answer.records[answer.section] or answer.records["ANSWER"] == answer.counts["ANSWER"]):
+            answer.section = CLOSED
+
+    def comment(self, text):
+        body = text.lstrip("; \t")
+        if HEADER_MARK in text:
+            self.header(text[text.index(HEADER_MARK) :])
+        elif found := FLAGS_AND_COUNTS.fullmatch(body):
+            self.flags_and_counts(found)
+        elif found := SECTION.fullmatch(body):
+            self.begin_section(found[1])
+        elif self.answer and self.answer.section == "QUESTION" and self.answer.question is None:
+            self.question(body)
+        elif body.startswith("EDE:"):
+            raise Fault(f"the resolver reports a problem with this answer ({body}): look the name up with another resolver")
+        elif BEFORE_HEADER[1].match(body):
+            self.before_header(1)
+        elif WITHIN_ANSWER.match(body):
+            self.need_header()
+        elif text.startswith(";;") and body:
+            self.program_line(body)
+
+    def program_line(self, body):
+        """A line that begins with ;; and is no part of an answer."""
+        for place, form in enumerate(BEFORE_HEADER):
+            if form.match(body):
+                self.before_header(place)
+                return
+        if BEFORE_SECTIONS.match(body):
+            self.need_header()
+            return
+        if BEHIND_SECTIONS.match(body):
+            self.need_header()
+            self.answer.section = CLOSED
+            return
+        for form, reason in FAILURES:
+            if re.search(form, body, re.IGNORECASE):
+                raise LookupFault(f"{reason} ({body})")
+        raise Fault(
+            f"this line is not known, and could tell of a failed lookup: {body}. If it is a comment of yours, begin it with # or "
+            f"with one ;. If a program printed it, look the name up again with {LOOKUP}"
+        )
+
+    def need_header(self):
+        if self.answer is None or self.begun is not None:
+            raise LookupFault("the header (->>HEADER<<-) of this answer is missing")
+
+    def before_header(self, place):
+        """A line that a lookup begins with. An earlier lookup must have had its answer."""
+        if self.begun is not None and place <= self.begun[1] and place != 0:
+            self.check_begun()
+        self.begun = (self.number if self.begun is None else self.begun[0], place)
+
+    def header(self, text):
+        self.begun = None
+        self.close()
+        found = HEADER.fullmatch(text)
+        if found is None:
+            raise LookupFault("this header is not in a form of dig, drill or kdig")
+        opcode, status = found.groups()
+        if opcode != "QUERY":
+            raise Fault(f"this is no lookup (opcode {opcode}): use {LOOKUP}")
+        if status not in ("NOERROR", "NXDOMAIN"):
+            raise LookupFault(f"a lookup failed (status {status})")
+        self.answer = Answer(self.number, status)
+
+    def flags_and_counts(self, found):
+        self.need_header()
+        if self.answer.counts is not None:
+            raise LookupFault("flags and counts stand here a second time: the header of another answer is missing")
+        if found["flags"] is None:
+            raise LookupFault("the flags of this answer are missing")
+        flags = set(found["flags"].lower().split())
+        if "tc" in flags:
+            raise LookupFault("the answer was truncated (flag tc)", hint=" (by TCP: +tcp with dig and kdig, -t with drill)")
+        if "qr" not in flags:
+            raise Fault("this is a query and no answer (no flag qr): look the name up without +qr")
+        if int(found["QUERY"]) != 1:
+            raise LookupFault(f"an answer is to one question, and the header says QUERY: {found['QUERY']}")
+        self.answer.flags = flags
+        self.answer.counts = {name: int(found[name]) for name in ("ANSWER", "AUTHORITY", "ADDITIONAL")}
+
+    def begin_section(self, name):
+        self.need_header()
+        if name in self.answer.sections:
+            raise LookupFault(f"a second {name} SECTION stands here: the header of another answer is missing")
+        self.answer.section = name
+        if name:
+            self.answer.sections.append(name)
+
+    def question(self, body):
+        """A name with class and type, behind QUESTION SECTION."""
+        name, rest = field(body)
+        words = rest.split()
+        if len(words) not in (1, 2):
+            raise LookupFault(f"this is no question of a lookup: {body}")
+        rr_class = numbered("CLASS", words[0], {"IN": CLASS_IN}) if len(words) == 2 else CLASS_IN
+        if (numbered("TYPE", words[-1], KNOWN_TYPES), rr_class) != (TYPE_CAA, CLASS_IN):
+            raise Fault(f"this lookup was for {' '.join(words)}, and does not tell the CAA records: look {name} up with {LOOKUP}")
+        self.answer.question = lower(labels_of(name))
+
+    # -- Records
+
+    def record(self, line):
+        self.check_begun()
+        answer = self.answer
         try:
-            if FAILED_LOOKUP.match(line):
-                raise Fault(f"a lookup failed, so a record may be missing: {line}")
-            if not line or line.lstrip(" \t")[0] in "#;":
-                continue
-            octets += item(line)
-            count += 1
-            if count > most:
-                raise Fault(f"{most} {what} are allowed, and this is one more")
-            if len(octets) > most_octets:
-                raise Fault(f"{most_octets} octets of {what} are allowed, and this makes {len(octets)}")
+            if answer is None or answer.section == CLOSED:
+                self.own_record(line)
+            elif answer.section in ("AUTHORITY", "ADDITIONAL"):
+                self.record_beside(line)
+            else:
+                # kdig +noall +header +answer prints no section titles.
+                answer.section = "ANSWER"
+                self.answer_record(line)
+        except Alias as alias:
+            raise Alias(alias.word, alias.owner, answer and answer.question and name_text(answer.question)) from None
         except Fault as fault:
-            raise Fault(f"{file}:{number}: {fault}") from None
-    return octets, count
+            raise Fault(no_record(line) or str(fault), fault.line) from None
+
+    def own_record(self, line):
+        head = head_of(line)
+        if (head.rr_class, head.type_word.upper(), head.rest.lower()) == (CLASS_IN, "CAA", "none"):
+            self.without[lower(head.labels)] = self.number
+        elif not self.is_signature(head):
+            self.items.add(record(line))
+
+    def answer_record(self, line):
+        answer = self.answer
+        head = head_of(line)
+        owner = lower(head.labels)
+        answer.owners.add(owner)
+        if answer.question not in (None, owner) or len(answer.owners) > 1:
+            raise Fault(
+                f"this record is for {name_text(owner)}, and the answer is for another name: leave pasted answers as they are, "
+                f"and write records of your own outside of them. {OWN_LINES}"
+            )
+        answer.records["ANSWER"] += 1
+        if not self.is_signature(head):
+            octets = record(line)
+            self.items.add(octets)
+            for *_, data in caa_records(octets):
+                if data in answer.properties:
+                    raise LookupFault("an answer has no record twice, and this one is the same as one before it")
+                answer.properties.append(data)
+
+    def is_signature(self, head):
+        """An RRSIG record over CAA records says nothing more than they do."""
+        if head.type_word.upper() != "RRSIG":
+            return False
+        covered, rest = field(head.rest)
+        check_one_line(rest)
+        number = numbered("TYPE", covered, KNOWN_TYPES)
+        if number in ALIASES.values():
+            raise Alias(f"RRSIG {covered}", name_text(head.labels))
+        if number != TYPE_CAA:
+            raise Fault(f"a signature over {covered} records is not expected here; only CAA records and their signatures are")
+        self.signatures[lower(head.labels)] = self.number
+        return True
+
+    def record_beside(self, line):
+        """A record of the authority or the additional section: no answer, and passed over."""
+        section = self.answer.section
+        head = head_of(line)
+        word = head.type_word.upper()
+        number = numbered("TYPE", word, KNOWN_TYPES)
+        check_one_line(head.rest)
+        if number == TYPE_CAA or (word not in BESIDE and number is None):
+            raise Fault(f"a record of type {word or 'nothing'} is not expected in the {section} section. {OWN_LINES}")
+        self.answer.records[section] += 1
+        if self.answer.counts and self.answer.records[section] > self.answer.counts[section]:
+            raise LookupFault(f"the header says {section}: {self.answer.counts[section]}, and more records follow")
+        if section == "AUTHORITY":
+            self.answer.authority.add(word)
+
+
+def check_one_line(data):
+    if data.endswith("("):
+        raise Fault("this record goes over several lines, which is not read: look the name up without +multiline")
+
+
+def no_record(line):
+    """The reason why a line is no record, where it has a form that people paste by mistake."""
+    text = line.strip(" \t")
+    if re.match(r"(.*[$#%>] *)?(\S*/)?(dig|kdig|drill|delv|host|nslookup)( |$)", text) or re.fullmatch(r"\S*[$#%>]", text):
+        return "this is a command line, and no record: take it out, and paste only what the command prints"
+    if re.match(r"(Error|Warning|dig|kdig|drill|host|nslookup)[:;] ", text):
+        return str(LookupFault(f"a lookup failed ({text})"))
+    if re.match(r"\d{1,3} [A-Za-z0-9]+ ", text) or re.fullmatch(r"\S+\.", text):
+        return f"this looks like the output of dig +short or drill -Q, which leaves the name out: use {LOOKUP}"
+    if re.match(r"- type: MESSAGE|\{|Using domain server|Server:\s|Name:\s|\*\* server|\S+ (has|is an alias)", text):
+        return f"this form of output is not read: use {LOOKUP}"
+    return None
+
+
+def lower(labels):
+    """The labels of a name for comparing."""
+    return tuple(label.lower() for label in labels)
+
+
+def caa_records(octets):
+    """The CAA records among records in wire form."""
+    reader = Reader(octets)
+    while reader.at < len(octets):
+        labels, rr_type, rr_class, ttl, data = reader.record()
+        if (rr_type, rr_class) == (TYPE_CAA, CLASS_IN):
+            yield labels, ttl, data
+
+
+# ---- Whether everything was looked up
+
+
+def check_climbs(file, request, reader):
+    """Looks for the CAA records of each requested name as the desk program does: at the name, then at each name above it.
+    Where lookups were pasted, each name looked at must have been looked up. Returns notes for people."""
+    owners = {lower(labels) for labels, *_ in caa_records(reader.items.octets)}
+    known = owners | set(reader.answers) | set(reader.without)
+    unknown, unrestricted, climbed = {}, {}, set()
+    for name in names_in(request):
+        at = lower(name[1:] if name[0] == b"*" else name)
+        while at and at not in owners:
+            climbed.add(at)
+            if at not in known:
+                unknown[at] = True
+            at = at[1:]
+        climbed.update(at[place:] for place in range(len(at)))
+        if not at:
+            unrestricted[lower(name)] = True
+    if reader.pasted and len(unknown) > len(reader.unnamed):
+        unnamed = (
+            f" (answers without records that do not show the name that was looked up: {len(reader.unnamed)}; use +question)"
+            if reader.unnamed
+            else ""
+        )
+        raise Fault(
+            f"{file}: not looked up: {listed(unknown)}{unnamed}. The CAA records of a requested name are looked for at the name "
+            "itself and at every name above it, up to the top-level domain, until a name has some: look each of them up with "
+            f"{LOOKUP}, and paste the answers. For a name known to have no CAA record you can write: NAME CAA none"
+        )
+    if not reader.items.octets:
+        return [f"{file}: there is no record in it, so the book restricts nothing"]
+    notes = []
+    if unrestricted:
+        notes.append(f"{file}: no CAA record restricts these names, neither their own nor one above: {listed(unrestricted)}")
+    if owners - climbed:
+        notes.append(f"{file}: these CAA records count for no requested name: {listed(sorted(owners - climbed))}")
+    return notes
+
+
+def names_in(request):
+    reader = Reader(request)
+    while reader.at < len(request):
+        yield reader.name()
+
+
+def listed(names, most=5):
+    names = list(names)
+    more = f" and {len(names) - most} more" if len(names) > most else ""
+    return ", ".join(map(name_text, names[:most])) + more
 
 
 # ---- Octets to text
@@ -389,55 +931,143 @@ def records_shown(file, octets):
 
 
 def file_octets(path):
-    if path == "-":
-        return sys.stdin.buffer.read()
     try:
+        if path == "-":
+            if sys.stdin is None:
+                raise Fault("-: standard input is closed")
+            return sys.stdin.buffer.read()
         with open(path, "rb") as file:
             return file.read()
     except OSError as error:
         raise Fault(f"{path}: {error.strerror}") from None
 
 
-def file_text(path):
-    octets = file_octets(path)
+def file_text(path, option):
+    try:
+        octets = file_octets(path)
+    except Fault as fault:
+        raise Fault(f"{fault}: give another file with {option}") from None
+    if path == "-" and not octets:
+        raise Fault("-: standard input is empty: did the command before it fail? To hand in no records, use an empty file")
     try:
         return octets.decode("utf-8-sig")
     except UnicodeDecodeError as error:
         line = octets[: error.start].count(b"\n") + 1
-        raise Fault(f"{path}:{line}: octet {octets[error.start]} is not ASCII") from None
+        hint = " (the file is in UTF-16)" if octets[:2] in (b"\xff\xfe", b"\xfe\xff") else ""
+        raise Fault(f"{path}:{line}: octet {octets[error.start]} is not ASCII{hint}: save the file as plain text") from None
+
+
+def same_input(one, other):
+    """Whether two inputs are the same file, or both are standard input."""
+
+    def status(path):
+        return os.fstat(0) if path == "-" else os.stat(path)
+
+    try:
+        return one == other or os.path.samestat(status(one), status(other))
+    except OSError:
+        return False  # told when it is read
 
 
 def make(options):
     names = options.names or os.path.join(options.folder, "names.txt")
     records = options.records or os.path.join(options.folder, "records.txt")
+    if same_input(names, records):
+        options.wrong_use(f"names and records are read from the same input ({names} and {records})")
     request, name_count = items_of(
-        names, file_text(names), lambda line: requested_name(line.strip(" \t")), "names", MAX_NAMES, MAX_REQUEST
+        names, file_text(names, "--names"), lambda line: requested_name(line.strip(" \t")), "names", MAX_NAMES, MAX_REQUEST
     )
     if not request:
-        raise Fault(f"{names}: there is no name in it, and the desk refuses an empty request")
-    book, record_count = items_of(records, file_text(records), record, "records", MAX_RECORDS, MAX_BOOK)
+        raise Fault(f"{names}: there is no name in it: write one requested name to a line")
+    book = book_of(records, file_text(records, "--records"))
     issuer = os.fsencode(options.issuer)
     try:
         check_issuer(issuer)
     except Fault as fault:
         raise Fault(f"--issuer {options.issuer}: {fault}") from None
+    notes = check_climbs(records, request, book)
 
-    files = {"request.bin": request, "issuer.txt": issuer, "book.bin": book}
-    paths = {os.path.join(options.folder, file): octets for file, octets in files.items()}
-    # All are looked for first, so that no part of a case is written.
-    for path in paths:
-        if os.path.lexists(path) and not options.force:
+    def announce():
+        print(f"{options.folder}: names {name_count}, records {book.items.count}, issuer {options.issuer}")
+        for note in notes:
+            print(note)
+        flush_output()
+
+    files = {"request.bin": request, "issuer.txt": issuer, "book.bin": book.items.octets}
+    write_all(options.folder, files, options.force, announce)
+
+
+def write_all(folder, files, force, announce):
+    """Writes all files and announces it, or does nothing: the files are written under other names first, and renamed when all
+    of them are there. On a fault the old files are put back. The last file, the book, is the first to go and the last to come, so
+    that the desk program never finds a book beside another request."""
+    paths = {file: os.path.join(folder, file) for file in files}
+    for path in paths.values():
+        if os.path.lexists(path) and not force:
             raise Fault(f"{path}: is there already; --force overwrites it")
+        if os.path.isdir(path) and not os.path.islink(path):
+            raise Fault(f"{path}: is a folder: move it away")
+    token = secrets.token_hex(8)
+    new = {file: os.path.join(folder, f".{file}.{token}.new") for file in files}
+    old = {file: os.path.join(folder, f".{file}.{token}.old") for file in files}
+    with contextlib.ExitStack() as undo:
+        make_folder(folder, undo)
+        for file, octets in files.items():
+            undo.callback(undone, os.unlink, new[file])
+            write_file(new[file], paths[file], octets)
+        for file, path in reversed(paths.items()):
+            undo.callback(undone, os.rename, old[file], path)
+            if os.path.lexists(path):
+                rename(path, old[file], path)
+        for file, path in paths.items():
+            undo.callback(undone, os.unlink, path)
+            rename(new[file], path, path)
+        announce()
+        undo.pop_all()
+    for path in old.values():
+        undone(os.unlink, path)
+
+
+def make_folder(folder, undo):
+    missing = []
+    while not os.path.lexists(folder or "."):
+        missing.append(folder)
+        folder = os.path.dirname(folder.rstrip(os.sep))
+    if not os.path.isdir(folder or "."):
+        raise Fault(f"{folder}: is not a folder")
+    for path in reversed(missing):
+        try:
+            os.mkdir(path)
+        except OSError as error:
+            raise Fault(f"{path}: {error.strerror}") from None
+        undo.callback(undone, os.rmdir, path)
+
+
+def write_file(path, shown_path, octets):
     try:
-        os.makedirs(options.folder, exist_ok=True)
-        for path, octets in paths.items():
-            with open(path, "wb" if options.force else "xb") as file:
-                file.write(octets)
+        with open(os.open(path, os.O_WRONLY | os.O_CREAT | os.O_EXCL, 0o666), "wb") as file:
+            file.write(octets)
+            file.flush()
+            os.fsync(file.fileno())
     except OSError as error:
-        raise Fault(f"{error.filename}: {error.strerror}") from None
-    print(f"{options.folder}: names {name_count}, records {record_count}, issuer {options.issuer}")
-    if not book:
-        print(f"{records}: there is no record in it, so the book restricts nothing")
+        raise Fault(f"{shown_path}: {error.strerror}; nothing was written") from None
+
+
+def rename(path, to, shown_path):
+    try:
+        os.rename(path, to)
+    except OSError as error:
+        raise Fault(f"{shown_path}: {error.strerror}; nothing was written") from None
+
+
+def undone(step, path, *to):
+    """Does a step of tidying up, where there is something to do. The other steps must be done even if this one fails."""
+    try:
+        if os.path.lexists(path):
+            step(path, *to)
+    except OSError as error:
+        left = f"{path}: is left behind{f' and should be {to[0]}' if to else ''}: {error.strerror}"
+        print(f"caa-files.py: {left}", file=sys.stderr)
 
 
 def show(options):
@@ -477,46 +1107,99 @@ def print_texts(texts_of):
     return command
 
 
+class Parser(argparse.ArgumentParser):
+    """Its help fails where standard output fails; argparse's own passes over that."""
+
+    def print_help(self, file=None):
+        print(self.format_help(), end="", file=file)
+
+
 def arguments():
-    parser = argparse.ArgumentParser(
+    parser = Parser(
         prog="caa-files.py",
         usage="caa-files.py make FOLDER --issuer NAME [--names FILE] [--records FILE] [--force]\n"
         "       caa-files.py show FOLDER | names FILE | records FILE",
         description=__doc__,
-        epilog=TEXT_FORM,
+        epilog=TEXT_FORM + EXIT_STATUS,
         formatter_class=argparse.RawDescriptionHelpFormatter,
     )
     commands = parser.add_subparsers(prog=parser.prog, required=True, metavar="COMMAND", help=argparse.SUPPRESS)
 
-    command = commands.add_parser("make", help=argparse.SUPPRESS, description="Writes request.bin, issuer.txt and book.bin.")
-    command.add_argument("folder", metavar="FOLDER", help="where the three files go")
-    command.add_argument("--issuer", metavar="NAME", required=True, help="the authority's issuer domain name")
-    command.add_argument("--names", metavar="FILE", help="the requested names (FOLDER/names.txt)")
-    command.add_argument("--records", metavar="FILE", help="the records (FOLDER/records.txt)")
-    command.add_argument("--force", action="store_true", help="overwrite files that are there")
-    command.set_defaults(run=make)
+    def add(name, description, run, epilog=EXIT_STATUS):
+        command = commands.add_parser(
+            name,
+            help=argparse.SUPPRESS,
+            description=description,
+            epilog=epilog,
+            formatter_class=argparse.RawDescriptionHelpFormatter,
+        )
+        command.set_defaults(run=run, wrong_use=command.error)
+        return command
 
-    command = commands.add_parser("show", help=argparse.SUPPRESS, description="Shows the three files of a folder.")
-    command.add_argument("folder", metavar="FOLDER")
-    command.set_defaults(run=show)
+    command = add(
+        "make",
+        "Writes request.bin, issuer.txt and book.bin to FOLDER: all three, or on any fault none.",
+        make,
+        TEXT_FORM + EXIT_STATUS,
+    )
+    command.add_argument("folder", metavar="FOLDER", help="where the three files go; it is made if it is missing")
+    command.add_argument("--issuer", metavar="NAME", required=True, help="the CA's issuer domain name, such as ca1.example.net")
+    command.add_argument("--names", metavar="FILE", help="the requested names (default: FOLDER/names.txt; - is standard input)")
+    command.add_argument("--records", metavar="FILE", help="the records (default: FOLDER/records.txt; - is standard input)")
+    command.add_argument("--force", action="store_true", help="overwrite the three files if they are there")
+
+    command = add("show", "Shows the request.bin, issuer.txt and book.bin of FOLDER as text.", show)
+    command.add_argument("folder", metavar="FOLDER", help="the folder that has the three files")
 
     for name, texts_of, file in [("names", names_shown, "request.bin"), ("records", records_shown, "book.bin")]:
-        command = commands.add_parser(name, help=argparse.SUPPRESS, description=f"Prints a {file} as a {name}.txt.")
-        command.add_argument("file", metavar="FILE")
-        command.set_defaults(run=print_texts(texts_of))
+        command = add(name, f"Prints a {file} as a {name}.txt.", print_texts(texts_of))
+        command.add_argument("file", metavar="FILE", help=f"a {file}; - is standard input")
     return parser
 
 
-def main():
-    options = arguments().parse_args()
+class Interrupted(BaseException):
+    """A signal asks the program to end."""
+
+
+def interrupted(number, _):
+    raise Interrupted(signal.Signals(number).name)
+
+
+def flush_output():
+    """A fault of standard output is told here, and not when the program ends."""
     try:
+        sys.stdout.flush()
+    except OSError as error:
+        # What could not be written must not be tried again.
+        os.dup2(os.open(os.devnull, os.O_WRONLY), sys.stdout.fileno())
+        raise Fault(f"standard output: {error.strerror}") from None
+
+
+def run():
+    if sys.stdout is None:
+        raise Fault("standard output is closed")
+    sys.stdout.reconfigure(errors="backslashreplace")
+    try:
+        options = arguments().parse_args()
         options.run(options)
+    except OSError as error:
+        # Other files' faults have been told: this is a long output that was written in parts.
+        flush_output()
+        raise Fault(f"standard output: {error.strerror}") from None
+    finally:
+        flush_output()
+
+
+def main():
+    for number in {signal.SIGINT, signal.SIGTERM, getattr(signal, "SIGHUP", signal.SIGTERM)}:
+        if signal.getsignal(number) != signal.SIG_IGN:
+            signal.signal(number, interrupted)
+    try:
+        run()
     except Fault as fault:
         sys.exit("\n".join(f"caa-files.py: {line}" for line in str(fault).split("\n")))
-    except BrokenPipeError:
-        # Whoever reads has read enough; closing must not fail again.
-        os.dup2(os.open(os.devnull, os.O_WRONLY), sys.stdout.fileno())
-        sys.exit(1)
+    except Interrupted as signal_name:
+        sys.exit(f"caa-files.py: ended by {signal_name}")
 
 
 if __name__ == "__main__":

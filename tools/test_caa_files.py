@@ -1,10 +1,13 @@
 """Tests of caa-files.py: python3 tools/test_caa_files.py"""
 
 import contextlib
+import glob
 import importlib.util
 import io
 import os
 import random
+import re
+import resource
 import subprocess
 import sys
 import tempfile
@@ -13,6 +16,7 @@ import unittest
 HERE = os.path.dirname(os.path.abspath(__file__))
 TOOL = os.path.join(HERE, "caa-files.py")
 WHOLE_CASE = os.path.join(HERE, "..", "examples", "whole-case")
+CAPTURED = os.path.join(HERE, "captured")
 
 # The file's name is no module name.
 _spec = importlib.util.spec_from_file_location("caa_files", TOOL)
@@ -23,6 +27,16 @@ _spec.loader.exec_module(caa)
 def octets_of(path):
     with open(path, "rb") as file:
         return file.read()
+
+
+def captured(name):
+    """A stored output; captured/README.md says how they were made."""
+    return octets_of(os.path.join(CAPTURED, name + ".txt")).decode()
+
+
+def properties_of(book):
+    """Owner, flags, tag and value of each CAA record."""
+    return [(caa.name_text(labels), *caa.property_of(data)) for labels, _, data in caa.caa_records(book)]
 
 
 class Octets(unittest.TestCase):
@@ -93,7 +107,12 @@ class Faults(unittest.TestCase):
                 ("a.*.b", r"label \*"),
                 ("a" * 64, "64 octets"),
                 ("caf\u00e9.example", "xn--"),
-                ("a b", "quotes"),
+                ("a b", "one name per line"),
+                ("a.example,b.example", "one name per line"),
+                ("a.example # mine", "one name per line"),
+                ("https://a.example/", "host name alone"),
+                ("a.example:443", "host name alone"),
+                ("a\u200b.example", "U\\+200B ZERO WIDTH SPACE.*take it out"),
                 (r"\256", "no escape"),
                 (r"\1", "no escape"),
                 ("a\\", "backslash"),
@@ -130,6 +149,9 @@ class Faults(unittest.TestCase):
                 ("a CAA 0 issue x; y=1", "double quotes"),
                 ('a CAA 0 issue "x\ty"', r"write it as \\009"),
                 ('a CAA 0 t "%s"' % ("x" * 65_533), "65535 fit"),
+                ("a CAA 0 issue \u201cx\u201d", "straight double quote"),
+                ('a CAA 0 issue "x\x7fy"', r"not printable: write it as \\127"),
+                ("a CH CAA 0 t x", "class CH: write IN"),
             ],
         )
 
@@ -144,6 +166,10 @@ class Faults(unittest.TestCase):
                 (b"a" * 64, "64 octets"),
                 (b"ca_1", "letters, digits and hyphens"),
                 (b".".join([b"a" * 63] * 4), "255 octets"),
+                ("b\u00fccher.example".encode(), "not ASCII: write it in its xn-- form"),
+                ("b\u00fccher.example".encode("latin-1"), "xn-- form"),
+                (b"ca1.example.net; account=1", "domain name alone"),
+                (b"https://ca1.example.net", "domain name alone"),
             ],
         )
 
@@ -153,11 +179,14 @@ class Faults(unittest.TestCase):
 
     def test_a_lookup_that_failed_is_no_comment(self):
         answered = ";; ->>HEADER<<- opcode: QUERY, status: {}, id: 1\n"
-        for text in [answered.format("SERVFAIL"), answered.format("REFUSED"), ";; no servers could be reached"]:
+        failed = [answered.format("SERVFAIL"), answered.format("REFUSED"), ";; no servers could be reached"]
+        failed.append(";; communications error: timed out\n")
+        for text in failed:
             with self.assertRaisesRegex(caa.Fault, "^f:2: a lookup failed"):
-                caa.items_of("f", "a CAA 0 t x\n" + text, caa.record, "records", 256, 32_768)
-        good = answered.format("NOERROR") + answered.format("NXDOMAIN") + ";; communications error: timed out\n"
-        self.assertEqual(caa.items_of("f", good, caa.record, "records", 256, 32_768), (b"", 0))
+                caa.book_of("f", "a CAA 0 t x\n" + text)
+        counts = ";; flags: qr rd ra; QUERY: 1, ANSWER: 0, AUTHORITY: 1, ADDITIONAL: 1\n"
+        good = answered.format("NOERROR") + counts + answered.format("NXDOMAIN") + counts
+        self.assertEqual(caa.book_of("f", good).items.octets, b"")
 
     def test_limits(self):
         with self.assertRaisesRegex(caa.Fault, "^f:3: 2 names are allowed"):
@@ -184,7 +213,7 @@ class ThereAndBack(unittest.TestCase):
         for _ in range(300):
             book = b"".join(self.record(chance) for _ in range(chance.randrange(4)))
             text = "\n".join(caa.records_shown("b", book))
-            self.assertEqual(caa.items_of("t", text, caa.record, "records", 256, 32_768)[0], book)
+            self.assertEqual(caa.book_of("t", text).items.octets, book)
 
     def record(self, chance):
         labels = [chance.randbytes(chance.randint(1, 9)) for _ in range(chance.randrange(4))]
@@ -201,7 +230,462 @@ class ThereAndBack(unittest.TestCase):
             labels = [bytes([octet]), bytes([octet]) * 2]
             self.assertEqual(caa.labels_of(caa.name_text(labels)), labels)
             line = caa.record_text(labels, 1, 1, 0, b"")
-            self.assertEqual(caa.items_of("t", line, caa.record, "records", 1, 100)[1], 1, line)
+            self.assertEqual(caa.book_of("t", line).items.count, 1, line)
+
+
+# ---- Stored outputs. What is expected was worked out by hand from the zones and commands of captured/make.sh.
+
+EXAMPLE_COM = {
+    ("example.com", 0, b"issue", b"ca1.example.net; account=230123"),
+    ("example.com", 0, b"issuewild", b";"),
+    ("example.com", 128, b"tbs", b"Unknown"),
+}
+LONG = {
+    ("long.example.com", 0, b"issue", b"ca1.example.net"),
+    ("long.example.com", 0, b"issue", b'ca2.example.org; policy=ev; text="a\\b"'),
+}
+LARGE = {
+    ("large.example.com", 0, b"issue", f"ca{n}.example.net; account={f'{n}' * 6}".encode()) for n in range(100, 140)
+}
+ISSUE_CA1 = (0, b"issue", b"ca1.example.net")
+
+# Each good output: the names looked up, None where the output does not show it, and the CAA records.
+FOUR = ["dig-{}", "dig-{}.answer", "drill-{}", "kdig-{}"]
+THREE = ["dig-{}", "drill-{}", "kdig-{}"]
+GOOD = {
+    **{form.format(name): (["example.com"], EXAMPLE_COM) for form in FOUR for name in ["found", "found-by-resolver"]},
+    **{form.format("found-two"): (["long.example.com"], LONG) for form in FOUR},
+    **{
+        form.format("pay"): (["pay.example.com"], {("pay.example.com", 0, b"issue", b"ca2.example.org")}) for form in FOUR
+    },
+    **{form.format("signed"): (["signed.example"], {("signed.example", *ISSUE_CA1)}) for form in THREE},
+    **{form.format("signed-nxdomain"): (["no-such.signed.example"], set()) for form in THREE},
+    **{
+        form.format(name): ([None if form.endswith(".answer") else looked_up], set())
+        for form in FOUR
+        for name, looked_up in [
+            ("no-caa", "www.example.com"),
+            ("no-caa-by-resolver", "www.example.com"),
+            ("nxdomain", "no-such.example.com"),
+            ("nxdomain-by-resolver", "no-such.example.com"),
+            ("com", "com"),
+        ]
+    },
+    **{
+        name: (["example.com"], EXAMPLE_COM)
+        for name in [
+            "dig-question",
+            "dig-unknownformat",
+            "dig-bad-cookie",
+            "dig-by-tcp",
+            "dig-by-tls",
+            "kdig-by-tcp",
+            "kdig-by-tls",
+            "kdig-by-https",
+            "kdig-cookie",
+            "kdig-noall-header",
+        ]
+    },
+    "dig-two-names": (["www.example.com", "example.com"], EXAMPLE_COM),
+    # The records alone say nothing of a lookup.
+    "dig-noall-answer": ([], EXAMPLE_COM),
+    "dig-by-tcp-after-truncated": (["large.example.com"], LARGE),
+    "kdig-by-tcp-after-truncated": (["large.example.com"], LARGE),
+    "drill-by-tcp": (["large.example.com"], LARGE),
+    # drill takes these without a word.
+    "drill-extra": (["extra.example.com"], {("extra.example.com", *ISSUE_CA1)}),
+    "drill-other-id": (["other-id.example.com"], set()),
+    "drill-other-question": (["other.other-question.example.com"], set()),
+}
+
+# Each output that is refused: what the line that is told has, and what the reason has.
+ALIAS = "does not follow aliases"
+FAILED = "a lookup failed .* look the name up again"
+DAMAGED = "an answer is damaged .* look the name up again"
+TRUNCATED = "truncated .* look the name up again"
+REFUSED = {
+    **{form.format(name): ("CNAME", ALIAS) for form in FOUR for name in ["alias", "alias-by-resolver", "alias-of-none"]},
+    **{form.format("dname"): ("DNAME", ALIAS) for form in FOUR},
+    "dig-alias-unknownformat": ("TYPE39", ALIAS),
+    "dig-alias-signed": ("CNAME", ALIAS),
+    **{
+        form.format(name): (status, rf"a lookup failed \(status {re.escape(status)}\)")
+        for name, statuses in {
+            "servfail": 4 * ["SERVFAIL"],
+            "servfail-by-resolver": 4 * ["SERVFAIL"],
+            "refused": 4 * ["REFUSED"],
+            "formerr": 4 * ["FORMERR"],
+            "notimp": ["NOTIMP", "NOTIMP", "NOTIMPL", "NOTIMPL"],
+            "notauth": 4 * ["NOTAUTH"],
+            "unknown-rcode": ["RESERVED11", "RESERVED11", "?? (11)", "RCODE 11"],
+        }.items()
+        for form, status in zip(FOUR, statuses)
+    },
+    "dig-badvers": ("BADVERS", FAILED),
+    "kdig-badvers": ("BADVERS", FAILED),
+    "dig-nobody": ("communications error to 127.0.0.1#53533: connection refused", FAILED),
+    "dig-nobody.answer": ("communications error to 127.0.0.1#53533: connection refused", FAILED),
+    "drill-nobody": ("Error: error sending query", FAILED),
+    "kdig-nobody": ("response timeout", FAILED),
+    "dig-silent": ("communications error to 127.0.0.1#53532: timed out", FAILED),
+    "dig-silent.answer": ("communications error to 127.0.0.1#53532: timed out", FAILED),
+    "drill-silent": ("Error: error sending query", FAILED),
+    "kdig-silent": ("response timeout", FAILED),
+    "dig-second-try": ("communications error", FAILED),
+    "dig-tcp-refused": ("Connection to 127.0.0.1#53532", FAILED),
+    "dig-tcp-refused.answer": ("Connection to 127.0.0.1#53532", FAILED),
+    "drill-tcp-refused": ("flags: qr tc", TRUNCATED),
+    "kdig-tcp-refused": ("can't connect", FAILED),
+    "dig-by-tcp-refused": ("Connection to 127.0.0.1#53532", FAILED),
+    "drill-by-tcp-refused": ("Error: error sending query", FAILED),
+    "kdig-by-tcp-refused": ("can't connect", FAILED),
+    "kdig-tls-refused": ("can't connect", FAILED),
+    "dig-no-such-server": ("couldn't get address", FAILED),
+    **{form.format("truncated"): (" tc ", TRUNCATED) for form in FOUR},
+    **{
+        f"dig-{name}{form}": (sign, DAMAGED)
+        for form in ["", ".answer"]
+        for name, sign in [
+            ("malformed", "malformed message packet"),
+            ("malformed-empty", "malformed message packet"),
+            ("extra", "3 extra bytes"),
+            ("too-short", "short (< header size)"),
+            ("other-id", "ID mismatch"),
+            ("no-qr", "query response not set"),
+            ("other-question", "Question section mismatch"),
+            ("bad-caa", "Got bad packet"),
+        ]
+    },
+    "dig-malformed-nobesteffort": ("Got bad packet", DAMAGED),
+    **{
+        f"drill-{name}": ("Error: error sending query", FAILED)
+        for name in ["malformed", "malformed-empty", "too-short", "bad-caa"]
+    },
+    "drill-no-qr": ("flags: rd ra", "no flag qr"),
+    **{
+        f"kdig-{name}": (sign, DAMAGED)
+        for name, sign in [
+            ("malformed", "malformed reply packet"),
+            ("malformed-empty", "malformed reply packet"),
+            ("extra", "malformed reply packet"),
+            ("too-short", "malformed reply packet"),
+            ("other-id", "reply ID"),
+            ("no-qr", "QR bit not set"),
+            ("other-question", "question sections are different"),
+            ("bad-caa", "can't print whole section"),
+        ]
+    },
+    **{form.format("filtered"): ("EDE: 17", "another resolver") for form in FOUR},
+    # The header is told, because its flags and counts show it.
+    **{form.format("referral"): ("->>HEADER<<-", "this is a referral") for form in FOUR},
+    "dig-norecurse": ("->>HEADER<<-", "this is a referral"),
+    "kdig-bad-cookie": ("bad cookie", "not known"),
+    "dig-query-shown": ("Sending:", "do not use [+]qr"),
+    "kdig-query-shown": ("Flags: rd", "without [+]qr"),
+    "dig-other-type": ("MX", "does not tell the CAA records"),
+    "dig-multiline": ("SOA", "without [+]multiline"),
+    "dig-nocomments": ("<<>> DiG", "no header"),
+    "kdig-noheader": ("QUESTION SECTION", "header .* is missing"),
+    **{name: ("", "dig [+]short") for name in ["dig-plus-short", "dig-plus-short-alias", "kdig-plus-short", "drill-quiet"]},
+    **{name: ("", "this form of output is not read") for name in ["dig-yaml", "kdig-json", "host", "nslookup"]},
+}
+
+
+class StoredOutputs(unittest.TestCase):
+    def test_each_output_is_looked_at(self):
+        files = {os.path.basename(path)[: -len(".txt")] for path in glob.glob(os.path.join(CAPTURED, "*.txt"))}
+        self.assertEqual(files, set(GOOD) | set(REFUSED))
+        self.assertFalse(set(GOOD) & set(REFUSED))
+
+    def check_good(self, name, text):
+        names, properties = GOOD[name]
+        reader = caa.book_of(name, text)
+        found = properties_of(reader.items.octets)
+        self.assertEqual(set(found), properties)
+        self.assertEqual(len(found), len(properties))
+        self.assertEqual(reader.items.count, len(properties))
+        self.assertEqual([caa.name_text(labels) for labels in reader.answers], [one for one in names if one])
+        self.assertEqual(len(reader.unnamed), names.count(None))
+
+    def check_refused(self, name, text, before=0):
+        sign, reason = REFUSED[name]
+        with self.assertRaisesRegex(caa.Fault, rf"^{re.escape(name)}:\d+: .*{reason}") as caught:
+            caa.book_of(name, text)
+        line = int(re.match(r".*?:(\d+): ", str(caught.exception))[1])
+        self.assertIn(sign, text.split("\n")[line - 1])
+        self.assertGreater(line, before)
+
+    def test_good(self):
+        for name in GOOD:
+            with self.subTest(name):
+                self.check_good(name, captured(name))
+
+    def test_refused(self):
+        for name in REFUSED:
+            with self.subTest(name):
+                self.check_refused(name, captured(name))
+
+    def test_refused_behind_a_good_answer_and_before_one(self):
+        good = captured("dig-found")
+        for name in REFUSED:
+            with self.subTest(name):
+                self.check_refused(name, good + captured(name), good.count("\n"))
+                self.check_refused(name, captured(name) + good)
+
+    def test_indented(self):
+        """A header and other comments count with white space before them too."""
+        for name in REFUSED:
+            with self.subTest(name), self.assertRaises(caa.Fault):
+                caa.book_of(name, captured(name).replace("\n", "\n \t "))
+        for name, (_, properties) in GOOD.items():
+            if not properties and "drill" not in name:
+                text = re.sub("(?m)^(?=;)", "    ", captured(name))
+                with self.subTest(name):
+                    self.check_good(name, text)
+
+    def test_line_ends_and_trailing_blanks(self):
+        for name in GOOD:
+            for end in ["\r\n", "\r", " \t\n"]:
+                with self.subTest(name, end=end):
+                    self.check_good(name, captured(name).replace("\n", end))
+
+    def test_without_its_first_lines(self):
+        """An answer that lost its header is refused, as long as a line shows that it is an answer."""
+        for name in GOOD:
+            lines = captured(name).split("\n")
+            headers = [number for number, line in enumerate(lines) if "->>HEADER<<-" in line]
+            for number in range(headers[-1] + 1, len(lines)) if headers else []:
+                if any(re.match(";;|; EDNS|; COOKIE", line) for line in lines[number:]):
+                    with self.subTest(name, line=number), self.assertRaises(caa.Fault):
+                        caa.book_of(name, "\n".join(lines[number:]))
+
+    def test_without_any_one_answer_record(self):
+        for name, (_, properties) in GOOD.items():
+            lines = captured(name).split("\n")
+            records = [n for n, line in enumerate(lines) if re.search(r"\s(CAA|TYPE257|RRSIG\tCAA)\s+[0-9\\C]", line)]
+            if name == "dig-noall-answer":
+                continue
+            self.assertGreaterEqual(len(records), len(properties))
+            for number in records:
+                text = "\n".join(lines[:number] + lines[number + 1 :])
+                with self.subTest(name, line=number), self.assertRaisesRegex(caa.Fault, "the header says ANSWER: "):
+                    caa.book_of(name, text)
+
+    def test_cut_off(self):
+        """Ends at any line before the last answer record."""
+        for name, (_, properties) in GOOD.items():
+            lines = captured(name).split("\n")
+            if not properties or name in ("dig-noall-answer", "dig-two-names"):
+                continue
+            last = max(n for n, line in enumerate(lines) if re.match(r"[a-z]\S*\s+\d+\s+\S+\s+(CAA|TYPE257|RRSIG)", line))
+            first = next(n for n, line in enumerate(lines) if line)
+            for number in range(first + 1, last + 1):
+                with self.subTest(name, line=number), self.assertRaises(caa.Fault):
+                    caa.book_of(name, "\n".join(lines[:number]))
+
+
+HEADER = ";; ->>HEADER<<- opcode: QUERY, status: NOERROR, id: 1\n"
+
+
+def flags(answer, authority=0, flags="qr rd ra"):
+    return f";; flags: {flags}; QUERY: 1, ANSWER: {answer}, AUTHORITY: {authority}, ADDITIONAL: 0\n"
+
+
+class Lookups(unittest.TestCase):
+    """Pasted text that no program printed in this way."""
+
+    def check(self, text, reason, line):
+        with self.subTest(text), self.assertRaisesRegex(caa.Fault, f"^f:{line}: .*{reason}"):
+            caa.book_of("f", text)
+
+    def test_aliases(self):
+        for line in [
+            "a CNAME b",
+            "a.example. 300 IN CNAME b.example.",
+            "a 300 in cname b.",
+            "a IN 300 Cname b",
+            "a CH CNAME b",
+            "a 5 hs DNAME b",
+            "a CLASS1 TYPE5 \\# 3 016200",
+            "a class3 type5 \\# 3 016200",
+            "a TYPE00005 b",
+            "a DNAME b",
+            "a 300 CLASS1 dname b",
+            "a IN TYPE39 \\# 3 016200",
+            "a RRSIG CNAME 13 1 300 1 1 1 a. AAAA",
+            "a\\.b CNAME c",
+        ]:
+            self.check("b CAA 0 t x\n" + line, "has a .* record, and the desk program does not follow aliases", 2)
+            self.check(HEADER + flags(2) + line, "does not follow aliases", 3)
+            if "RRSIG" not in line:
+                self.check(HEADER + flags(0, 1) + "\n;; AUTHORITY SECTION:\n" + line, "does not follow aliases", 5)
+        self.check("www.example.com CNAME b", 'with the name that was looked up as its owner, for example: .* CAA 0 issue "', 1)
+        question = ";; QUESTION SECTION:\n;WWW.example.com. IN CAA\n\n"
+        answer = HEADER + flags(1) + question + ";; ANSWER SECTION:\nwww.example.com. CNAME b.\n"
+        self.check(answer, "with www.example.com as its owner", 7)
+        self.check(answer, "If the target has no CAA record, write: www.example.com CAA none", 7)
+
+    def test_the_count_of_answers(self):
+        record = 'a 300 IN CAA 0 issue "x"\n'
+        drill = (
+            ";; ->>HEADER<<- opcode: QUERY, rcode: NOERROR, id: 1\n"
+            ";; flags: qr rd ra ; QUERY: 1, ANSWER: 1, AUTHORITY: 0, ADDITIONAL: 0 \n"
+        )
+        kdig = (
+            ";; ->>HEADER<<- opcode: QUERY; status: NOERROR; id: 1\n"
+            ";; Flags: qr rd ra; QUERY: 1; ANSWER: 1; AUTHORITY: 0; ADDITIONAL: 0\n"
+        )
+        for head in [HEADER + flags(1), drill, kdig]:
+            self.check(head, "ANSWER: 1, and 0 answer records follow", 1)
+            self.check("\n" + head + record + record.replace("x", "y"), "ANSWER: 1, and 2 answer records follow.*empty line", 2)
+            self.check(head + head + record, "ANSWER: 1, and 0", 1)
+            self.check(head + record + head, "ANSWER: 1, and 0", 4)
+            self.check(head + "\n\n; mine\n" + head + record, "ANSWER: 1, and 0", 1)
+            self.assertEqual(caa.book_of("f", head + record).items.count, 1)
+            self.assertEqual(caa.book_of("f", head + record + "\n" + record).items.count, 2)
+        self.check(HEADER + flags(0) + record, "ANSWER: 0, and 1", 1)
+        self.check(HEADER + flags(2) + record + "\n" + record, "ANSWER: 2, and 1", 1)
+        signature = "a 300 IN RRSIG CAA 13 1 300 1 1 1 a. AAAA\n"
+        self.check(HEADER + flags(1) + record + signature, "ANSWER: 1, and 2", 1)
+        self.assertEqual(caa.book_of("f", HEADER + flags(2) + record + signature).items.count, 1)
+        self.check(HEADER + flags(1) + signature, "none is a CAA record|signs the CAA records", "[13]")
+        self.check(signature, "signs the CAA records of a, and none is here", 1)
+
+    def test_a_header_that_is_not_whole(self):
+        record = 'a 300 IN CAA 0 issue "x"\n'
+        self.check(HEADER + record, "flags and counts is missing", 1)
+        counts = ";; QUERY: 1, ANSWER: 1, AUTHORITY: 0, ADDITIONAL: 0\n"
+        self.check(HEADER + counts + record, "flags of this answer are missing", 2)
+        self.check(flags(1) + record, "header .* is missing", 1)
+        self.check(HEADER + flags(1) + record + "\n" + flags(1) + record, "second time", 5)
+        self.check(";; ANSWER SECTION:\n" + record, "header .* is missing", 1)
+        self.check(";; Query time: 0 msec\n", "header .* is missing", 1)
+        self.check(";; Got answer:\n", "no header", 1)
+        self.check(HEADER + flags(0) + ";; Got answer:\n;; OPT PSEUDOSECTION:\n", "header .* is missing", 4)
+        self.check("; <<>> DiG 9.18.49 <<>> a CAA\n;; global options: +cmd\n", "no header", 1)
+        self.check("; <<>> DiG 9.18.49 <<>> a CAA\n; <<>> DiG 9.18.49 <<>> b CAA\n" + HEADER + flags(0), "no header", 1)
+        self.check(";; Truncated, retrying in TCP mode.\n", "no header", 1)
+        self.check(record + ";; Truncated, retrying in TCP mode.\n" + record, "no header", 2)
+        self.check(";; ->>HEADER<<- opcode: QUERY\n", "not in a form", 1)
+        self.check("; ->>HEADER<<- opcode: QUERY, status: SERVFAIL, id: 1\n", "a lookup failed", 1)
+        self.check(HEADER.replace("QUERY", "UPDATE"), "opcode UPDATE", 1)
+        self.check(HEADER + flags(0, flags="rd"), "no flag qr", 2)
+        self.check(HEADER + flags(0).replace("QUERY: 1", "QUERY: 0"), "QUERY: 0", 2)
+        self.check(HEADER.replace("NOERROR", "NXDOMAIN") + flags(1) + record, "NXDOMAIN", 1)
+
+    def test_an_answer_of_a_server_that_does_not_know(self):
+        for good in ["qr aa", "qr aa rd", "qr rd ra", "qr rd ra ad"]:
+            self.assertEqual(len(caa.book_of("f", HEADER + flags(0, flags=good)).unnamed), 1)
+        for bad in ["qr", "qr rd", "qr ra"]:
+            self.check(HEADER + flags(0, flags=bad), "referral", 1)
+        section = ";; AUTHORITY SECTION:\nexample. 300 IN {} ns.example.\n"
+        self.check(HEADER + flags(0, 1) + section.format("NS"), "referral", 1)
+        self.assertEqual(len(caa.book_of("f", HEADER + flags(0, 1) + section.format("SOA")).unnamed), 1)
+
+    def test_other_sections(self):
+        head = HEADER + flags(0, 1) + "\n;; AUTHORITY SECTION:\n"
+        soa = "example. 300 IN SOA ns.example. h.example. 1 1 1 1 1\n"
+        own = 'a CAA 0 issue "x"\n'
+        self.check(head + own, "CAA is not expected in the AUTHORITY section. Leave an empty line", 5)
+        self.check(head + soa + own, "CAA is not expected in the AUTHORITY section", 6)
+        self.check(head + soa + soa, "AUTHORITY: 1, and more", 6)
+        self.check(head + "example. TXT x\n", "TXT is not expected", 5)
+        self.assertEqual(caa.book_of("f", head + soa + "\n" + own).items.count, 1)
+        self.assertEqual(caa.book_of("f", head + soa + ";; MSG SIZE  rcvd: 9\n" + own).items.count, 1)
+        self.check(HEADER + flags(1) + ";; ANSWER SECTION:\n" + own + "\n;; ANSWER SECTION:\n" + own, "second ANSWER SECTION", 6)
+
+    def test_questions(self):
+        def question(line, answer=0):
+            return HEADER + flags(answer) + f";; QUESTION SECTION:\n{line}\n\n"
+
+        for line in [";A.example.\t\tIN\tCAA", ";; a.EXAMPLE. IN CAA", ";a.example. CLASS1 TYPE257", ";a.example. CAA"]:
+            self.assertEqual(list(caa.book_of("f", question(line)).answers), [(b"a", b"example")])
+        for line in [";a.example. IN A", ";a.example. CH CAA", ";a.example. IN ANY", ";; a.example. IN TYPE5", ";a.example. A"]:
+            self.check(question(line), "does not tell the CAA records", 4)
+        self.check(question(";a.example. IN CAA", 1) + "b.example CAA 0 t x", "b.example, and the answer is for another name", 6)
+        self.check(HEADER + flags(2) + "a CAA 0 t x\nb CAA 0 t x\n", "record is for b", 4)
+        self.check(question(";a. IN CAA", 1) + "a TYPE1 \\# 0", "none is a CAA record", 1)
+
+    def test_the_same_name_twice(self):
+        text = captured("dig-found")
+        self.assertEqual(caa.book_of("f", text + text).items.count, 6)
+        self.assertEqual(text.count("\n"), 25)
+        self.check(text + text.replace("ca1.", "ca9."), "example.com is looked up a second time .* line 6", 25 + 6)
+        twice = HEADER + flags(2) + "a 300 IN CAA 0 issue x\nA 3 CAA 0 issue \"x\"\n"
+        self.check(twice, "no record twice", 4)
+        head = HEADER + flags(0) + ";; QUESTION SECTION:\n;example.com. IN CAA\n\n"
+        self.check(text + head, "looked up a second time", 26)
+
+    def test_comments(self):
+        good = "# ;; connection timed out\n; timed out, says my colleague\n  ; x\n;\n;;\n;;;;;;;\n# ->>HEADER<<-\na CAA 0 t x\n"
+        self.assertEqual(caa.book_of("f", good).items.count, 1)
+        for line in [";; mine", " ;;; mine", ";; Got SERVFAIL reply from 127.0.0.1, trying next server"]:
+            self.check(line, "not known, .* begin it with # or with one ;", 1)
+        for hidden in ["\x0b", "\x0c", "\x1c", "\x85", "\u2028", "\u2029", "\0", "\x1b"]:
+            self.check(f"# mine{hidden}a CAA 0 issue x", "may look like a line end", 1)
+        self.assertEqual(caa.book_of("f", "# mine\ra CAA 0 t x\r").items.count, 1)
+
+    def test_lines_of_another_kind(self):
+        prompts = ["$ dig a CAA", "root@host:/# dig a CAA", "user@host ~ % kdig a CAA", "PS C:\\> drill a CAA", "u@h:~$"]
+        for line in [*prompts, "dig a CAA"]:
+            self.check(line, "command line", 1)
+        for line in ["Error: error sending query: x", "dig: couldn't get address for 'x': not found"]:
+            self.check(line, "a lookup failed", 1)
+        self.check("> ;; ->>HEADER<<- opcode: QUERY, status: NOERROR, id: 1", "type", 1)
+        # Where they are records, they are taken.
+        self.assertEqual(caa.book_of("f", "dig: CAA 0 t x\nhost 3 IN CAA 0 t x\nError: CAA 0 t x\n").items.count, 3)
+
+    def test_none(self):
+        reader = caa.book_of("f", "A.example CAA none\nb.example. 300 IN CAA NONE\n")
+        self.assertEqual((reader.items.count, list(reader.without)), (0, [(b"a", b"example"), (b"b", b"example")]))
+        self.check("a CAA none\nA CAA 0 t x", "CAA records of a: take one of the two out", 1)
+        self.check("a CLASS3 CAA none", "flags are a number", 1)
+
+
+class Climbs(unittest.TestCase):
+    """Whether each name that the desk program looks at was looked up."""
+
+    def notes(self, names, text):
+        request = b"".join(caa.requested_name(name) for name in names.split())
+        return caa.check_climbs("r", request, caa.book_of("r", text))
+
+    def check(self, names, text, missing):
+        with self.assertRaisesRegex(caa.Fault, f"^r: not looked up: {missing}[. ]"):
+            self.notes(names, text)
+
+    def test_pasted_lookups(self):
+        www, example, com = captured("dig-no-caa"), captured("kdig-found"), captured("drill-com")
+        self.assertEqual(self.notes("www.example.com", www + example), [])
+        self.assertEqual(self.notes("*.WWW.example.com example.com", example + www), [])
+        self.assertIn("there is no record", self.notes("www.example.com", www + com + "\nexample.com CAA none")[0])
+        self.check("www.example.com", example, "www.example.com")
+        self.check("www.example.com", www, "example.com, com")
+        self.check("www.example.com", www + com, "example.com")
+        self.check("www.example.com other.example.org", www + example, "other.example.org, example.org, org")
+        # Above a name with CAA records nothing is looked at.
+        self.assertEqual(self.notes("pay.example.com", captured("dig-pay")), [])
+        # drill shows the question that came back, and not the one that was sent.
+        self.check("other-question.example.com", captured("drill-other-question") + example, "other-question.example.com")
+        # A wildcard's own lookup is not at the name with the star.
+        self.check("*.a.example", www.replace("www.example.com", "*.a.example"), "a.example, example")
+
+    def test_answers_that_do_not_show_their_name(self):
+        www, example, com = captured("dig-no-caa.answer"), captured("dig-found.answer"), captured("dig-com.answer")
+        self.assertEqual(self.notes("www.example.com", www + example), [])
+        self.assertEqual(len(self.notes("www.example.com", www + www + com)), 1)
+        self.check("www.example.com", example, "www.example.com")
+        self.check("www.example.com", www, "www.example.com, example.com, com")
+        self.check("www.example.com a.www.example.com", www + example, "www.example.com, a.www.example.com")
+        # A lookup of another type is none of CAA.
+        self.check("a.example", HEADER + flags(1) + "a.example TYPE1 \\# 0\n", "a.example, example")
+
+    def test_lines_by_hand(self):
+        text = "example.com CAA 0 t x\n"
+        self.assertEqual(self.notes("www.example.com", text), [])
+        notes = self.notes("example.org www.example.com", text)
+        self.assertRegex(notes[0], "no CAA record restricts these names.*: example.org$")
+        notes = self.notes("www.example.com", text + ". CAA 0 t x\nA.org CAA 0 t x")
+        self.assertRegex(notes[0], "count for no requested name: [.], a.org$")
 
 
 class Commands(unittest.TestCase):
@@ -297,6 +781,241 @@ class Commands(unittest.TestCase):
             caa.arguments().parse_args(["--help"])
         self.assertIn("names.txt: one requested name to a line", out.getvalue())
         self.assertEqual(self.run_tool()[0], 2)
+        for command, sign in [
+            ("make", "--force"),
+            ("make", "does not follow aliases"),
+            ("show", "the folder that has the three files"),
+            ("names", "a request.bin; - is standard input"),
+            ("records", "a book.bin; - is standard input"),
+        ]:
+            status, out, error = self.run_tool(command, "--help")
+            self.assertEqual((status, error), (0, ""))
+            self.assertIn(sign, out)
+            self.assertIn("Exit status: 0 done", out)
+
+    def snapshot(self):
+        """All that is in the folder: each path with its octets, None for a folder."""
+        found = {}
+        for folder, folders, files in os.walk(self.folder):
+            found.update({os.path.join(folder, name): None for name in folders})
+            found.update({os.path.join(folder, name): octets_of(os.path.join(folder, name)) for name in files})
+        return found
+
+    def old_case(self):
+        """Texts for a new case, and files of an old one."""
+        self.whole_case()
+        for file in ["request.bin", "issuer.txt", "book.bin"]:
+            self.write(file, "old " + file)
+        return self.snapshot()
+
+    def test_a_pasted_failure_writes_nothing(self):
+        before = self.old_case()
+        for name in ["dig-alias", "dig-servfail.answer", "drill-nobody", "kdig-truncated", "dig-malformed", "dig-plus-short"]:
+            status, out, error = self.make("--force", "--records", os.path.join(CAPTURED, name + ".txt"))
+            self.assertEqual((status, out), (1, ""))
+            self.assertRegex(error, rf"^caa-files.py: .*{name}.txt:\d+: [^\n]*\n$")
+            self.assertEqual(self.snapshot(), before)
+
+    def test_an_alias_mended_as_the_message_says(self):
+        self.write("names.txt", "alias.example.com\n")
+        self.write("records.txt", captured("dig-alias-by-resolver"))
+        status, _, error = self.make()
+        self.assertEqual(status, 1)
+        self.assertIn("write each CAA record of the target with alias.example.com as its owner", error)
+        self.write("records.txt", 'alias.example.com. 3600 IN CAA 0 issue "ca2.example.org"\n')
+        self.assertEqual(self.make()[0], 0)
+        self.assertEqual(
+            properties_of(octets_of(self.path("book.bin"))), [("alias.example.com", 0, b"issue", b"ca2.example.org")]
+        )
+
+    def test_an_alias_of_a_name_without_records(self):
+        self.write("names.txt", "alias-of-none.example.com\n")
+        self.write("records.txt", captured("kdig-found") + "alias-of-none.example.com CAA none\n")
+        self.assertEqual(self.make()[:2], (0, f"{self.folder}: names 1, records 3, issuer ca1.example.net\n"))
+
+    def test_lookups_of_all_three_programs(self):
+        self.write("names.txt", "www.example.com\n*.pay.example.com\nno-such.example.com\n")
+        parts = ["dig-no-caa", "drill-pay", "kdig-nxdomain", "dig-found.answer"]
+        self.write("records.txt", "".join(map(captured, parts)))
+        self.assertEqual(self.make()[:2], (0, f"{self.folder}: names 3, records 4, issuer ca1.example.net\n"))
+        self.write("records.txt", "".join(map(captured, parts[:-1])))
+        status, out, error = self.make("--force")
+        self.assertEqual((status, out), (1, ""))
+        self.assertIn("records.txt: not looked up: example.com, com. ", error)
+
+    def test_one_input_for_both(self):
+        before = self.old_case()
+        for words in [
+            ["--names", "-", "--records", "-"],
+            ["--names", "/dev/stdin", "--records", "-"],
+            ["--records", self.path("names.txt")],
+        ]:
+            status, out, error = self.make("--force", *words, stdin=b"a\n")
+            self.assertEqual((status, out), (2, ""))
+            self.assertIn("names and records are read from the same input", error)
+            self.assertEqual(self.snapshot(), before)
+
+    def test_standard_input_that_is_empty_or_closed(self):
+        before = self.old_case()
+        status, _, error = self.make("--force", "--records", "-")
+        self.assertEqual(status, 1)
+        self.assertIn("standard input is empty", error)
+        status, error = self.make_with("--force", "--records", "-", preexec_fn=lambda: os.close(0))
+        self.assertEqual(status, 1)
+        self.assertRegex(error, "^caa-files.py: -: standard input is closed[^\\n]*\n$")
+        self.assertEqual(self.snapshot(), before)
+
+    def make_with(self, *words, preexec_fn):
+        command = [sys.executable, TOOL, "make", self.folder, "--issuer", "ca1.example.net", *words]
+        done = subprocess.run(command, capture_output=True, check=False, preexec_fn=preexec_fn)
+        return done.returncode, done.stderr.decode()
+
+    def test_an_output_that_is_closed_or_full(self):
+        before = self.old_case()
+        reading, writing = os.pipe()
+        os.close(reading)
+        self.addCleanup(os.close, writing)
+        commands = [
+            ["make", self.folder, "--issuer", "ca1.example.net", "--force"],
+            ["show", WHOLE_CASE],
+            ["records", os.path.join(WHOLE_CASE, "book.bin")],
+            ["--help"],
+            ["names", "--help"],
+        ]
+        with open("/dev/full", "wb") as full:
+            outputs = [
+                ({"stdout": writing}, "standard output: Broken pipe"),
+                ({"stdout": full}, "standard output: No space left on device"),
+                ({"preexec_fn": lambda: os.close(1)}, "standard output is closed"),
+            ]
+            for words in commands:
+                for more, reason in outputs:
+                    for unbuffered in ["", "1"] if words[0] in ("make", "--help") else [""]:
+                        done = subprocess.run(
+                            [sys.executable, TOOL, *words],
+                            stderr=subprocess.PIPE,
+                            check=False,
+                            env={**os.environ, "PYTHONUNBUFFERED": unbuffered},
+                            **more,
+                        )
+                        self.assertEqual((done.returncode, done.stderr.decode()), (1, f"caa-files.py: {reason}\n"))
+                        self.assertEqual(self.snapshot(), before)
+
+    def test_a_file_that_cannot_be_written_whole(self):
+        """A limit for the size of files stands for a full disk: request.bin fits, and book.bin does not."""
+        before = self.old_case()
+
+        def limited():
+            resource.setrlimit(resource.RLIMIT_FSIZE, (100, 100))
+
+        status, error = self.make_with("--force", preexec_fn=limited)
+        self.assertEqual((status, error), (1, f"caa-files.py: {self.path('book.bin')}: File too large; nothing was written\n"))
+        self.assertEqual(self.snapshot(), before)
+
+    def test_a_step_that_fails_is_undone(self):
+        """Each call that changes something fails once, over an old case and in a new folder."""
+        files = {"request.bin": b"r", "issuer.txt": b"i", "book.bin": b"b"}
+        before = self.old_case()
+        for folder, calls in [
+            (self.folder, {"open": 3, "fsync": 3, "rename": 6}),
+            (self.path("new/folder"), {"mkdir": 2, "open": 3, "fsync": 3, "rename": 3}),
+        ]:
+            for name, count in calls.items():
+                for failing in range(count):
+                    with self.subTest(folder=folder, name=name, failing=failing):
+                        with failing_call(name, failing), self.assertRaisesRegex(caa.Fault, ": Input/output error"):
+                            caa.write_all(folder, files, True, lambda: None)
+                        self.assertEqual(self.snapshot(), before)
+        # These were all renames: one more is not made.
+        with failing_call("rename", 6):
+            caa.write_all(self.folder, files, True, lambda: None)
+        self.assertEqual(octets_of(self.path("book.bin")), b"b")
+
+    def test_an_interrupt_is_undone(self):
+        before = self.old_case()
+
+        def announce():
+            raise caa.Interrupted("SIGTERM")
+
+        for folder in [self.folder, self.path("new")]:
+            with self.assertRaises(caa.Interrupted):
+                caa.write_all(folder, {"request.bin": b"r", "issuer.txt": b"i", "book.bin": b"b"}, True, announce)
+            self.assertEqual(self.snapshot(), before)
+
+    def test_the_book_goes_first_and_comes_last(self):
+        """While the files change, there is no book."""
+        self.old_case()
+        seen = []
+        rename = os.rename
+
+        def watched(*paths):
+            rename(*paths)
+            seen.append(os.path.exists(self.path("book.bin")))
+
+        os.rename = watched
+        try:
+            caa.write_all(self.folder, {"request.bin": b"r", "issuer.txt": b"i", "book.bin": b"b"}, True, lambda: None)
+        finally:
+            os.rename = rename
+        self.assertEqual(seen, [False] * 5 + [True])
+        self.assertEqual(octets_of(self.path("book.bin")), b"b")
+        self.assertEqual(
+            sorted(os.listdir(self.folder)), ["book.bin", "issuer.txt", "names.txt", "records.txt", "request.bin"]
+        )
+
+    def test_a_folder_in_the_way(self):
+        self.whole_case()
+        os.mkdir(self.path("book.bin"))
+        self.write("request.bin", "mine")
+        before = self.snapshot()
+        status, _, error = self.make("--force")
+        self.assertEqual(status, 1)
+        self.assertIn("book.bin: is a folder", error)
+        self.assertEqual(self.snapshot(), before)
+        self.write("file", "x")
+        status, _, error = self.make_in("file/x")
+        self.assertEqual((status, error), (1, f"caa-files.py: {self.path('file')}: is not a folder\n"))
+
+    def make_in(self, folder):
+        """With the texts of this folder, in another one."""
+        texts = ["--names", self.path("names.txt"), "--records", self.path("records.txt")]
+        return self.run_tool("make", self.path(folder), "--issuer", "ca1.example.net", *texts)
+
+    def test_a_new_folder(self):
+        self.whole_case()
+        status, _, error = self.make_in("a/b/")
+        self.assertEqual((status, error), (0, ""))
+        self.assertEqual(sorted(os.listdir(self.path("a/b"))), ["book.bin", "issuer.txt", "request.bin"])
+
+    def test_text_in_another_encoding(self):
+        self.write("names.txt", "a\n")
+        self.write("records.txt", captured("dig-found").encode("utf-16"))
+        self.assertIn("the file is in UTF-16", self.make()[2])
+        self.write("names.txt", "\u00fc.example\n")
+        self.assertIn("names.txt:1: '\u00fc' (U+00FC LATIN SMALL LETTER U WITH DIAERESIS) is not ASCII", self.make()[2])
+        self.write("names.txt", "a\n")
+        self.write("records.txt", "")
+        self.assertIn("write it in its xn-- form", self.make("--issuer", "b\u00fccher.example")[2])
+
+
+@contextlib.contextmanager
+def failing_call(name, failing):
+    """The call of os.NAME with this number, counted from 0, fails."""
+    real = getattr(os, name)
+    made = 0
+
+    def call(*words, **more):
+        nonlocal made
+        made += 1
+        if made == failing + 1:
+            raise OSError(5, "Input/output error")
+        return real(*words, **more)
+
+    setattr(os, name, call)
+    try:
+        yield
+    finally:
+        setattr(os, name, real)
 
 
 if __name__ == "__main__":

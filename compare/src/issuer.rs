@@ -4,7 +4,7 @@ use crate::answer::Refusal;
 use crate::limits::{ISSUER_OCTETS, LABEL_OCTETS};
 use crate::name::is_ldh_label;
 
-/// A well-formed issuer domain name in small letters, so that plain equality is equality of names.
+/// A well-formed issuer domain name in lower case, so that plain equality is equality of names.
 #[derive(Clone, Debug, PartialEq, Eq, Hash)]
 pub struct IssuerName {
     lower_case: Vec<u8>,

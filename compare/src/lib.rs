@@ -1,5 +1,5 @@
-//! A second CAA (RFC 8659) checker, written from the requirements, the RFC and the
-//! readings of docs/DECISIONS.md, so that its answers can be compared with those of another implementation.
+//! An independent implementation of CAA (RFC 8659), written from the requirements, the RFC and the
+//! readings of docs/DECISIONS.md, so that its answers can be compared with those of the proved library.
 //!
 //! Four calls: [`judge()`] says whether an issuer may sign a request, [`permitted_issuers`] says who
 //! may, [`write_line`] and [`read_line`] turn a record's CAA data into a line and back. All take raw
@@ -7,7 +7,8 @@
 //!
 //! [`against`] compares the answers of another implementation with those of this one, reader by
 //! reader and call by call; [`library`] is the one it is made for. [`mod@bench`] measures its calls
-//! next to ours.
+//! next to ours, and next to the [yardstick](bench::yardstick), a third program that is written for
+//! speed comparisons alone.
 
 // Denied and not forbidden: `library` calls foreign functions, and allows it for itself alone.
 #![deny(unsafe_code)]
@@ -31,6 +32,7 @@ pub mod presentation;
 pub mod readers;
 pub mod request;
 pub mod rule;
+pub mod small_stack;
 pub mod value;
 pub mod word;
 

@@ -9,6 +9,7 @@
 use crate::against::Other;
 use crate::calls::{Judge, Lines, PermittedIssuers};
 use crate::readers::Readers;
+use crate::small_stack::{on_small_stack, on_small_stack_with_buffer};
 #[cfg(any(feature = "readers", feature = "judge", feature = "lines"))]
 use crate::word::Word;
 
@@ -20,9 +21,17 @@ pub const LINKED: Other = Other {
     lines: LINES,
 };
 
+/// The same, each call but the readers made on a small stack.
+pub const ON_SMALL_STACK: Other = Other {
+    readers: READERS,
+    judge: JUDGE_ON_SMALL_STACK,
+    permitted_issuers: PERMITTED_ISSUERS_ON_SMALL_STACK,
+    lines: LINES_ON_SMALL_STACK,
+};
+
 #[allow(dead_code)] // What no feature links is never called.
 extern "C" {
-    // libreaders.a
+    // libtest_readers.a or libreaders.a
     fn readers_answer(
         number: usize,
         octets: *const u8,
@@ -133,3 +142,44 @@ const LINES: Option<Lines> = Some(Lines {
 });
 #[cfg(not(feature = "lines"))]
 const LINES: Option<Lines> = None;
+
+/// A call on copies of its inputs, on a small stack. `None` where it isn't linked.
+const JUDGE_ON_SMALL_STACK: Option<Judge> = match JUDGE {
+    Some(_) => Some(|request, issuer, book| {
+        let [request, issuer, book] = [request, issuer, book].map(<[u8]>::to_vec);
+        on_small_stack(move || (linked(JUDGE))(&request, &issuer, &book))
+    }),
+    None => None,
+};
+
+const PERMITTED_ISSUERS_ON_SMALL_STACK: Option<PermittedIssuers> = match PERMITTED_ISSUERS {
+    Some(_) => Some(|request, book, buffer| {
+        let [request, book] = [request, book].map(<[u8]>::to_vec);
+        on_small_stack_with_buffer(buffer, move |buffer| {
+            (linked(PERMITTED_ISSUERS))(&request, &book, buffer)
+        })
+    }),
+    None => None,
+};
+
+const LINES_ON_SMALL_STACK: Option<Lines> = match LINES {
+    Some(_) => Some(Lines {
+        write: |data, buffer| {
+            let data = data.to_vec();
+            on_small_stack_with_buffer(buffer, move |buffer| (linked(LINES).write)(&data, buffer))
+        },
+        read: |line, buffer| {
+            let line = line.to_vec();
+            on_small_stack_with_buffer(buffer, move |buffer| (linked(LINES).read)(&line, buffer))
+        },
+    }),
+    None => None,
+};
+
+/// What is asked for only where it is linked.
+const fn linked<C: Copy>(call: Option<C>) -> C {
+    match call {
+        Some(call) => call,
+        None => panic!("the call is not linked"),
+    }
+}

@@ -16,13 +16,15 @@ const USAGE: &str = "\
 usage: compare cases          run the stored cases
        compare judge FOLDER   judge request.bin, issuer.txt and book.bin of FOLDER
        compare library [--cases N] [--seed S]
-                              compare the proved library's answers with ours, on the
-                              stored cases and on N random ones (20000) from seed S (1);
+                              compare the proved library's answers and the yardstick's
+                              with ours, on the stored cases and on N random ones (20000)
+                              from seed S (1);
                               needs a build with --features readers, judge, list or
                               lines and SPLINEPEARL_LIBS set to the folder of the archives
-       compare bench          measure the proved library's calls next to ours; needs a
-                              build with --release, --features judge, list or lines and
-                              SPLINEPEARL_LIBS";
+       compare bench [TEXT]   measure the proved library's calls next to ours and to the
+                              yardstick's, on every load or on those with TEXT in their
+                              title; needs a build with --release, --features judge, list
+                              or lines and SPLINEPEARL_LIBS";
 
 fn main() -> ExitCode {
     let arguments: Vec<OsString> = env::args_os().skip(1).collect();
@@ -36,7 +38,11 @@ fn main() -> ExitCode {
             Some(run) => compare_library(run),
             None => wrong_use(USAGE),
         },
-        [command] if command == "bench" => run_bench(),
+        [command] if command == "bench" => run_bench(""),
+        [command, text] if command == "bench" => match text.to_str() {
+            Some(text) => run_bench(text),
+            None => wrong_use(USAGE),
+        },
         _ => wrong_use(USAGE),
     }
 }
@@ -79,13 +85,21 @@ fn compare_library(run: Run) -> ExitCode {
         return wrong_use("compare: built without --features readers, judge, list or lines");
     }
     with_stored_cases(|cases| {
-        let comparison = against::compare(&library::LINKED, cases, run.cases, run.seed);
+        let comparison = against::compare(&library::ON_SMALL_STACK, cases, run.cases, run.seed);
+        // The same cases for the yardstick, so that the three agree.
+        let yardstick = against::compare(&bench::YARDSTICK, cases, run.cases, run.seed);
+        if yardstick.is_good() {
+            let (stored, random) = (cases.len(), yardstick.cases);
+            println!("yardstick: {stored} stored and {random} random cases, 0 differ");
+        } else {
+            println!("yardstick:\n{yardstick}\n");
+        }
         println!("{comparison}");
-        comparison.is_good()
+        comparison.is_good() && yardstick.is_good()
     })
 }
 
-fn run_bench() -> ExitCode {
+fn run_bench(text: &str) -> ExitCode {
     if !library::LINKED.has_calls() {
         return wrong_use("compare: built without --features judge, list or lines");
     }
@@ -94,18 +108,22 @@ fn run_bench() -> ExitCode {
         return wrong_use("compare: bench needs a build with --release");
     }
     println!("{}", bench::heading());
+    let mut loads = 0;
     let mut good = true;
-    bench::run(&library::LINKED, |measured| match measured {
-        Ok(measured) => println!("{measured}"),
-        Err(difference) => {
-            good = false;
-            println!("differ: {difference}");
+    bench::run(&library::LINKED, text, |measured| {
+        loads += 1;
+        match measured {
+            Ok(measured) => println!("{measured}"),
+            Err(difference) => {
+                good = false;
+                println!("differ: {difference}");
+            }
         }
     });
-    if good {
-        ExitCode::SUCCESS
-    } else {
-        ExitCode::FAILURE
+    match loads {
+        0 => wrong_use(&format!("compare: no load has `{text}` in its title")),
+        _ if good => ExitCode::SUCCESS,
+        _ => ExitCode::FAILURE,
     }
 }
 

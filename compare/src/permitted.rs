@@ -10,7 +10,7 @@ use crate::request::read_request;
 use crate::rule::{caa_records, standing, Standing};
 
 /// Writes the permitted issuer names to the front of `buffer`, each as a length octet and the name
-/// in small letters. Nothing else of the buffer changes; on a refusal and on "anyone" nothing does.
+/// in lower case. Nothing else of the buffer changes; on a refusal and on "anyone" nothing does.
 pub fn permitted_issuers(request: &[u8], book: &[u8], buffer: &mut [u8]) -> Permitted {
     list(request, book, buffer).unwrap_or_else(Permitted::Refused)
 }

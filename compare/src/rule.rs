@@ -94,6 +94,13 @@ pub enum Standing<'a> {
     },
 }
 
+/// How many labels the climb takes off X to reach the relevant set, 0 where X owns it; `None` where
+/// there is none.
+pub fn labels_taken_off(records: &[CaaRecord], name: &RequestedName) -> Option<usize> {
+    let owns_any = |owner| records.iter().any(|record| record.owner.is(owner));
+    name.fqdn.ancestors().position(owns_any)
+}
+
 pub fn standing<'a>(records: &'a [CaaRecord], name: &RequestedName) -> Standing<'a> {
     let relevant = relevant_set(records, name);
     if let Some(record) = relevant.iter().find(|record| record.is_unknown_critical()) {

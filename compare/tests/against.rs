@@ -1,6 +1,7 @@
 //! What comparing tells, tried with this package as the other implementation.
 
 use compare::against::{compare, Comparison, Other};
+use compare::bench::YARDSTICK;
 use compare::cases;
 use compare::readers::Readers;
 use compare::{Answer, Word};
@@ -17,6 +18,15 @@ fn we_agree_with_ourselves_and_every_answer_comes() {
     assert!(comparison.is_good(), "{comparison}");
     let told = comparison.to_string();
     assert!(told.ends_with("\ncompare: 20000 cases, 0 differ"), "{told}");
+}
+
+#[test]
+fn the_yardstick_agrees_with_us() {
+    let comparison = compared(YARDSTICK, 20_000);
+    assert!(comparison.is_good(), "{comparison}");
+    let told = comparison.to_string();
+    assert!(told.starts_with("judge "), "{told}");
+    assert!(told.contains("\nlist "), "{told}");
 }
 
 #[test]

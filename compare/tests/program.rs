@@ -20,7 +20,7 @@ fn wrong_arguments_get_the_usage() {
         &["library", "--cases", "x"],
         &["library", "--seed", "-1"],
         &["library", "--frown", "1"],
-        &["bench", "1"],
+        &["bench", "1", "2"],
     ] {
         let output = run(arguments);
         assert_eq!(output.status.code(), Some(2), "{arguments:?}");

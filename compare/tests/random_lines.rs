@@ -15,7 +15,7 @@ fn made(convert: Convert, given: &[u8]) -> Option<Vec<u8>> {
     }
 }
 
-/// CAA data with its tag in small letters.
+/// CAA data with its tag in lower case.
 fn small_tag(mut data: Vec<u8>) -> Vec<u8> {
     let value = 2 + usize::from(data[1]);
     data[2..value].make_ascii_lowercase();

@@ -21,7 +21,7 @@
 enum { STACK = 262144, BLOCK = 4096, MOST = 65536, CHANGED = 5000 };
 
 /* What docs/ASSUMPTIONS.md says. */
-enum { ENOUGH = 1024, ENOUGH_FOR_LIST = 40960 };
+enum { ENOUGH_FOR_LINE = 1024, ENOUGH_FOR_BOOK = 40960 };
 
 static uint8_t stack[STACK];
 static ucontext_t here, there;
@@ -375,9 +375,9 @@ int main(int count, char **arguments)
     }
     books();
     lines();
-    over = tell("caa_judge", most_judge, ENOUGH);
-    over |= tell("caa_permitted_issuers", most_list, ENOUGH_FOR_LIST);
-    over |= tell("caa_write_line", most_write, ENOUGH);
-    over |= tell("caa_read_line", most_read, ENOUGH);
+    over = tell("caa_judge", most_judge, ENOUGH_FOR_BOOK);
+    over |= tell("caa_permitted_issuers", most_list, ENOUGH_FOR_BOOK);
+    over |= tell("caa_write_line", most_write, ENOUGH_FOR_LINE);
+    over |= tell("caa_read_line", most_read, ENOUGH_FOR_LINE);
     return fflush(stdout) == 0 ? over : 2;
 }

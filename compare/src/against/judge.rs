@@ -1,5 +1,6 @@
 //! The judge against ours.
 
+use super::heights::{count_in_vain, count_of_name, OF_VERDICTS};
 use super::log::{Call, Differences, Tally};
 use super::Part;
 use crate::answer::Answer;
@@ -27,6 +28,8 @@ static JUDGE: Call = Call {
 pub struct JudgeComparison {
     theirs: Judge,
     tally: Tally,
+    /// Of the generated cases alone.
+    heights: Tally,
 }
 
 impl JudgeComparison {
@@ -34,6 +37,7 @@ impl JudgeComparison {
         JudgeComparison {
             theirs,
             tally: Tally::new(&JUDGE),
+            heights: Tally::new(&OF_VERDICTS),
         }
     }
 
@@ -43,7 +47,7 @@ impl JudgeComparison {
         issuer: &[u8],
         book: &[u8],
         differences: &mut Differences,
-    ) {
+    ) -> Answer {
         let ours = judge(request, issuer, book);
         let theirs = (self.theirs)(request, issuer, book);
         self.tally.count(kind(ours));
@@ -51,6 +55,7 @@ impl JudgeComparison {
             let inputs = [("request", request), ("issuer", issuer), ("book", book)];
             differences.tell(&JUDGE, &inputs, told(theirs), ours);
         }
+        ours
     }
 }
 
@@ -68,11 +73,17 @@ impl Part for JudgeComparison {
             book,
             ..
         } = inputs;
-        self.compare(request, issuer, book, differences);
+        match self.compare(request, issuer, book, differences) {
+            Answer::Permitted => count_in_vain(&mut self.heights, request, book),
+            Answer::UnknownCritical { name, .. } | Answer::NotGranted { name, .. } => {
+                count_of_name(&mut self.heights, request, book, name);
+            }
+            Answer::Refused(_) => {}
+        }
     }
 
     fn into_tallies(self: Box<Self>) -> Vec<Tally> {
-        vec![self.tally]
+        vec![self.tally, self.heights]
     }
 }
 

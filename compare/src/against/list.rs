@@ -1,6 +1,7 @@
 //! Who may issue against ours: the answer and every octet of the buffer.
 
 use super::buffer::{sizes_to_try, TwoBuffers};
+use super::heights::{count_in_vain, count_of_restricted, OF_LISTS};
 use super::log::{Call, Differences, Tally};
 use super::Part;
 use crate::answer::{Permitted, Refusal};
@@ -35,6 +36,8 @@ pub struct ListComparison {
     theirs: PermittedIssuers,
     generator: Generator,
     tally: Tally,
+    /// Of the generated cases alone.
+    heights: Tally,
 }
 
 impl ListComparison {
@@ -43,6 +46,7 @@ impl ListComparison {
             theirs,
             generator: Generator::new(!seed),
             tally: Tally::new(&LIST),
+            heights: Tally::new(&OF_LISTS),
         }
     }
 
@@ -53,13 +57,14 @@ impl ListComparison {
         book: &[u8],
         buffer: &[u8],
         differences: &mut Differences,
-    ) {
+    ) -> Permitted {
         let answer = self.with_buffer(request, book, buffer, differences);
         self.tally.count(kind(answer));
         for size in sizes_to_try(needed(answer)) {
             let buffer = self.generator.buffer(size);
             self.with_buffer(request, book, &buffer, differences);
         }
+        answer
     }
 
     fn with_buffer(
@@ -100,11 +105,15 @@ impl Part for ListComparison {
             buffer,
             ..
         } = inputs;
-        self.compare(request, book, buffer, differences);
+        match self.compare(request, book, buffer, differences) {
+            Permitted::Anyone => count_in_vain(&mut self.heights, request, book),
+            Permitted::List { .. } => count_of_restricted(&mut self.heights, request, book),
+            Permitted::Refused(_) => {}
+        }
     }
 
     fn into_tallies(self: Box<Self>) -> Vec<Tally> {
-        vec![self.tally]
+        vec![self.tally, self.heights]
     }
 }
 

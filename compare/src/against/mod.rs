@@ -1,6 +1,7 @@
 //! Another implementation's answers against ours, on the stored cases and on random ones.
 
 mod buffer;
+mod heights;
 mod judge;
 mod lines;
 mod list;

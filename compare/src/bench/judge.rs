@@ -3,23 +3,41 @@
 use std::hint::black_box;
 
 use super::books::{
-    deep_request, deep_wildcards, deepest_request, full_record, long_issuer, missed_book,
-    plain_book, plain_request, with_set_at_top, Differs, DEEPEST_OF_ALL, DEEPEST_OWNER, ISSUER,
+    book_of, caa, deep_request, deep_request_of_two, deep_wildcards, deepest_request, full_record,
+    issue, long_issuer, missed_book, missed_book_with_set_at_top, plain_book, plain_request, wire,
+    Differs, DEEPEST_NAME, DEEPEST_NAMES, DEEPEST_OF_ALL, DEEPEST_OWNER, ISSUER,
 };
-use super::measure::{measure, Measured};
-use crate::calls::Judge;
-use crate::judge::judge;
-use crate::limits::BOOK_RECORDS;
+use super::measure::{measure, Measured, Plan, Sides};
+use super::shapes::{Shape, GRANTED, SHAPES};
+use super::{yardstick, CALLS_OF_ONE_NAME, NIGHT_RUN_NAMES};
+use crate::calls::{Desk, Judge};
+use crate::limits::{BOOK_RECORDS, REQUEST_NAMES};
 
 pub struct Load {
-    title: &'static str,
+    pub title: String,
     request: Vec<u8>,
     issuer: Vec<u8>,
     book: Vec<u8>,
+    calls: usize,
 }
 
 impl Load {
-    pub fn measure(&self, theirs: Judge) -> Result<Measured, String> {
+    fn new(title: impl Into<String>, request: Vec<u8>, issuer: &str, book: Vec<u8>) -> Load {
+        Load {
+            title: format!("judge: {}", title.into()),
+            request,
+            issuer: issuer.into(),
+            book,
+            calls: 1,
+        }
+    }
+
+    pub fn measure(&self, library: Judge) -> Result<Measured, String> {
+        let plan = Plan {
+            load: self.title.clone(),
+            room: 0,
+            calls: self.calls,
+        };
         let inputs = || {
             let Load {
                 request,
@@ -29,87 +47,143 @@ impl Load {
             } = black_box(self);
             (request, issuer, book)
         };
-        measure(
-            format!("judge: {}", self.title),
-            0,
-            |_| {
+        let sides = Sides {
+            library: &|_| {
                 let (request, issuer, book) = inputs();
-                judge(request, issuer, book)
+                library(request, issuer, book)
             },
-            |_| {
+            independent: &|_| {
                 let (request, issuer, book) = inputs();
-                theirs(request, issuer, book)
+                (Desk::OWN.judge)(request, issuer, book)
             },
-        )
+            yardstick: Some(&|_| {
+                let (request, issuer, book) = inputs();
+                Ok(yardstick::judge(request, issuer, book))
+            }),
+        };
+        measure(plan, sides)
     }
 }
 
 /// The loads, the same in every run.
 pub fn loads() -> Vec<Load> {
-    let load = |title, request: &[u8], book| Load {
-        title,
-        request: request.to_vec(),
-        issuer: ISSUER.into(),
-        book,
-    };
+    let mut counts = vec![NIGHT_RUN_NAMES, REQUEST_NAMES];
+    counts.dedup();
+    let mut loads = Vec::new();
+    for names in counts {
+        loads.extend(SHAPES.iter().map(|shape| three_labels(shape, names)));
+        loads.push(four_owners(names));
+    }
+    loads.extend(plain_and_deep());
+    loads.push(crowded());
+    loads.push(two_tops());
+    loads.push(one_name());
+    loads
+}
+
+fn three_labels(shape: &Shape, names: usize) -> Load {
+    let title = format!("{names} names of three labels, {}", shape.title);
+    Load::new(title, shape.request(names), GRANTED, shape.book())
+}
+
+/// Names of three labels governed in turn by four owners. Only the last records of the book grant.
+fn four_owners(names: usize) -> Load {
+    let owner = |number: usize| format!("h{}.at", number % 4);
+    let request = (0..names).flat_map(|name| wire(&format!("w{name:04}.{}", owner(name))));
+    let book = book_of(|record| {
+        let issuer = match BOOK_RECORDS - record {
+            1..=4 => GRANTED,
+            _ => "ca2.net",
+        };
+        full_record(&wire(&owner(record)), issuer)
+    });
+    let title = format!(
+        "{names} names of three labels, four owners of {} records in turn",
+        BOOK_RECORDS / 4
+    );
+    Load::new(title, request.collect(), GRANTED, book)
+}
+
+fn plain_and_deep() -> Vec<Load> {
+    let load =
+        |title: String, request: &[u8], book| Load::new(title, request.to_vec(), ISSUER, book);
+    let plain = format!("{REQUEST_NAMES} names of three labels, found at the parent, plain book");
     let deep = deep_request();
     let deepest = deepest_request();
-    let as_deep = || missed_book(DEEPEST_OF_ALL, Differs::AtTop);
-    let deepest_owners = || missed_book(DEEPEST_OWNER, Differs::AtTop);
-    let tails = |labels| with_set_at_top(missed_book(labels, Differs::AtFront));
-    vec![
-        load("100 names of 3 labels", &plain_request(), plain_book()),
-        load("100 deep names, no set, owners as deep", &deep, as_deep()),
-        load(
-            "100 deep names, set at the top, owners as deep",
-            &deep,
-            with_set_at_top(as_deep()),
+    let mut loads = vec![load(plain, &plain_request(), plain_book())];
+    let names = format!("{REQUEST_NAMES} names of {DEEPEST_OF_ALL} labels or one more");
+    for (owners, labels, differs) in [
+        ("owners as deep", DEEPEST_OF_ALL, Differs::AtTop),
+        ("owners deepest", DEEPEST_OWNER, Differs::AtTop),
+        ("owners share tails", DEEPEST_OF_ALL, Differs::AtFront),
+        (
+            "deepest owners share tails",
+            DEEPEST_OWNER,
+            Differs::AtFront,
         ),
-        load(
-            "100 deep names, no set, owners deepest",
-            &deep,
-            deepest_owners(),
-        ),
-        load(
-            "100 deep names, set at the top, owners deepest",
-            &deep,
-            with_set_at_top(deepest_owners()),
-        ),
-        load(
-            "33 deepest names, no set, owners deepest",
-            &deepest,
-            deepest_owners(),
-        ),
-        load(
-            "33 deepest names, set at the top, owners deepest",
-            &deepest,
-            with_set_at_top(deepest_owners()),
-        ),
-        load(
-            "100 deep names, set at the top, owners share tails",
-            &deep,
-            tails(DEEPEST_OF_ALL),
-        ),
-        load(
-            "100 deep names, set at the top, deepest owners share tails",
-            &deep,
-            tails(DEEPEST_OWNER),
-        ),
-        crowded_load(),
-    ]
+    ] {
+        // Owners that share tails are in nobody's way where there is no set.
+        if matches!(differs, Differs::AtTop) {
+            let title = format!("{names}, no set, {owners}");
+            loads.push(load(title, &deep, missed_book(labels, differs)));
+        }
+        let title = format!("{names}, set at the top, {owners}");
+        let book = missed_book_with_set_at_top(labels, differs);
+        loads.push(load(title, &deep, book));
+    }
+    let names = format!("{DEEPEST_NAMES} names of {DEEPEST_NAME} labels");
+    let (labels, differs) = (DEEPEST_OWNER, Differs::AtTop);
+    loads.push(load(
+        format!("{names}, no set, owners deepest"),
+        &deepest,
+        missed_book(labels, differs),
+    ));
+    loads.push(load(
+        format!("{names}, set at the top, owners deepest"),
+        &deepest,
+        missed_book_with_set_at_top(labels, differs),
+    ));
+    loads
 }
 
 /// A set as large as may be, found at the top of every deep name. Only the last record grants; the
 /// others' issuers differ from the one that asks in the last octet only. And since `*` stands before
 /// each name, an `issuewild` is looked for in vain.
-fn crowded_load() -> Load {
-    let mut book = full_record("A", &long_issuer("B")).repeat(BOOK_RECORDS - 1);
-    book.extend(full_record("A", &long_issuer("C")));
+fn crowded() -> Load {
+    let book = book_of(|record| {
+        let last = if record == BOOK_RECORDS - 1 { "C" } else { "B" };
+        full_record(&wire("A"), &long_issuer(last))
+    });
+    let title = format!("{REQUEST_NAMES} deep wildcards, {BOOK_RECORDS} records at the top");
+    let issuer = long_issuer("c").to_ascii_lowercase();
+    Load::new(title, deep_wildcards(), &issuer, book)
+}
+
+/// The same with two tops in turn, and half of the records at each.
+fn two_tops() -> Load {
+    let book = book_of(|record| {
+        let owner = if record % 2 == 0 { "A" } else { "B" };
+        let last = if record + 2 < BOOK_RECORDS { "B" } else { "C" };
+        full_record(&wire(owner), &long_issuer(last))
+    });
+    let title = format!(
+        "{REQUEST_NAMES} deep names, {} records at two tops in turn",
+        BOOK_RECORDS / 2
+    );
+    let issuer = long_issuer("c").to_ascii_lowercase();
+    Load::new(title, deep_request_of_two(), &issuer, book)
+}
+
+fn one_name() -> Load {
+    let book = caa(&wire("example.com"), &issue(ISSUER));
     Load {
-        title: "100 deep wildcards, 256 records at the top",
-        request: deep_wildcards(),
-        issuer: long_issuer("c").to_ascii_lowercase().into_bytes(),
-        book,
+        calls: CALLS_OF_ONE_NAME,
+        ..Load::new(
+            "one name, one record",
+            wire("www.example.com"),
+            ISSUER,
+            book,
+        )
     }
 }
 
@@ -118,6 +192,7 @@ mod tests {
     use super::*;
     use crate::answer::Answer;
     use crate::book::RecordData;
+    use crate::judge::judge;
     use crate::read_book;
 
     #[test]
@@ -131,9 +206,7 @@ mod tests {
     #[test]
     fn every_record_is_a_caa_record() {
         for load in loads() {
-            let records = read_book(&load.book).unwrap();
-            assert_eq!(records.len(), BOOK_RECORDS, "{}", load.title);
-            for record in records {
+            for record in read_book(&load.book).unwrap() {
                 assert!(matches!(record.data, RecordData::Caa(_)), "{}", load.title);
             }
         }
@@ -144,18 +217,25 @@ mod tests {
     fn sets_are_found_where_said() {
         for load in loads() {
             let answer = judge(&load.request, b"ca9.example.net", &load.book);
-            let title = load.title;
-            let found = if title.contains("no set") {
-                Answer::Permitted
-            } else if title.contains("set at the top") {
-                Answer::NotGranted {
-                    name: 0,
-                    record: BOOK_RECORDS - 1,
-                }
+            let records = read_book(&load.book).unwrap().len();
+            let title = &load.title;
+            if title.contains("no set") {
+                assert_eq!(answer, Answer::Permitted, "{title}");
+            } else if title.contains("set at the top") || title.contains("found at the top") {
+                let record = records - 1;
+                assert_eq!(answer, Answer::NotGranted { name: 0, record }, "{title}");
             } else {
-                Answer::NotGranted { name: 0, record: 0 }
-            };
-            assert_eq!(answer, found, "{title}");
+                assert_eq!(answer, Answer::NotGranted { name: 0, record: 0 }, "{title}");
+            }
         }
+    }
+
+    #[test]
+    fn no_two_loads_have_one_title() {
+        let mut titles: Vec<String> = loads().into_iter().map(|load| load.title).collect();
+        let count = titles.len();
+        titles.sort();
+        titles.dedup();
+        assert_eq!(titles.len(), count);
     }
 }

@@ -2,14 +2,12 @@
 
 use std::hint::black_box;
 
-use super::measure::{measure, Measured};
-use crate::answer::Made;
-use crate::calls::{Convert, Lines};
+use super::measure::{measure, Measured, Plan, Sides};
+use crate::calls::{Convert, Desk, Lines};
 use crate::limits::{DATA_OCTETS, LINE_OCTETS};
-use crate::presentation::{read_line, write_line};
 
 pub struct Load {
-    title: &'static str,
+    pub title: String,
     way: Way,
     given: Vec<u8>,
 }
@@ -21,29 +19,39 @@ enum Way {
 }
 
 impl Load {
-    pub fn measure(&self, theirs: Lines) -> Result<Measured, String> {
-        let measure = |name: &str, ours: fn(&[u8], &mut [u8]) -> Made, theirs: Convert| {
-            measure(
-                format!("{name}: {}", self.title),
-                LINE_OCTETS,
-                |buffer| ours(black_box(&self.given), buffer),
-                |buffer| theirs(black_box(&self.given), buffer),
-            )
+    pub fn measure(&self, library: Lines) -> Result<Measured, String> {
+        let (library, independent): (Convert, Convert) = match self.way {
+            Way::Write => (library.write, Desk::OWN.lines.write),
+            Way::Read => (library.read, Desk::OWN.lines.read),
         };
-        match self.way {
-            Way::Write => measure("write line", write_line, theirs.write),
-            Way::Read => measure("read line", read_line, theirs.read),
-        }
+        let plan = Plan {
+            load: self.title.clone(),
+            room: LINE_OCTETS,
+            calls: 1,
+        };
+        let sides = Sides {
+            library: &|buffer| library(black_box(&self.given), buffer),
+            independent: &|buffer| independent(black_box(&self.given), buffer),
+            yardstick: None,
+        };
+        measure(plan, sides)
     }
 }
 
 /// The loads, the same in every run.
 pub fn loads() -> Vec<Load> {
-    let load = |title, way, given| Load { title, way, given };
-    let plain = "4096 octets of data, plain text";
+    let load = |title: &str, way, given| {
+        let name = match way {
+            Way::Write => "write line",
+            Way::Read => "read line",
+        };
+        let title = format!("{name}: {DATA_OCTETS} octets of data, {title}");
+        Load { title, way, given }
+    };
+    let plain = "plain text";
     let issue = b"\x00\x05issue";
     let text = b"a".repeat(DATA_OCTETS - issue.len());
-    let escaped = "4096 octets of data, all escaped";
+    let escaped = "all escaped";
     let shortest = b"\xFF\x01t";
     let octets = DATA_OCTETS - shortest.len();
     vec![
@@ -65,6 +73,8 @@ pub fn loads() -> Vec<Load> {
 #[cfg(test)]
 mod tests {
     use super::*;
+    use crate::answer::Made;
+    use crate::presentation::{read_line, write_line};
 
     #[test]
     fn each_pair_goes_there_and_back() {

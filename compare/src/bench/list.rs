@@ -3,90 +3,141 @@
 use std::hint::black_box;
 
 use super::books::{
-    deep_request, deep_request_of_two, full_record, long_issuer, plain_book, plain_request,
+    book_of, caa, deep_request, deep_request_of_two, full_record, issue, long_issuer, plain_book,
+    plain_request, wire, ISSUER,
 };
-use super::measure::{measure, Measured};
-use crate::calls::PermittedIssuers;
-use crate::limits::BOOK_RECORDS;
-use crate::permitted::permitted_issuers;
+use super::measure::{measure, Measured, Plan, Sides};
+use super::shapes::SHAPES;
+use super::{yardstick, CALLS_OF_ONE_NAME, NIGHT_RUN_NAMES};
+use crate::calls::{Desk, PermittedIssuers};
+use crate::limits::{BOOK_RECORDS, REQUEST_NAMES};
+
+/// Owners that take turns.
+const MANY_OWNERS: usize = 128;
 
 pub struct Load {
-    title: &'static str,
+    pub title: String,
     request: Vec<u8>,
     book: Vec<u8>,
+    calls: usize,
 }
 
 impl Load {
+    fn new(title: impl Into<String>, request: Vec<u8>, book: Vec<u8>) -> Load {
+        Load {
+            title: format!("list: {}", title.into()),
+            request,
+            book,
+            calls: 1,
+        }
+    }
+
     /// A buffer as long as the book is always enough.
-    pub fn measure(&self, theirs: PermittedIssuers) -> Result<Measured, String> {
+    pub fn measure(&self, library: PermittedIssuers) -> Result<Measured, String> {
+        let plan = Plan {
+            load: self.title.clone(),
+            room: self.book.len(),
+            calls: self.calls,
+        };
         let inputs = || {
             let Load { request, book, .. } = black_box(self);
             (request, book)
         };
-        measure(
-            format!("list: {}", self.title),
-            self.book.len(),
-            |buffer| {
+        let sides = Sides {
+            library: &|buffer| {
                 let (request, book) = inputs();
-                permitted_issuers(request, book, buffer)
+                library(request, book, buffer)
             },
-            |buffer| {
+            independent: &|buffer| {
                 let (request, book) = inputs();
-                theirs(request, book, buffer)
+                (Desk::OWN.permitted_issuers)(request, book, buffer)
             },
-        )
+            yardstick: Some(&|buffer| {
+                let (request, book) = inputs();
+                Ok(yardstick::permitted_issuers(request, book, buffer))
+            }),
+        };
+        measure(plan, sides)
     }
 }
 
 /// The loads, the same in every run.
 pub fn loads() -> Vec<Load> {
-    let short = |number: usize| format!("ca{number:03}");
-    let long = |number: usize| long_issuer(&format!("{number:03}"));
-    vec![
+    let short = |number: usize| format!("ca{number:04}");
+    let long = |number: usize| long_issuer(&format!("{number:04}"));
+    let half = BOOK_RECORDS / 2;
+    let mut loads: Vec<Load> = SHAPES
+        .iter()
+        .map(|shape| {
+            let title = format!("{NIGHT_RUN_NAMES} names of three labels, {}", shape.title);
+            Load::new(title, shape.request(NIGHT_RUN_NAMES), shape.book())
+        })
+        .collect();
+    loads.extend([
+        many_owners(),
+        Load::new(
+            format!("{REQUEST_NAMES} names of three labels, found at the parent, plain book"),
+            plain_request(),
+            plain_book(),
+        ),
+        Load::new(
+            format!("{REQUEST_NAMES} deep names, {BOOK_RECORDS} grants at the top, short issuers"),
+            deep_request(),
+            book_of(|record| full_record(&wire("A"), &short(record))),
+        ),
+        Load::new(
+            format!(
+                "{REQUEST_NAMES} deep names, {BOOK_RECORDS} grants at the top, \
+                 issuers share front and length"
+            ),
+            deep_request(),
+            book_of(|record| full_record(&wire("A"), &long(record))),
+        ),
+        // The grants of the second top stand the other way round.
+        Load::new(
+            format!(
+                "{REQUEST_NAMES} deep names, {half} grants at two tops in turn, \
+                 issuers share front and length"
+            ),
+            deep_request_of_two(),
+            book_of(|record| match record.checked_sub(half) {
+                None => full_record(&wire("A"), &long(record)),
+                Some(behind) => full_record(&wire("B"), &long(half - 1 - behind)),
+            }),
+        ),
         Load {
-            title: "100 names of 3 labels",
-            request: plain_request(),
-            book: plain_book(),
+            calls: CALLS_OF_ONE_NAME,
+            ..Load::new(
+                "one name, one record",
+                wire("www.example.com"),
+                caa(&wire("example.com"), &issue(ISSUER)),
+            )
         },
-        Load {
-            title: "100 deep names, 256 grants at the top, short issuers",
-            request: deep_request(),
-            book: grants("A", 0..BOOK_RECORDS, short),
-        },
-        Load {
-            title: "100 deep names, 256 grants at the top, long issuers",
-            request: deep_request(),
-            book: grants("A", 0..BOOK_RECORDS, long),
-        },
-        Load {
-            title: "100 deep names, 128 grants at two tops in turn, long issuers",
-            request: deep_request_of_two(),
-            book: [
-                grants("A", 0..BOOK_RECORDS / 2, long),
-                grants("B", (0..BOOK_RECORDS / 2).rev(), long),
-            ]
-            .concat(),
-        },
-    ]
+    ]);
+    loads
 }
 
-/// A grant to each issuer of these numbers.
-fn grants(
-    owner: &str,
-    numbers: impl Iterator<Item = usize>,
-    issuer: impl Fn(usize) -> String,
-) -> Vec<u8> {
-    numbers
-        .flat_map(|number| full_record(owner, &issuer(number)))
-        .collect()
+/// Names of three labels governed in turn by many owners, which grant the same issuers.
+fn many_owners() -> Load {
+    let owner = |number: usize| format!("h{:04}.at", number % MANY_OWNERS);
+    let request = (0..REQUEST_NAMES).flat_map(|name| wire(&format!("w.{}", owner(name))));
+    let grants = BOOK_RECORDS / MANY_OWNERS;
+    let title = format!(
+        "{REQUEST_NAMES} names of three labels, {MANY_OWNERS} owners in turn, {grants} grants each"
+    );
+    let book = book_of(|record| {
+        let issuer = format!("ca{:04}.net", record / MANY_OWNERS);
+        full_record(&wire(&owner(record)), &issuer)
+    });
+    Load::new(title, request.collect(), book)
 }
 
 #[cfg(test)]
 mod tests {
     use super::*;
     use crate::answer::Permitted;
+    use crate::permitted::permitted_issuers;
 
-    /// The plain names have two issuers in common.
     #[test]
     fn every_load_makes_its_list() {
         let counts = loads().into_iter().map(|load| {
@@ -96,6 +147,15 @@ mod tests {
                 other => panic!("{}: {other}", load.title),
             }
         });
-        assert_eq!(counts.collect::<Vec<_>>(), [2, 256, 256, 128]);
+        let mut expected = vec![1; SHAPES.len()];
+        expected.extend([
+            BOOK_RECORDS / MANY_OWNERS,
+            BOOK_RECORDS / REQUEST_NAMES,
+            BOOK_RECORDS,
+            BOOK_RECORDS,
+            BOOK_RECORDS / 2,
+            1,
+        ]);
+        assert_eq!(counts.collect::<Vec<_>>(), expected);
     }
 }

@@ -1,32 +1,60 @@
-//! How long another implementation's calls take, next to ours: on plain inputs, and on the longest
-//! work that we can think of among inputs that are not refused. Nothing here says what is fast
-//! enough.
+//! How long the library's calls take, next to the independent implementation and the yardstick: on
+//! plain inputs, and on the longest work that we can think of among inputs that are not refused.
+//! Nothing here says what is fast enough.
 
 mod books;
 mod judge;
 mod lines;
 mod list;
 mod measure;
+mod shapes;
+pub mod yardstick;
 
 use crate::against::Other;
+use crate::limits::REQUEST_NAMES;
 pub use measure::{heading, Measured};
 
-/// Measures every call that the other has, load by load. Where answers differ nothing is measured;
-/// how they differ is told.
-pub fn run(other: &Other, mut tell: impl FnMut(Result<Measured, String>)) {
-    if let Some(theirs) = other.judge {
+/// Names of three labels in the loads that stand for a night run, where a request may have so many.
+const NIGHT_RUN_NAMES: usize = if REQUEST_NAMES < 200 {
+    REQUEST_NAMES
+} else {
+    200
+};
+
+/// Calls that are timed together where each has one name and one record.
+const CALLS_OF_ONE_NAME: usize = 1_000;
+
+/// The yardstick's calls, to be compared like those of another implementation.
+pub const YARDSTICK: Other = Other {
+    judge: Some(|request, issuer, book| Ok(yardstick::judge(request, issuer, book))),
+    permitted_issuers: Some(|request, book, buffer| {
+        Ok(yardstick::permitted_issuers(request, book, buffer))
+    }),
+    ..Other::NOTHING
+};
+
+/// Measures every call that the library has, on each load whose title has this text in it. Where
+/// answers differ nothing is measured; how they differ is told.
+pub fn run(library: &Other, text: &str, mut tell: impl FnMut(Result<Measured, String>)) {
+    if let Some(library) = library.judge {
         for load in judge::loads() {
-            tell(load.measure(theirs));
+            if load.title.contains(text) {
+                tell(load.measure(library));
+            }
         }
     }
-    if let Some(theirs) = other.permitted_issuers {
+    if let Some(library) = library.permitted_issuers {
         for load in list::loads() {
-            tell(load.measure(theirs));
+            if load.title.contains(text) {
+                tell(load.measure(library));
+            }
         }
     }
-    if let Some(theirs) = other.lines {
+    if let Some(library) = library.lines {
         for load in lines::loads() {
-            tell(load.measure(theirs));
+            if load.title.contains(text) {
+                tell(load.measure(library));
+            }
         }
     }
 }

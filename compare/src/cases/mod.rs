@@ -11,11 +11,12 @@ pub use reader::{read_cases, Case};
 pub use runner::{run, Report};
 
 /// Every stored case file, by name.
-pub const FILES: [(&str, &str); 9] = [
+pub const FILES: [(&str, &str); 10] = [
     ("whole-case.txt", include_str!("../../cases/whole-case.txt")),
     ("rfc8659.txt", include_str!("../../cases/rfc8659.txt")),
     ("values.txt", include_str!("../../cases/values.txt")),
     ("rule.txt", include_str!("../../cases/rule.txt")),
+    ("climb.txt", include_str!("../../cases/climb.txt")),
     ("permitted.txt", include_str!("../../cases/permitted.txt")),
     ("request.txt", include_str!("../../cases/request.txt")),
     ("issuer.txt", include_str!("../../cases/issuer.txt")),

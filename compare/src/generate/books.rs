@@ -25,9 +25,20 @@ impl Generator {
         octets
     }
 
+    /// Good records end to end, around the limit of their number. Most are short, so that so many have
+    /// room in a book.
     pub(super) fn many_records(&mut self) -> Vec<u8> {
         let records = BOOK_RECORDS - 1 + self.below(3);
-        (0..records).flat_map(|_| self.record()).collect()
+        let record = |_| {
+            if self.once_in(16) {
+                return self.record();
+            }
+            let owner = self.short_owner();
+            let tag = self.near_front(&KNOWN_TAGS);
+            let rdata = [&[0, tag.len() as u8], tag, &self.issuer()].concat();
+            self.record_of(owner, 257, 1, &rdata)
+        };
+        (0..records).flat_map(record).collect()
     }
 
     /// Many grants for one name, some of them twice and more.
@@ -47,13 +58,30 @@ impl Generator {
         (0..records).flat_map(grant).collect()
     }
 
+    /// A few records of the top labels, whose values hold names around the limits of issuer names.
+    pub(super) fn book_of_long_issuers(&mut self) -> Vec<u8> {
+        let records = 1 + self.below(4);
+        let grant = |_| {
+            let tag = self.near_front(&KNOWN_TAGS);
+            let rdata = [&[0, tag.len() as u8], tag, &self.issuer_around_limit()].concat();
+            let owner = self.top_name();
+            self.record_of(owner, 257, 1, &rdata)
+        };
+        (0..records).flat_map(grant).collect()
+    }
+
     /// One good record, CAA or not.
     pub fn record(&mut self) -> Vec<u8> {
         let owner = self.owner();
         if self.once_in(8) {
             let (rtype, class) = self.one_of(&[(1, 1), (257, 3), (1, 257), (5, 1)]);
-            let length = self.below(4);
-            let rdata = self.buffer(length);
+            // Often what would count in a CAA record.
+            let rdata = if self.once_in(2) {
+                self.caa_data()
+            } else {
+                let length = self.below(4);
+                self.buffer(length)
+            };
             self.record_of(owner, rtype, class, &rdata)
         } else {
             let rdata = self.caa_data();

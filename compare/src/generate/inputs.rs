@@ -17,38 +17,18 @@ pub struct Inputs {
 impl Generator {
     /// Inputs of any kind: mostly good, else damaged, too long or too many.
     pub fn inputs(&mut self) -> Inputs {
-        let request = match self.below(32) {
-            0 => self.long_request(),
-            1 => self.many_names(),
-            2..=4 => {
-                let request = self.request();
-                self.damaged(request)
+        let (request, book, issuer) = match self.below(24) {
+            0..=3 => {
+                let (request, book) = self.deep_request_and_book();
+                (request, book, self.any_issuer())
             }
-            5 => [self.request(), self.name_around_limit()].concat(),
-            _ => self.request(),
-        };
-        let book = match self.below(32) {
-            0 => self.long_book(),
-            1 => self.many_records(),
-            2..=4 => {
-                let book = self.book();
-                self.damaged(book)
-            }
-            5 => {
-                let owner = self.name_around_limit();
-                let rdata = self.caa_data();
-                [self.book(), self.record_of(owner, 257, 1, &rdata)].concat()
-            }
-            6 | 7 => self.crowded_book(),
-            _ => self.book(),
-        };
-        let issuer = match self.below(16) {
-            0 => {
-                let issuer = self.issuer();
-                self.damaged(issuer)
-            }
-            1 => self.issuer_around_limit(),
-            _ => self.issuer(),
+            // Issuer names around their limits on both sides, so that they meet.
+            4 => (
+                self.request(),
+                self.book_of_long_issuers(),
+                self.issuer_around_limit(),
+            ),
+            _ => (self.any_request(), self.any_book(), self.any_issuer()),
         };
         let room = if self.once_in(4) {
             self.below(12)
@@ -60,6 +40,48 @@ impl Generator {
             issuer,
             book,
             buffer: self.buffer(room),
+        }
+    }
+
+    fn any_request(&mut self) -> Vec<u8> {
+        match self.below(32) {
+            0 => self.long_request(),
+            1 | 2 => self.many_names(),
+            3..=5 => {
+                let request = self.request();
+                self.damaged(request)
+            }
+            6 => [self.request(), self.name_around_limit()].concat(),
+            _ => self.request(),
+        }
+    }
+
+    fn any_book(&mut self) -> Vec<u8> {
+        match self.below(32) {
+            0 => self.long_book(),
+            1 | 2 => self.many_records(),
+            3..=5 => {
+                let book = self.book();
+                self.damaged(book)
+            }
+            6 => {
+                let owner = self.name_around_limit();
+                let rdata = self.caa_data();
+                [self.book(), self.record_of(owner, 257, 1, &rdata)].concat()
+            }
+            7 | 8 => self.crowded_book(),
+            _ => self.book(),
+        }
+    }
+
+    fn any_issuer(&mut self) -> Vec<u8> {
+        match self.below(16) {
+            0 => {
+                let issuer = self.issuer();
+                self.damaged(issuer)
+            }
+            1 => self.issuer_around_limit(),
+            _ => self.issuer(),
         }
     }
 

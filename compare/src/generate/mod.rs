@@ -1,6 +1,7 @@
 //! Random inputs from a seed, and all short ones of some kinds.
 
 mod books;
+mod deep;
 mod every;
 mod inputs;
 mod lines;

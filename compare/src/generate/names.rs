@@ -50,8 +50,13 @@ impl Generator {
                 let octets = self.one_of(&[NAME_OCTETS, NAME_OCTETS - 2, NAME_OCTETS - 64]);
                 self.long_name(octets)
             }
-            _ => self.wire_labels(2, &LABELS),
+            _ => self.short_owner(),
         }
+    }
+
+    /// A name of one or two labels.
+    pub(super) fn short_owner(&mut self) -> Vec<u8> {
+        self.wire_labels(2, &LABELS)
     }
 
     /// A name a little under or over the limit of its octets, or of one label's.
@@ -84,11 +89,14 @@ impl Generator {
             wire.push(label.len() as u8);
             wire.extend(self.any_case(label));
         }
-        let top = self.near_front(&TOP_LABELS);
-        wire.push(top.len() as u8);
-        wire.extend(self.any_case(top));
-        wire.push(0);
+        wire.extend(self.top_name());
         wire
+    }
+
+    /// A name of a top label alone.
+    pub(super) fn top_name(&mut self) -> Vec<u8> {
+        let top = self.near_front(&TOP_LABELS);
+        [&[top.len() as u8], &self.any_case(top)[..], &[0]].concat()
     }
 }
 

@@ -5,7 +5,7 @@ use crate::book::read_property;
 use crate::buffer::put_at_front;
 use crate::limits::DATA_OCTETS;
 
-/// Writes CAA data as a line: flags, tag in small letters, value in double quotes.
+/// Writes CAA data as a line: flags, tag in lower case, value in double quotes.
 pub fn write_line(data: &[u8], buffer: &mut [u8]) -> Made {
     let written = line_of(data).and_then(|line| {
         put_at_front(&line, buffer)?;

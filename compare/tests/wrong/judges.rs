@@ -2,9 +2,13 @@
 
 use compare::against::Other;
 use compare::calls::Judge;
+use compare::limits::{BOOK_OCTETS, ISSUER_OCTETS, REQUEST_OCTETS};
 use compare::{judge, Answer, Refusal, Word};
 
 use super::found_at_random;
+
+const TOO_LONG_A_REQUEST: usize = REQUEST_OCTETS + 1;
+const TOO_LONG_A_BOOK: usize = BOOK_OCTETS + 1;
 
 #[test]
 fn wrong_judges_are_found_out() {
@@ -33,15 +37,21 @@ fn wrong_judges_are_found_out() {
         },
         // Refuses only what is an octet longer.
         |request, issuer, book| match request.len() {
-            8_193 => Ok(Answer::Permitted),
+            TOO_LONG_A_REQUEST => Ok(Answer::Permitted),
             _ => Ok(judge(request, issuer, book)),
         },
         |request, issuer, book| match book.len() {
-            32_769 => Ok(Answer::Permitted),
+            TOO_LONG_A_BOOK => Ok(Answer::Permitted),
             _ => Ok(judge(request, issuer, book)),
         },
         // Looks at no more of the issuer name than may be there.
-        |request, issuer, book| Ok(judge(request, &issuer[..issuer.len().min(253)], book)),
+        |request, issuer, book| {
+            Ok(judge(
+                request,
+                &issuer[..issuer.len().min(ISSUER_OCTETS)],
+                book,
+            ))
+        },
     ];
     for (number, judge) in wrong_ones.into_iter().enumerate() {
         let other = Other {

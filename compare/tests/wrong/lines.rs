@@ -57,7 +57,7 @@ fn all_are_found_out(wrong_ones: &[(&str, Convert)], lines: fn(Convert) -> Lines
 #[test]
 fn wrong_writers_are_found_out() {
     let wrong_ones: [(&str, Convert); 15] = [
-        ("keeps large letters in the tag", |data, buffer| {
+        ("keeps upper case in the tag", |data, buffer| {
             with_mistake(write_line, data, buffer, |mut line| {
                 let tag = line.iter().position(|&octet| octet == b' ').unwrap() + 1;
                 let octets = usize::from(data[1]);

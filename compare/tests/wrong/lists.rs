@@ -39,7 +39,7 @@ fn wrong_lists_are_found_out() {
             }
             Ok(answer)
         },
-        // Keeps large letters.
+        // Keeps upper case.
         |request, book, buffer| {
             let answer = permitted_issuers(request, book, buffer);
             if let (Permitted::List { octets: 1.., .. }, Some(octet)) = (answer, buffer.get_mut(1))

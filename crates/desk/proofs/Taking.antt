@@ -1,4 +1,4 @@
--- A file taken as a front of a buffer, and the line that was put.
+-- A file read as a prefix of a buffer, and the line that was written.
 use Prim.Native.Nat.{ℕ, _≤_}
 use native.Mathlib.Omega.{arith}
 use mathlib.Core.Path.{_≡_, refl}

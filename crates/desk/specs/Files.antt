@@ -1,4 +1,4 @@
--- What is known of a file that was read into a buffer. What stands in the file no contract can say.
+-- What the proofs know about a file that was read into a buffer. No contract can say what the file holds.
 use Prim.Native.Nat.{ℕ}
 use mathlib.Core.Path.{_≡_}
 use mathlib.Core.Bool.{false}
@@ -6,7 +6,7 @@ use mathlib.Core.List.{List}
 use Rattle.io.specs.Counts.{Counts}
 use Rattle.desk.specs.declared.FileRead.{FileRead}
 
--- its octets are a front of the buffer; none where it is missing or can't be read to its end
+-- The octets of the file are at the start of the buffer; none if the file is missing or a read failed.
 pub record Taken (file : FileRead) (buffer : List ℕ) : Type 0 where
   pub within : Counts (file .length) buffer
   pub nothing : file .found ≡ false → file .length ≡ 0

@@ -1,7 +1,8 @@
-// The desk program: reads request.bin, issuer.txt and book.bin in the current folder, and writes the desk's line.
+// The desk program: reads request.bin, issuer.txt and book.bin in the current folder, and prints one line.
 //
-// Proved: from the octets handed to it, put_desk_line makes the line of desk_text's definition, and no read passes its buffer. No contract can speak
-// of the outside: which file goes where is held by runs, and that open, read and write do what they say is assumed.
+// Proved: put_desk_line makes the line of spec_desk's definition deskLine from the octets given to it, and no read goes past its buffer.
+// Not proved, because no contract can speak about files: that each file goes to its parameter (the runs test it), and that open, read and
+// write do what they should (assumed).
 use libc::STDOUT_FILENO;
 use spec_desk::LINE_OCTETS;
 use spec_limits::MAX_BOOK_OCTETS;
@@ -9,20 +10,20 @@ use spec_limits::MAX_ISSUER_OCTETS;
 use spec_limits::MAX_REQUEST_OCTETS;
 ghost use Rattle.desk.specs.Files.{Taken};
 
-// One octet more than the limit, so that a file over it is refused and not cut.
+// One octet more than the limit, so that a longer file is refused and not truncated.
 const REQUEST_ROOM: usize = MAX_REQUEST_OCTETS + 1;
 
 const ISSUER_ROOM: usize = MAX_ISSUER_OCTETS + 1;
 
 const BOOK_ROOM: usize = MAX_BOOK_OCTETS + 1;
 
-// A file as it was read: whether it is there, and how many octets of it now stand at the front of the buffer.
+// The result of reading a file: whether it could be read, and how many of its octets are at the start of the buffer.
 struct FileRead {
     pub found: bool,
     pub length: usize,
 }
 
-// Reads to the file's end, or until the buffer is full. A read that fails makes the file a missing one, never a short one.
+// Reads to the end of the file, or until the buffer is full. If a read fails, the file counts as missing, never as a shorter file.
 fn read_open(fd: i32, out: &mut [u8]) -> FileRead
     ensures { λ r. ⌜ Taken r (now (out .exit)) ⌝ }
 {
@@ -50,7 +51,7 @@ fn read_open(fd: i32, out: &mut [u8]) -> FileRead
     }
 }
 
-// A file of the current folder.
+// Reads a file of the current folder.
 fn read_file(path: &[u8], out: &mut [u8]) -> FileRead
     ensures { λ r. ⌜ Taken r (now (out .exit)) ⌝ }
 {
@@ -82,6 +83,6 @@ fn main() {
         &book[..booked],
         &mut line,
     );
-    // A failed write can be told to nobody.
+    // A failed write can't be reported to anybody.
     io::write_all(STDOUT_FILENO, &line[..n]);
 }

@@ -1,4 +1,4 @@
--- The line of each answer, put.
+-- The line of each answer, as written.
 use Prim.Native.Nat.{ℕ}
 use native.Mathlib.Omega.{arith}
 use mathlib.Core.Path.{_≡_}

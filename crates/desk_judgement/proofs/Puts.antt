@@ -1,4 +1,4 @@
--- Pieces of a line put one behind the other.
+-- Pieces of a line written one after the other.
 use Prim.Native.Nat.{ℕ, _+_, _-_, _^_, _≤_, _<_}
 use native.Mathlib.Omega.{arith}
 use mathlib.Core.Path.{_≡_, refl, _∙_}

@@ -1,4 +1,4 @@
-// The line of a judgement, put at the front of a lent buffer.
+// Writes the line of a judgement at the start of the buffer.
 use spec_desk::LINE_OCTETS;
 use spec_rule::Denial;
 use spec_rule::Judgement;
@@ -9,7 +9,7 @@ ghost use Rattle.spec_octets.specs.Buffer.{Put};
 ghost use Rattle.spec_octets.specs.WrittenDecimal.{decimal};
 ghost use Rattle.spec_desk.specs.Lines.{lineEnd, numbered, denialText, judgementLine};
 
-// A text and a number.
+// Writes a text and a number.
 fn put_number(first: &[u8], n: u64, out: &mut [u8]) -> usize
     requires { ⌜ length (now first) + 20 ≤ length (now out) ⌝ }
     ensures { λ r. ⌜ Put (now (first .entry) ++ decimal n) (now (out .entry)) (now (out .exit)) r ⌝ }
@@ -19,7 +19,7 @@ fn put_number(first: &[u8], n: u64, out: &mut [u8]) -> usize
     w + text_decimal::put_decimal(n, &mut out[w..])
 }
 
-// A line of a text, a number, a text and a number.
+// Writes a line of a text, a number, a text and a number.
 fn put_numbered(first: &[u8], a: u64, second: &[u8], b: u64, out: &mut [u8]) -> usize
     requires { ⌜ length (now first) + length (now second) + 41 ≤ length (now out) ⌝ }
     ensures { λ r. ⌜ Put (numbered (now (first .entry)) a (now (second .entry)) b ++ (lineEnd ∷ [])) (now (out .entry)) (now (out .exit)) r ⌝ }
@@ -30,7 +30,7 @@ fn put_numbered(first: &[u8], a: u64, second: &[u8], b: u64, out: &mut [u8]) -> 
     e + 1
 }
 
-// The line of a denial, from its first words on.
+// Writes the line of a denial; `first` is its first words.
 fn put_denial(first: &[u8], d: Denial, out: &mut [u8]) -> usize
     requires { ⌜ length (now first) + 49 ≤ length (now out) ⌝ }
     ensures { λ r. ⌜ Put (denialText (now (first .entry)) d ++ (lineEnd ∷ [])) (now (out .entry)) (now (out .exit)) r ⌝ }
@@ -40,7 +40,7 @@ fn put_denial(first: &[u8], d: Denial, out: &mut [u8]) -> usize
     put_numbered(first, name.0 as u64, b" record ", rr.0 as u64, out)
 }
 
-// The line of a judgement.
+// Writes the line of a judgement.
 pub fn put_judgement(j: Judgement, out: &mut [u8; LINE_OCTETS]) -> usize
     ensures { λ r. ⌜ Put (judgementLine j) (now (out .entry)) (now (out .exit)) r ⌝ }
 {

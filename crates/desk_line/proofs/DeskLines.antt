@@ -1,4 +1,4 @@
--- The desk's line, put: without a book, and with one.
+-- The desk program's line, as written: without a book, and with one.
 use Prim.Native.Nat.{ℕ}
 use native.Mathlib.Omega.{arith}
 use mathlib.Core.Path.{_≡_}

@@ -1,9 +1,9 @@
-// The line of the desk program, from what its files hold.
+// The line of the desk program, from the contents of its files.
 use spec_desk::LINE_OCTETS;
 ghost use Rattle.spec_octets.specs.Buffer.{Put};
 ghost use Rattle.spec_desk.specs.Lines.{deskLine};
 
-// The desk's line, at the front of the lent buffer, from the request, the issuer domain name and the book, where there is a book.
+// Writes the line at the start of the buffer. If there is no book (`found` is false), the line is `no book`.
 pub fn put_desk_line(
     found: bool,
     request: &[u8],

@@ -1,3 +1,4 @@
-pub mod NameWays
+pub mod AskedLaws
+pub mod TableMade
 pub mod NameWalk
 pub mod Exactly

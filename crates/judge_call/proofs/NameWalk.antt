@@ -2,14 +2,14 @@
 use Prim.Native.Nat.{ℕ, suc, _≤_, _<_, _+_, _-_}
 use native.Mathlib.Numerals.{add-one}
 use native.Mathlib.Omega.{arith}
-use mathlib.Core.Path.{_≡_, refl, sym, ap, _∙_}
+use mathlib.Core.Path.{_≡_, sym, ap, _∙_}
+use mathlib.Core.Logic.{⊎-elim}
 use mathlib.Core.Bool.{Bool, true, false, cond}
 use mathlib.Core.List.{List, map}
 use mathlib.Core.Option.{none}
 use lib.ListN.{length, take, drop}
-use Rattle.spec_limits.specs.Limits.{maxNames}
-use Rattle.spec_octets.specs.Lists.{any}
-use Rattle.spec_octets.specs.Octets.{same, lowered}
+use Rattle.spec_limits.specs.Limits.{maxNames, maxRecords}
+use Rattle.spec_octets.specs.Lists.{All}
 use Rattle.spec_octets.proofs.ListLaws.{All-head, All-tail}
 use Rattle.spec_refusal.specs.Checks.{checked}
 use Rattle.spec_refusal.proofs.Checked.{refused, accepted}
@@ -25,43 +25,44 @@ use Rattle.read_request.specs.declared.RequestedRead.the-variants.{Good, Fault}
 use Rattle.spec_request.specs.Request.{isWildcard, base, requestedNames}
 use Rattle.read_request.specs.Places.{requestedAt}
 use Rattle.read_request.proofs.RequestPlaces.{requested-there}
+use Rattle.spec_request.proofs.RequestedNames.{good-base}
 use Rattle.read_request.proofs.AcceptedNames.{NamesLeft, NextName, all-names, names-end, names-few, names-good, next-name}
-use Rattle.spec_record.specs.Records.{records, bookRefusal}
+use Rattle.spec_record.specs.Records.{records}
 use Rattle.spec_rule.specs.declared.Judgement.{Judgement}
 use Rattle.spec_rule.specs.declared.Judgement.the-variants.{Permitted, UnknownCritical, NotGranted, Refused}
 use Rattle.spec_rule.specs.RelevantSet.{caaRecords}
-use Rattle.spec_rule.specs.Authorizations.{Authorization, unrestricted, forbidden, granted, authorization, permits}
+use Rattle.spec_rule.specs.Authorizations.{Authorization, authorization, permits}
 use Rattle.spec_rule.specs.Verdicts.{denied, verdictFrom, verdict}
 use Rattle.spec_rule.specs.Calls.{authorizations, firstRefusal, judgeChecks, judge}
 use Rattle.read_inputs.proofs.CheckLaws.{none-refuses}
-use Rattle.book_relevant.proofs.ByPlace.{authorization-by-place}
-use Rattle.judge_name.specs.declared.NameVerdict.{NameVerdict}
-use Rattle.judge_name.specs.declared.NameVerdict.the-variants.{Permitted as Passed, UnknownCritical as Critical, NotGranted as Ungranted}
-use Rattle.judge_name.specs.NameVerdicts.{verdictOf}
-use Rattle.judge_call.specs.Places.{nameVerdict}
+use Rattle.book_places.specs.declared.Governing.{Governing}
+use Rattle.book_places.specs.declared.NameAuthorization.{NameAuthorization}
+use Rattle.book_places.specs.declared.NameAuthorization.the-variants.{Unrestricted, Forbidden, Governed}
+use Rattle.book_places.specs.Sets.{setGrants}
+use Rattle.book_places.specs.NameAuthorizations.{nameAuthorization, meaning}
+use Rattle.book_places.proofs.ChainedRecords.{chains-fit}
+use Rattle.book_places.proofs.AuthorizationLaws.{authorization-by-offset, set-grants}
+use Rattle.book_places.proofs.Bounds.{authorization-bounds}
+use Rattle.judge_call.specs.Asked.{Ready, Noted}
 
--- the judgement after one name, where j is that of the names behind it
-abbrev onward : ℕ → Judgement → NameVerdict → Judgement
-onward k j Passed = j
-onward k j (Critical rr) = UnknownCritical (record { name = record { 0 = k }; rr = rr })
-onward k j (Ungranted rr) = NotGranted (record { name = record { 0 = k }; rr = rr })
+-- what governs has notes of its own, in chains that have a link for each record
+noted :
+    (book table links heads x : List ℕ) (wildcard : Bool) (g : Governing) → length links ≡ maxRecords →
+    nameAuthorization book table links heads x wildcard ≡ Governed g → Noted g
+noted book table links heads x wildcard g long e =
+    let (below, first, tag) = authorization-bounds book table links heads x wildcard .0 g e in
+    record { below = omega (arith, below, long); tag = ⊎-elim (λ t. rw t) (λ t. rw t) tag }
 
-onward-same : (issuer : List ℕ) (k : ℕ) (j : Judgement) (a : Authorization) → cond (permits issuer a) j (denied k a) ≡ onward k j (verdictOf issuer a)
-onward-same issuer k j unrestricted = refl
-onward-same issuer k j (forbidden r) = refl
-onward-same issuer k j (granted r ns) = go (any (same (lowered issuer)) ns)
-  where
-    go : (t : Bool) → cond t j (denied k (granted r ns)) ≡ onward k j (cond t Passed (Ungranted (record { 0 = r })))
-    go true = refl
-    go false = refl
+-- the checks that come before
+module _ (request issuer book : List ℕ) (c : Check) (f : c ≡ checked (firstRefusal (judgeChecks request issuer book))) where
+  pub input-refused : (r : Refusal) → c ≡ CheckRefused r → Refused r ≡ judge request issuer book
+  unfolding judge
+  input-refused r g = rw (refused (firstRefusal (judgeChecks request issuer book)) f r g)
 
-by-place :
-    (book : List ℕ) → bookRefusal book ≡ none → (issuer : List ℕ) (n : Name) → GoodName n → {s : List ℕ} {wildcard : Bool} →
-    s ≡ wire (base n) → wildcard ≡ isWildcard n → nameVerdict book s wildcard issuer ≡ verdictOf issuer (authorization (caaRecords (records book)) n)
-unfolding nameVerdict
-by-place book e issuer n good x y = rw (x, y, authorization-by-place book e n good)
+  pub none-refused : c ≡ Accepted → firstRefusal (judgeChecks request issuer book) ≡ none
+  none-refused g = accepted (firstRefusal (judgeChecks request issuer book)) f g
 
-module _ (request issuer book : List ℕ) where
+module _ (request issuer book table links heads : List ℕ) where
   abbrev said : Name → Authorization
   said n = authorization (caaRecords (records book)) n
 
@@ -70,26 +71,29 @@ module _ (request issuer book : List ℕ) where
     pub names : List Name
     pub left : NamesLeft request at k names
     pub answer : judge request issuer book ≡ verdictFrom k issuer (map said names)
-    pub good-book : bookRefusal book ≡ none
+    pub ready : Ready request issuer book table links heads
 
-  -- the checks that come before
-  module _ (c : Check) (f : c ≡ checked (firstRefusal (judgeChecks request issuer book))) where
-    pub input-refused : (r : Refusal) → c ≡ CheckRefused r → Refused r ≡ judge request issuer book
-    unfolding judge
-    input-refused r g = rw (refused (firstRefusal (judgeChecks request issuer book)) f r g)
+  module _ (ready : Ready request issuer book table links heads) where
+    passes : All (λ check. check ≡ none) (judgeChecks request issuer book)
+    passes = none-refuses (judgeChecks request issuer book) (ready .accepted)
 
-    module _ (g : c ≡ Accepted) where
-      none-refused : firstRefusal (judgeChecks request issuer book) ≡ none
-      none-refused = accepted (firstRefusal (judgeChecks request issuer book)) f g
+    pub names-start : (at k : ℕ) → at ≡ 0 → k ≡ 0 → Judged at k
+    unfolding judge authorizations verdict
+    names-start at k a b = rw (a, b) (record {
+      names = requestedNames request;
+      left = all-names request (All-head passes);
+      answer = rw (ready .accepted);
+      ready = ready;
+    })
 
-      pub names-start : (at k : ℕ) → at ≡ 0 → k ≡ 0 → Judged at k
-      unfolding judge authorizations verdict
-      names-start at k a b = rw (a, b) (record {
-        names = requestedNames request;
-        left = all-names request (All-head (none-refuses (judgeChecks request issuer book) none-refused));
-        answer = rw none-refused;
-        good-book = All-head (All-tail (All-tail (none-refuses (judgeChecks request issuer book) none-refused)));
-      })
+    -- what is said of a good name, by the table and the chains
+    by-table :
+        (n : Name) → GoodName n → {s : List ℕ} {wildcard : Bool} → s ≡ wire (base n) → wildcard ≡ isWildcard n →
+        meaning book table links (nameAuthorization book table links heads s wildcard) ≡ said n
+    unfolding authorization
+    by-table n good x y =
+        rw (ready .rows, ready .chained, ready .headed, x, y)
+        (authorization-by-offset book (base n) (isWildcard n) (All-head (All-tail (All-tail passes))) (good-base n good))
 
   module _ (at k : ℕ) (w : Judged at k) where
     pub all-passed : length request ≤ at → Permitted ≡ judge request issuer book
@@ -110,25 +114,36 @@ module _ (request issuer book : List ℕ) where
           this : NextName request k (w .names) r
           this = next-name request (w .left) h o f r g
 
-          module _ (v : NameVerdict) (d : v ≡ nameVerdict book (take (r .next - r .base) (drop (r .base) request)) (r .wildcard) issuer) where
+          module _ (a : NameAuthorization)
+              (d : a ≡ nameAuthorization book table links heads (take (r .next - r .base) (drop (r .base) request)) (r .wildcard)) where
             abbrev behind : Judgement
             behind = verdictFrom (suc k) issuer (map said (this .others))
 
-            by-name : judge request issuer book ≡ onward k behind v
+            by-name : judge request issuer book ≡ cond (permits issuer (meaning book table links a)) behind (denied k (meaning book table links a))
             by-name =
                 w .answer ∙ ap (λ ns. verdictFrom k issuer (map said ns)) (this .split)
-                ∙ onward-same issuer k behind (said (this .first)) ∙ ap (onward k behind) (sym (d ∙ by-place book (w .good-book) issuer (this .first) (this .good) (this .octets) (this .wild)))
+                ∙ ap (λ v. cond (permits issuer v) behind (denied k v))
+                (sym (ap (meaning book table links) d ∙ by-table (w .ready) (this .first) (this .good) (this .octets) (this .wild)))
 
-            pub name-critical : (rr : RecordNo) → v ≡ Critical rr → UnknownCritical (record { name = record { 0 = k }; rr = rr }) ≡ judge request issuer book
+            passed : judge request issuer book ≡ behind → (k′ : ℕ) → k′ ≡ k + 1 → Judged (r .next) k′
+            passed e k′ i = rw (i, add-one) (record { names = this .others; left = this .after; answer = e; ready = w .ready })
+
+            pub name-unrestricted : a ≡ Unrestricted → (k′ : ℕ) → k′ ≡ k + 1 → Judged (r .next) k′
+            name-unrestricted e = passed (by-name ∙ rw e)
+
+            pub name-critical : (rr : RecordNo) → a ≡ Forbidden rr → UnknownCritical (record { name = record { 0 = k }; rr = rr }) ≡ judge request issuer book
             name-critical rr e = sym (by-name ∙ rw e)
 
-            pub name-ungranted : (rr : RecordNo) → v ≡ Ungranted rr → NotGranted (record { name = record { 0 = k }; rr = rr }) ≡ judge request issuer book
-            name-ungranted rr e = sym (by-name ∙ rw e)
+            module _ (y : Governing) (e : a ≡ Governed y) where
+              pub name-noted : Noted y
+              name-noted = noted book table links heads _ (r .wildcard) y (rw (w .ready .chained) (chains-fit book .0)) (sym d ∙ e)
 
-            pub name-passed : v ≡ Passed → (k′ : ℕ) → k′ ≡ k + 1 → Judged (r .next) k′
-            name-passed e k′ i = rw (i, add-one) (record {
-              names = this .others;
-              left = this .after;
-              answer = by-name ∙ rw e;
-              good-book = w .good-book;
-            })
+              module _ (b : Bool) (q : b ≡ setGrants (y .tag) issuer book table links (y .set .0)) where
+                by-grant : judge request issuer book ≡ cond b behind (NotGranted (record { name = record { 0 = k }; rr = y .first }))
+                by-grant = by-name ∙ rw (e, ← set-grants book table links issuer (y .tag) (y .set .0), ← q)
+
+                pub name-ungranted : b ≡ false → NotGranted (record { name = record { 0 = k }; rr = y .first }) ≡ judge request issuer book
+                name-ungranted h = sym (by-grant ∙ rw h)
+
+                pub name-granted : b ≡ true → (k′ : ℕ) → k′ ≡ k + 1 → Judged (r .next) k′
+                name-granted h = passed (by-grant ∙ rw h)

@@ -1,4 +1,4 @@
--- CAA data put together: flags, tag length and tag, and then the value.
+-- CAA data from its parts: flags, tag length and tag, and then the value.
 use Prim.Native.Nat.{ℕ, _+_, _-_, _≤_, _<_, _^_}
 use native.Mathlib.Omega.{arith}
 use mathlib.Core.Path.{_≡_, refl}

@@ -1,4 +1,4 @@
--- The ways out of write_data: what writeData is at each, from what the code has found.
+-- The returns of write_data: what writeData is at each, from what the code has found.
 use Prim.Native.Nat.{ℕ, _≤_, _<_, _+_, _-_}
 use native.Mathlib.Omega.{arith}
 use mathlib.Core.Path.{_≡_, refl, sym, _∙_}

@@ -1,4 +1,4 @@
--- Loops from unit to unit: counting the octets that units stand for, and putting them.
+-- Loops over written octets: counting the octets that they stand for, and writing these.
 use Prim.Native.Nat.{ℕ, _+_, _≤_, _<_, _^_}
 use native.Mathlib.Nat.{zero-add}
 use native.Mathlib.Numerals.{add-one}

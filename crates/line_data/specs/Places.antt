@@ -1,4 +1,4 @@
--- Definitions for code: the octets that units stand for, and CAA data by its parts.
+-- What the code of this crate computes: the octets that a sequence of written octets stands for, and CAA data from its parts.
 use Prim.Native.Nat.{ℕ}
 use mathlib.Core.Bool.{Bool, cond}
 use mathlib.Core.List.{List, [], _∷_}
@@ -15,7 +15,7 @@ use Rattle.line_octet.specs.Places.{plainIn}
 use Rattle.line_data.specs.declared.UnescapedCount.{UnescapedCount}
 use Rattle.line_data.specs.declared.UnescapedCount.the-variants.{Units, Fault as NoCount}
 
--- the octets that units stand for: how many, whether all of s is units, and themselves
+-- The value that s stands for, as a sequence of written octets: its length, whether it has one, and the value itself.
 abbrev pub countRead : Option (List ℕ) → UnescapedCount
 countRead none = NoCount
 countRead (some v) = Units (length v)
@@ -33,14 +33,14 @@ octetsIn (some v) = v
 abbrev pub unescapedOctets : Style → List ℕ → List ℕ
 unescapedOctets style s = octetsIn (unescaped (plainIn style) s)
 
--- the data of a property, by its parts
+-- CAA data from flags, tag and value: without the value, and whole.
 abbrev pub dataHead : ℕ → List ℕ → List ℕ
 dataHead f t = f ∷ length t ∷ t
 
 abbrev pub dataOf : ℕ → List ℕ → List ℕ → List ℕ
 dataOf f t v = wireProperty (record { flags = f; tag = t; value = v })
 
--- the data placed; refusal 9 where the units stand for no value, or the tag is too long for its length octet
+-- Writes the data to the buffer. Refusal 9 if s is not a sequence of written octets, or if the tag is too long for its length octet.
 abbrev pub taggedProperty : ℕ → List ℕ → Option (List ℕ) → Option Property
 taggedProperty f t none = none
 taggedProperty f t (some v) = cond (leb (length t) maxTagOctets) (some (record { flags = f; tag = t; value = v })) none

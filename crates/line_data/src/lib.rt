@@ -1,4 +1,4 @@
-// The CAA data of a property, given by its flags, its tag and the units of a line that stand for its value.
+// Writes the CAA data of a property, given its flags, its tag and the written octets of its value.
 use line_octet::Style;
 use line_octet::WrittenOctetRead;
 use spec_limits::MAX_DATA_OCTETS;
@@ -13,7 +13,7 @@ ghost use Rattle.spec_limits.specs.Limits.{maxTagOctets};
 ghost use Rattle.spec_octets.specs.Buffer.{Put};
 ghost use Rattle.line_data.specs.Places.{unescapedCount, isEscapedText, unescapedOctets, dataHead, dataOf, writeData};
 
-// How many octets a value stands for.
+// How many octets the value has.
 enum UnescapedCount {
     Units(usize),
     Fault,
@@ -34,7 +34,7 @@ fn count_unescaped(s: &[u8], style: Style) -> UnescapedCount
     UnescapedCount::Units(n)
 }
 
-// The octets that a value stands for.
+// Writes the value that the written octets stand for.
 fn put_unescaped(s: &[u8], style: Style, out: &mut [u8]) -> usize
     requires { ⌜ isEscapedText style (now s) ≡ true ⌝ }
     requires { ⌜ length (unescapedOctets style (now s)) ≤ length (now out) ⌝ }
@@ -53,7 +53,7 @@ fn put_unescaped(s: &[u8], style: Style, out: &mut [u8]) -> usize
     w
 }
 
-// Flags, tag length and tag of CAA data.
+// Writes flags, tag length and tag.
 fn put_tag(flags: u8, tag: &[u8], out: &mut [u8]) -> usize
     requires { ⌜ length (now tag) ≤ maxTagOctets ⌝ }
     requires { ⌜ length (dataHead flags (now tag)) ≤ length (now out) ⌝ }
@@ -64,7 +64,7 @@ fn put_tag(flags: u8, tag: &[u8], out: &mut [u8]) -> usize
     2 + text_buffer::put_octets(tag, &mut out[2..])
 }
 
-// CAA data, its value from its units.
+// Writes the CAA data. `units` are the written octets of the value.
 fn put_data(flags: u8, tag: &[u8], units: &[u8], style: Style, out: &mut [u8]) -> usize
     requires { ⌜ length (now tag) ≤ maxTagOctets ⌝ }
     requires { ⌜ isEscapedText style (now units) ≡ true ⌝ }
@@ -75,8 +75,8 @@ fn put_data(flags: u8, tag: &[u8], units: &[u8], style: Style, out: &mut [u8]) -
     w + put_unescaped(units, style, &mut out[w..])
 }
 
-// A property to its CAA data, at the front of the lent buffer; nothing is written before the room is known to be enough, nor where the tag
-// is too long for its length octet.
+// Writes the CAA data of a property at the start of the buffer. Nothing is written unless the buffer is long enough and the tag fits its
+// length octet.
 pub fn write_data(
     flags: u8,
     tag: &[u8],

@@ -1,4 +1,4 @@
--- An octet of a value escaped, and put at the front of a buffer.
+-- One octet of a value, escaped and written at the start of a buffer.
 use Prim.Native.Nat.{ℕ, _+_, _-_, _≤_, _<_}
 use native.Mathlib.Omega.{arith}
 use mathlib.Core.Path.{_≡_, refl}

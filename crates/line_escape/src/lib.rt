@@ -1,10 +1,10 @@
-// An octet of a value as it stands between quotes in a line: itself, behind a backslash, or a backslash and three digits.
+// How one octet of a value is written in quotes: as itself, as \X (a backslash and the octet), or as \DDD.
 ghost use mathlib.Core.Path.{_≡_};
 ghost use lib.ListN.{length};
 ghost use Rattle.spec_octets.specs.Buffer.{filled, filledLength};
 ghost use Rattle.spec_line.specs.Written.{escaped};
 
-// How many octets an octet of a value takes between quotes.
+// How many octets one octet of a value takes in quotes.
 pub fn escaped_length(octet: u8) -> usize
     ensures { λ r. ⌜ r ≡ length (escaped octet) ⌝ }
 {
@@ -23,7 +23,8 @@ pub fn escaped_length(octet: u8) -> usize
     1
 }
 
-// An octet of a value as it stands between quotes; where there is no room nothing is put, and the answer is 0.
+// Writes one octet of a value as it is in quotes, and returns how many octets that took. If they don't fit, nothing is written and 0 is
+// returned.
 pub fn put_escaped(b: u8, out: &mut [u8]) -> usize
     ensures answer { λ r. ⌜ r ≡ filledLength (escaped b) (now (out .entry)) ⌝ }
     ensures octets { λ r. ⌜ now (out .exit) ≡ filled (escaped b) (now (out .entry)) ⌝ }

@@ -1,4 +1,4 @@
--- Where a field that begins at a place ends, found by walking.
+-- The end of a field that begins at an offset, found octet by octet.
 use Prim.Native.Nat.{ℕ, _+_, _≤_, _<_}
 use native.Mathlib.Omega.{arith}
 use mathlib.Core.Path.{_≡_, sym, _∙_}

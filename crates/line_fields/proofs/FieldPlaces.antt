@@ -1,4 +1,4 @@
--- Fields of a line by their places: a field ends at its first blank, and the next begins where the blanks end.
+-- Fields of a line by offsets: a field ends at its first white space, and the next begins after the white space.
 use Prim.Native.Nat.{ℕ, _+_, _-_, _≤_, _<_}
 use native.Mathlib.Omega.{arith}
 use mathlib.Core.Path.{_≡_, refl, sym, ap, _∙_}

@@ -1,4 +1,4 @@
--- Definitions for code: a field of a line by its places.
+-- A field of a line, as offsets into the line.
 use Prim.Native.Nat.{ℕ, _+_}
 use mathlib.Core.Bool.{cond}
 use mathlib.Core.List.{List, [], _∷_}
@@ -10,16 +10,16 @@ use Rattle.spec_line.specs.Read.{field}
 use Rattle.line_fields.specs.declared.FieldRead.{FieldRead}
 use Rattle.line_fields.specs.declared.FieldRead.the-variants.{Good as GoodField, Fault as NoField}
 
--- the octets at the front that are no blanks
+-- The octets before the first white space.
 abbrev pub unblanks : List ℕ → List ℕ
 unblanks [] = []
 unblanks (x ∷ s) = cond (isBlank x) [] (x ∷ unblanks s)
 
--- where those end that begin at a place
+-- The offset of the first white space from offset `at` on; the end of s if there is none.
 unfoldable pub fieldEnd : List ℕ → ℕ → ℕ
 fieldEnd s at = at + length (unblanks (drop at s))
 
--- a field by its places
+-- The field that begins at offset `at`: where it ends, and where the next field begins.
 abbrev pub fieldPlaces : List ℕ → ℕ → Option (List ℕ × List ℕ) → FieldRead
 fieldPlaces s at none = NoField
 fieldPlaces s at (some r) = GoodField (record { end = at + length (r .0); next = placeOf s (r .1) })

@@ -1,8 +1,8 @@
-// The fields of a line, which blanks end: where each ends, and where the next begins.
+// The fields of a line, separated by white space: where each ends, and where the next begins.
 ghost use mathlib.Core.Path.{_≡_};
 ghost use Rattle.line_fields.specs.Places.{fieldEnd, fieldAt};
 
-// Where the octets that are no blanks, from a place on, end.
+// The offset of the first white space from offset `at` on; the end of s if there is none.
 fn field_end(s: &[u8], at: usize) -> usize
     ensures { λ r. ⌜ r ≡ fieldEnd (now (s .entry)) at ⌝ }
 {
@@ -16,7 +16,7 @@ fn field_end(s: &[u8], at: usize) -> usize
     e
 }
 
-// A field of a line: where it ends, and where the next begins, behind the blanks.
+// Where a field ends, and where the next begins, after the white space.
 pub struct FieldAt {
     pub end: usize,
     pub next: usize,
@@ -27,7 +27,7 @@ pub enum FieldRead {
     Fault,
 }
 
-// The field that begins at a place; a fault where no blank ends it.
+// The field that begins at offset `at`; a fault if no white space follows it.
 pub fn read_field(s: &[u8], at: usize) -> FieldRead
     ensures { λ r. ⌜ r ≡ fieldAt (now (s .entry)) at ⌝ }
 {

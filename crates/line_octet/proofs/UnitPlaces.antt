@@ -1,4 +1,4 @@
--- Units by their places: the laws of escapeAt and writtenOctetAt for each way out of the code.
+-- Written octets by offsets: a law of escapeAt and writtenOctetAt for each return of the code.
 use Prim.Native.Nat.{ℕ, _+_, _-_, _≤_, _<_}
 use native.Mathlib.Omega.{arith}
 use mathlib.Core.Path.{_≡_, refl, sym, _∙_}

@@ -1,4 +1,4 @@
--- Loops from unit to unit: what is left of the units gives the octets that follow.
+-- Loops over written octets: the remaining ones give the octets that follow.
 use Prim.Native.Nat.{ℕ, zero, suc, _+_, _-_, _≤_, _<_}
 use native.Mathlib.Omega.{arith}
 use mathlib.Core.Path.{_≡_, refl, sym, ap, _∙_}

@@ -1,4 +1,4 @@
--- Definitions for code: a unit by its places.
+-- A written octet (spec_line's WrittenOctet), as offsets into the line: the same definitions for code that walks a slice.
 use Prim.Native.Nat.{ℕ}
 use mathlib.Core.Bool.{Bool}
 use mathlib.Core.List.{List}
@@ -11,7 +11,7 @@ use Rattle.line_octet.specs.declared.Style.the-variants.{Quoted, Bare}
 use Rattle.line_octet.specs.declared.WrittenOctetRead.{WrittenOctetRead}
 use Rattle.line_octet.specs.declared.WrittenOctetRead.the-variants.{Good as UnitThere, Fault as NoUnit}
 
--- the octets that stand for themselves
+-- The octets that need no escape.
 abbrev pub plainIn : Style → ℕ → Bool
 plainIn Quoted x = isInQuotes x
 plainIn Bare x = isBare x
@@ -20,7 +20,7 @@ abbrev pub writtenOctetPlaces : List ℕ → Option (WrittenOctet × List ℕ) �
 writtenOctetPlaces s none = NoUnit
 writtenOctetPlaces s (some r) = UnitThere (record { octet = valueOf (r .0); next = placeOf s (r .1) })
 
--- the unit that begins at a place, and what stands behind its backslash
+-- What follows a backslash, from offset `at` on; and the written octet that begins at offset `at`.
 unfoldable pub escapeAt : List ℕ → ℕ → WrittenOctetRead
 escapeAt s at = writtenOctetPlaces s (escape (drop at s))
 

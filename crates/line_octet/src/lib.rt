@@ -1,16 +1,16 @@
-// What stands for one octet of a value in a line: the octet itself, a backslash and an octet, or a backslash and three digits.
+// Written octets: what stands for one octet of a value in a line. It is the octet itself, \X (a backslash and a character) or \DDD.
 use text_decimal::OctetRead;
 ghost use mathlib.Core.Path.{_≡_};
 ghost use Rattle.spec_line.specs.Read.{isInQuotes, isBare};
 ghost use Rattle.line_octet.specs.Places.{plainIn, escapeAt, writtenOctetAt};
 
-// How a value is written: between quotes, or bare.
+// How a value is written: in quotes, or bare.
 pub enum Style {
     Quoted,
     Bare,
 }
 
-// Octets that stand for themselves between quotes, and bare.
+// The octets that need no escape: in quotes, and bare.
 fn is_in_quotes(b: u8) -> bool
     ensures { λ r. ⌜ r ≡ isInQuotes b ⌝ }
 {
@@ -53,7 +53,7 @@ fn stands_for_itself(b: u8, style: Style) -> bool
     }
 }
 
-// What stands for one octet of a value: that octet, and where it ends.
+// The octet that a written octet stands for, and the offset after it.
 pub struct WrittenOctetAt {
     pub octet: u8,
     pub next: usize,
@@ -64,7 +64,7 @@ pub enum WrittenOctetRead {
     Fault,
 }
 
-// What stands behind a backslash: three digits up to 255, or an octet 32 to 126 that is no digit.
+// What follows a backslash: three digits up to 255, or a non-digit 32 to 126.
 fn read_escape(s: &[u8], at: usize) -> WrittenOctetRead
     ensures { λ r. ⌜ r ≡ escapeAt (now (s .entry)) at ⌝ }
 {

@@ -1,4 +1,4 @@
--- A line by its places: the law of lineAt for each way out of read_fields, and what the places say of the property read.
+-- A line by offsets: a law of lineAt for each return of read_fields, and what the offsets say about the property read.
 use Prim.Native.Nat.{ℕ, _+_, _-_, _≤_}
 use native.Mathlib.Nat.{sub-zero}
 use native.Mathlib.Omega.{arith}

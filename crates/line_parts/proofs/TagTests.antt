@@ -1,4 +1,4 @@
--- A line's tag by its length and its octets, as code tests it.
+-- A line's tag by its length and its octets, as the code tests it.
 use Prim.Native.Nat.{ℕ, _<_, _≤_}
 use native.Mathlib.Omega.{arith}
 use mathlib.Core.Path.{_≡_, refl}

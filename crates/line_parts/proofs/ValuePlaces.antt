@@ -1,4 +1,4 @@
--- The value of a line by the places of its units: the law of lineValueAt for each way out of read_line_value, and what it says of lineValue.
+-- The offsets of a value's written octets: a law of lineValueAt for each return of read_line_value, and what it says about lineValue.
 use Prim.Native.Nat.{ℕ, suc, _-_, _≤_}
 use native.Mathlib.Nat.{sub-zero}
 use native.Mathlib.Omega.{arith}

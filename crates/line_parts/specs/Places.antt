@@ -1,4 +1,4 @@
--- Definitions for code: the parts of a line by their places.
+-- The parts of a line, as offsets into it.
 use Prim.Native.Nat.{ℕ, suc, _+_}
 use mathlib.Core.Bool.{cond}
 use mathlib.Core.List.{List, [], _∷_}
@@ -16,7 +16,7 @@ use Rattle.line_parts.specs.declared.LineRead.the-variants.{Good as Good
 use Rattle.line_parts.specs.declared.LineValueRead.{LineValueRead}
 use Rattle.line_parts.specs.declared.LineValueRead.the-variants.{Good as GoodValue, Fault as NoValue}
 
--- the fields of a line by their places
+-- The fields of a line: its flags, and the offsets of tag and value.
 abbrev pub linePlaces : List ℕ → Option ℕ → List ℕ → List ℕ → List ℕ → LineRead
 linePlaces s none s₁ t s₂ = NoLine
 linePlaces s (some f) s₁ t s₂ =
@@ -25,7 +25,7 @@ linePlaces s (some f) s₁ t s₂ =
 unfoldable pub lineAt : List ℕ → LineRead
 lineAt s = ifRead NoLine (field s) (λ f s₁. ifRead NoLine (field s₁) (λ t s₂. linePlaces s (decimalOctet f) s₁ t s₂))
 
--- where the units of a value stand
+-- The offsets in a value of its written octets: without the quotes, or the whole bare value.
 unfoldable pub lineValueAt : List ℕ → LineValueRead
 lineValueAt [] = NoValue
 lineValueAt (x ∷ v) =

@@ -1,4 +1,4 @@
-// The parts of a line by their places: its flags and tag, and what stands for its value.
+// The parts of a line, as offsets into it: flags, tag and value.
 use line_fields::FieldRead;
 use line_octet::Style;
 use spec_limits::MAX_TAG_OCTETS;
@@ -21,7 +21,7 @@ fn is_line_tag(t: &[u8]) -> bool
     text_classes::all_of(t, Class::LetterOrDigit)
 }
 
-// A line by its fields: its flags, where its tag begins and ends, and where its value begins.
+// The flags of a line, the offsets where its tag begins and ends, and the offset of its value.
 pub struct LineAt {
     pub flags: u8,
     pub tag: usize,
@@ -34,7 +34,7 @@ pub enum LineRead {
     Fault,
 }
 
-// The fields of a line, with flags and tag checked.
+// Reads the fields of a line and checks flags and tag.
 pub fn read_fields(s: &[u8]) -> LineRead
     ensures { λ r. ⌜ r ≡ lineAt (now (s .entry)) ⌝ }
 {
@@ -61,7 +61,7 @@ pub fn read_fields(s: &[u8]) -> LineRead
     })
 }
 
-// The value of a line: where its units begin and end, and how they are written.
+// The offsets in a value where its written octets begin and end, and how it is written.
 pub struct LineValueAt {
     pub from: usize,
     pub end: usize,
@@ -73,7 +73,7 @@ pub enum LineValueRead {
     Fault,
 }
 
-// Between two quotes, or bare and not empty.
+// A value in quotes, or a bare one that is not empty.
 pub fn read_line_value(v: &[u8]) -> LineValueRead
     ensures { λ r. ⌜ r ≡ lineValueAt (now (v .entry)) ⌝ }
 {

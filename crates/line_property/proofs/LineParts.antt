@@ -1,4 +1,4 @@
--- A line put together: flags, space and tag; a space and the quoted value; and the two one after the other.
+-- A line from its parts: flags, space and tag; a space and the value in quotes; and both together.
 use Prim.Native.Nat.{ℕ, _+_, _-_, _≤_, _<_, _^_}
 use native.Mathlib.Omega.{arith}
 use mathlib.Core.Path.{_≡_, refl}

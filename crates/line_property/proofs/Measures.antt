@@ -1,4 +1,4 @@
--- How long a value is between quotes, counted octet by octet, and how long a line is; all well within a usize.
+-- The length of a value in quotes, counted octet by octet, and of a line; both are far below the largest usize.
 use Prim.Native.Nat.{ℕ, _+_, _*_, _≤_, _<_}
 use native.Mathlib.Omega.{arith}
 use mathlib.Core.Path.{_≡_}

@@ -1,4 +1,4 @@
--- The ways out of write_property: what writeProperty is at each, from what the code has found.
+-- The returns of write_property: what writeProperty is at each, from what the code has found.
 use Prim.Native.Nat.{ℕ, _≤_, _<_}
 use mathlib.Core.Path.{_≡_, _∙_}
 use mathlib.Core.Bool.{and-false}

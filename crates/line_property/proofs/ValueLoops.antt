@@ -1,4 +1,4 @@
--- Steps of a loop that writes a value octet by octet: the octets before a place are written, and there is room for those that are left.
+-- Steps of a loop that writes a value octet by octet: those before the current offset are written, and the remaining ones fit.
 use Prim.Native.Nat.{ℕ, _+_, _-_, _≤_, _<_, _^_}
 use native.Mathlib.Numerals.{add-one}
 use native.Mathlib.Omega.{arith}

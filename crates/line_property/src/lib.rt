@@ -1,4 +1,4 @@
-// The line of a property, given by its parts: the presentation format of RFC 8659 section 4.1.1.
+// Writes the line of a property, given its flags, tag and value: the presentation format of RFC 8659 section 4.1.1.
 use spec_limits::MAX_DATA_OCTETS;
 use spec_line::LineAnswer;
 use spec_refusal::Refusal;
@@ -9,7 +9,7 @@ ghost use Rattle.spec_limits.specs.Limits.{maxDataOctets};
 ghost use Rattle.spec_octets.specs.Buffer.{Put};
 ghost use Rattle.line_property.specs.Places.{escapedValue, lineHead, quotedValue, lineOf, writeProperty};
 
-// A value as it stands between quotes.
+// Writes a value as it is in quotes.
 fn put_value(v: &[u8], out: &mut [u8]) -> usize
     requires { ⌜ length (escapedValue (now v)) ≤ length (now out) ⌝ }
     ensures { λ r. ⌜ Put (escapedValue (now (v .entry))) (now (out .entry)) (now (out .exit)) r ⌝ }
@@ -23,7 +23,7 @@ fn put_value(v: &[u8], out: &mut [u8]) -> usize
     w
 }
 
-// The flags and the tag of a line.
+// Writes flags, space and tag.
 fn put_head(flags: u8, tag: &[u8], out: &mut [u8]) -> usize
     requires { ⌜ length (lineHead flags (now tag)) ≤ length (now out) ⌝ }
     ensures { λ r. ⌜ Put (lineHead flags (now (tag .entry))) (now (out .entry)) (now (out .exit)) r ⌝ }
@@ -34,7 +34,7 @@ fn put_head(flags: u8, tag: &[u8], out: &mut [u8]) -> usize
     next + text_buffer::put_lowered(tag, &mut out[next..])
 }
 
-// The value of a line, behind its blank.
+// Writes a space and the value in quotes.
 fn put_quoted(v: &[u8], out: &mut [u8]) -> usize
     requires { ⌜ length (quotedValue (now v)) ≤ length (now out) ⌝ }
     ensures { λ r. ⌜ Put (quotedValue (now (v .entry))) (now (out .entry)) (now (out .exit)) r ⌝ }
@@ -46,7 +46,7 @@ fn put_quoted(v: &[u8], out: &mut [u8]) -> usize
     w + 1
 }
 
-// The line of a property.
+// Writes the line.
 fn put_line(flags: u8, tag: &[u8], value: &[u8], out: &mut [u8]) -> usize
     requires { ⌜ length (lineOf flags (now tag) (now value)) ≤ length (now out) ⌝ }
     ensures { λ r. ⌜ Put (lineOf flags (now (tag .entry)) (now (value .entry))) (now (out .entry)) (now (out .exit)) r ⌝ }
@@ -55,7 +55,7 @@ fn put_line(flags: u8, tag: &[u8], value: &[u8], out: &mut [u8]) -> usize
     w + put_quoted(value, &mut out[w..])
 }
 
-// How many octets a value takes between quotes.
+// How many octets a value takes in quotes.
 fn value_length(v: &[u8]) -> usize
     requires { ⌜ length (now v) ≤ maxDataOctets ⌝ }
     ensures { λ r. ⌜ r ≡ length (escapedValue (now (v .entry))) ⌝ }
@@ -69,7 +69,7 @@ fn value_length(v: &[u8]) -> usize
     n
 }
 
-// How many octets the line of a property takes.
+// How many octets the line takes.
 fn line_length(flags: u8, tag: &[u8], value: &[u8]) -> usize
     requires { ⌜ length (now tag) ≤ maxDataOctets ⌝ }
     requires { ⌜ length (now value) ≤ maxDataOctets ⌝ }
@@ -78,8 +78,8 @@ fn line_length(flags: u8, tag: &[u8], value: &[u8]) -> usize
     text_decimal::decimal_length(flags as u64) + tag.len() + value_length(value) + 4
 }
 
-// A property to its line, at the front of the lent buffer; nothing is written before the room is known to be enough, nor where a part is
-// longer than data may be.
+// Writes the line of a property at the start of the buffer. Nothing is written unless the buffer is long enough and both tag and value are
+// within the limit of CAA data.
 pub fn write_property(flags: u8, tag: &[u8], value: &[u8], buffer: &mut [u8]) -> LineAnswer
     ensures answer { λ r. ⌜ r ≡ writeProperty flags (now (tag .entry)) (now (value .entry)) (now (buffer .entry)) .answer ⌝ }
     ensures octets { λ r. ⌜ now (buffer .exit) ≡ writeProperty flags (now (tag .entry)) (now (value .entry)) (now (buffer .entry)) .buffer ⌝ }

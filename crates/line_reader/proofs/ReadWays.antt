@@ -1,4 +1,4 @@
--- The ways out of read_line: what parseLine is at each, from what the code has found.
+-- The returns of read_line: what parseLine is at each, from what the code has found.
 use Prim.Native.Nat.{ℕ, _≤_, _<_, _-_}
 use mathlib.Core.Path.{_≡_, refl, _∙_}
 use mathlib.Core.Bool.{and-eq-true-iff, _&&_, not}

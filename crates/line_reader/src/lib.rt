@@ -1,4 +1,4 @@
-// A line of text to its CAA data: the presentation format of RFC 8659 section 4.1.1.
+// Reads a line of text as CAA data: the presentation format of RFC 8659 section 4.1.1.
 use line_parts::LineRead;
 use line_parts::LineValueRead;
 use spec_limits::MAX_LINE_OCTETS;
@@ -7,7 +7,7 @@ use spec_refusal::Refusal;
 ghost use mathlib.Core.Path.{_≡_};
 ghost use Rattle.spec_line.specs.Calls.{parseLine};
 
-// A line to its CAA data, at the front of the lent buffer; nothing is written before the room is known to be enough.
+// Writes the CAA data of a line at the start of the buffer. Nothing is written unless the buffer is long enough.
 pub fn read_line(line: &[u8], buffer: &mut [u8]) -> LineAnswer
     ensures answer { λ r. ⌜ r ≡ parseLine (now (line .entry)) (now (buffer .entry)) .answer ⌝ }
     ensures octets { λ r. ⌜ now (buffer .exit) ≡ parseLine (now (line .entry)) (now (buffer .entry)) .buffer ⌝ }

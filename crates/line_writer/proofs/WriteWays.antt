@@ -1,4 +1,4 @@
--- The ways out of write_line: what writeLine is at each, from what the code has found.
+-- The returns of write_line: what writeLine is at each, from what the code has found.
 use Prim.Native.Nat.{ℕ, _≤_, _<_}
 use native.Mathlib.Omega.{arith}
 use mathlib.Core.Path.{_≡_, refl, sym, ap, _∙_}

@@ -1,4 +1,4 @@
-// CAA data as a line of text: the presentation format of RFC 8659 section 4.1.1.
+// Writes CAA data as a line of text: the presentation format of RFC 8659 section 4.1.1.
 use read_property::PropertyRead;
 use spec_limits::MAX_DATA_OCTETS;
 use spec_line::LineAnswer;
@@ -7,7 +7,7 @@ use text_classes::Class;
 ghost use mathlib.Core.Path.{_≡_};
 ghost use Rattle.spec_line.specs.Calls.{writeLine};
 
-// CAA data to its line, at the front of the lent buffer; nothing is written before the room is known to be enough.
+// Writes the line of CAA data at the start of the buffer. Nothing is written unless the buffer is long enough.
 pub fn write_line(d: &[u8], buffer: &mut [u8]) -> LineAnswer
     ensures answer { λ r. ⌜ r ≡ writeLine (now (d .entry)) (now (buffer .entry)) .answer ⌝ }
     ensures octets { λ r. ⌜ now (buffer .exit) ≡ writeLine (now (d .entry)) (now (buffer .entry)) .buffer ⌝ }

@@ -1,4 +1,4 @@
--- The issuer that CAA data grants: that its place is right, a law for each way out of read_grantee, and laws for its callers.
+-- The issuer that CAA data grants: its offsets are right, a law for each return of read_grantee, and laws for its callers.
 use Prim.Native.Nat.{ℕ, _≤_, _+_, _-_}
 use native.Mathlib.Omega.{arith}
 use mathlib.Core.Path.{_≡_, refl, sym, ap, _∙_}

@@ -1,4 +1,4 @@
--- The value of CAA data is the end of it.
+-- The value of CAA data is a suffix of the data.
 use Prim.Native.Nat.{ℕ, _≤_, _+_, _-_}
 use native.Mathlib.Omega.{arith}
 use mathlib.Core.Path.{_≡_, refl}

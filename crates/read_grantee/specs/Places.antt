@@ -1,4 +1,4 @@
--- The issuer that CAA data grants, and where its name stands; Theorems.antt ties the two.
+-- The issuer that CAA data grants, and the offsets of its name in the data. Theorems.antt proves that the two agree.
 use Prim.Native.Nat.{ℕ, _+_, _-_}
 use mathlib.Core.Bool.{cond}
 use mathlib.Core.List.{List}
@@ -16,15 +16,15 @@ use Rattle.spec_rule.specs.Authorizations.{granteeOfValue}
 use Rattle.read_grantee.specs.declared.GranteeRead.{GranteeRead}
 use Rattle.read_grantee.specs.declared.GranteeRead.the-variants.{At, Nobody}
 
--- the issuer that CAA data grants, by its value; nobody where the data is laid out wrongly, and so has none
+-- The issuer that CAA data grants by its value; nobody if the data is malformed.
 unfoldable pub granteeOfData : List ℕ → Option (List ℕ)
 granteeOfData d = granteeOfValue (issueValue (valuePart d))
 
--- the octets of d at a place
+-- The octets of d between two offsets.
 abbrev pub nameAt : List ℕ → NameAt → List ℕ
 nameAt d n = take (n .to - n .from) (drop (n .from) d)
 
--- the name in the value v, which is the end of d, by its place in d
+-- The offsets in d of the name in the value v, which is a suffix of d.
 abbrev pub granteePlaces : List ℕ → List ℕ → ValueRead → GranteeRead
 granteePlaces d v Malformed = Nobody
 granteePlaces d v Nameless = Nobody
@@ -34,7 +34,7 @@ granteePlaces d v (Named n) =
 unfoldable pub granteeAt : List ℕ → GranteeRead
 granteeAt d = granteePlaces d (valuePart d) (valueAt (valuePart d))
 
--- the issuer that stands there, in small letters
+-- The issuer at these offsets, in lower case.
 abbrev pub granteeThere : List ℕ → GranteeRead → Option (List ℕ)
 granteeThere d Nobody = none
 granteeThere d (At n) = some (lowered (nameAt d n))

@@ -8,11 +8,11 @@ use Rattle.spec_rule.specs.RelevantSet.{CaaRecord}
 use Rattle.spec_rule.specs.Authorizations.{grantee}
 use Rattle.read_grantee.specs.Places.{granteeOfData, granteeAt, granteeThere}
 
--- data grants whom a record that holds it grants by the rule
+-- Data grants the same issuer as a record with this data.
 abbrev pub Grantee-of-data : Type 0
 Grantee-of-data =
     (d : List ℕ) → ((c : CaaRecord) → property d ≡ some (c .property) → granteeOfData d ≡ grantee c) × (property d ≡ none → granteeOfData d ≡ none)
 
--- the issuer found by place is that one
+-- The offsets of the issuer give that same issuer.
 abbrev pub Grantee-by-place : Type 0
 Grantee-by-place = (d : List ℕ) → granteeThere d (granteeAt d) ≡ granteeOfData d

@@ -1,16 +1,16 @@
-// The issuer that CAA data grants, by its place.
+// The issuer that CAA data grants, as offsets into the data.
 use read_value::NameAt;
 use read_value::ValueRead;
 ghost use mathlib.Core.Path.{_≡_};
 ghost use Rattle.read_grantee.specs.Places.{granteeAt};
 
-// Where the name of the issuer stands in the data.
+// The offsets of the issuer domain name in the data, or nobody.
 pub enum GranteeRead {
     At(NameAt),
     Nobody,
 }
 
-// A value that doesn't fit the grammar, holds no name, or holds one beyond the limits of issuer names grants nobody.
+// A value that doesn't match the grammar, has no name, or has one over the limits of issuer domain names grants nobody.
 pub fn read_grantee(d: &[u8]) -> GranteeRead
     ensures { λ r. ⌜ r ≡ granteeAt (now (d .entry)) ⌝ }
 {
@@ -24,7 +24,7 @@ pub fn read_grantee(d: &[u8]) -> GranteeRead
     if !read_issuer::is_issuer(name) {
         return GranteeRead::Nobody;
     }
-    // the value is the end of the data
+    // The value is a suffix of the data.
     let start = d.len() - v.len();
     let first = start + from;
     let end = start + to;

@@ -1,4 +1,4 @@
--- Checks in a row: what each says of the first refusal, and what their acceptance says of each.
+-- Several checks in order: the first refusal, and what it means that all accept.
 use Prim.Native.Nat.{ℕ}
 use native.Mathlib.Omega.{arith}
 use mathlib.Core.Path.{_≡_, refl, _∙_}

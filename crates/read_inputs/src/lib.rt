@@ -1,4 +1,4 @@
-// The inputs of a call, checked in their order: the first refusal is the answer.
+// Checks the inputs of a call in their order. The first refusal is the answer.
 use spec_refusal::Check;
 ghost use mathlib.Core.Path.{_≡_};
 ghost use mathlib.Core.List.{[], _∷_};
@@ -7,7 +7,7 @@ ghost use Rattle.spec_request.specs.Request.{requestRefusal};
 ghost use Rattle.spec_record.specs.Records.{bookRefusal};
 ghost use Rattle.spec_rule.specs.Calls.{firstRefusal, judgeChecks};
 
-// What the call that judges is handed.
+// The inputs of the call that judges.
 pub fn check_inputs(request: &[u8], issuer: &[u8], book: &[u8]) -> Check
     ensures { λ r. ⌜ r ≡ checked (firstRefusal (judgeChecks (now (request .entry)) (now (issuer .entry)) (now (book .entry)))) ⌝ }
 {
@@ -20,7 +20,7 @@ pub fn check_inputs(request: &[u8], issuer: &[u8], book: &[u8]) -> Check
     read_record::check_book(book)
 }
 
-// What the call that lists is handed, but for the room of its buffer.
+// The inputs of the call that lists. Whether its buffer is long enough is checked later.
 pub fn check_request_and_book(request: &[u8], book: &[u8]) -> Check
     ensures { λ r. ⌜ r ≡ checked (firstRefusal (requestRefusal (now (request .entry)) ∷ bookRefusal (now (book .entry)) ∷ [])) ⌝ }
 {

@@ -1,4 +1,4 @@
--- An issuer domain name by its length and its labels, as code tests them.
+-- An issuer domain name by its length and its labels, as the code tests them.
 use Prim.Native.Nat.{ℕ, _≤_, _<_}
 use native.Mathlib.Omega.{arith}
 use mathlib.Core.Path.{_≡_, _∙_}

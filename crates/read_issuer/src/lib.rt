@@ -1,4 +1,4 @@
-// Issuer domain names as text: the check.
+// Checks issuer domain names given as text.
 use spec_limits::MAX_ISSUER_OCTETS;
 use spec_limits::MAX_LABEL_OCTETS;
 use spec_refusal::Check;

@@ -1,4 +1,4 @@
--- The loop of name_end: what is left of s from a place p on gives the answer asked at `at`. A law for each way out of the loop's body.
+-- The loop of name_end: reading on from offset p gives the result for the name at `at`. A law for each return in the loop.
 use Prim.Native.Nat.{ℕ, zero, suc, _≤_, _<_, _+_, _-_}
 use native.Mathlib.Nat.{le-of-lt, zero-add, sub-self}
 use native.Mathlib.Omega.{arith}

@@ -1,4 +1,4 @@
--- One label off by place: what parentPlace says in each case, and that it takes off the first label.
+-- parentPlace in each case, and that it removes the first label.
 use Prim.Native.Nat.{ℕ, _≤_, _<_, _+_, _-_}
 use native.Mathlib.Omega.{arith}
 use mathlib.Core.Path.{_≡_, refl, ap}

@@ -1,4 +1,4 @@
--- What the end of a name by place says of the name read there: for whoever walks a slice by these ends.
+-- What the end offset of a name says about the name read there, for code that walks a slice by these ends.
 use Prim.Native.Nat.{ℕ, _≤_, _<_, _+_, _-_}
 use native.Mathlib.Omega.{arith}
 use mathlib.Core.Path.{_≡_, refl, sym, ap, _∙_}

@@ -6,7 +6,7 @@ use lib.ListN.{length, drop}
 use Rattle.spec_name.specs.Names.{Name, wire}
 use Rattle.read_name.specs.Places.{parentPlace}
 
--- taking off one label by place is taking off the first label; at the root there is none to take off
+-- From a label, parentPlace is the offset of the name without its first label. At the root it is the same offset.
 abbrev pub Parent-by-place : Type 0
 Parent-by-place =
     ((p l : List ℕ) (ls : Name) (rest : List ℕ) → 1 ≤ length l →

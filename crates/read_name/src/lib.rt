@@ -1,10 +1,10 @@
-// Domain names in wire form: where one ends, and the way up to its parents.
+// Domain names in wire form (RFC 1035 section 3.1): where one ends, and the way up to its parent.
 use spec_limits::MAX_LABEL_OCTETS;
 use spec_limits::MAX_NAME_OCTETS;
 ghost use mathlib.Core.Path.{_≡_};
 ghost use Rattle.read_name.specs.Places.{nameEnd, parentPlace};
 
-// Where a name that begins at a place ends, behind its closing zero.
+// The offset after the closing zero of a name, or a fault.
 pub enum NameEnd {
     At(usize),
     Fault,
@@ -28,17 +28,17 @@ pub fn name_end(s: &[u8], at: usize) -> NameEnd
         }
         p = next + n;
     }
-    // no closing zero, or a label longer than what is left
+    // No closing zero, or a label longer than the remaining octets.
     NameEnd::Fault
 }
 
-// A place in a name: the search for a relevant set climbs from label to label.
+// The offset of a label in a name. The search for the relevant set goes up the DNS tree label by label (the requirements' "climb").
 pub struct Climb {
     pub at: usize,
 }
 
 impl Climb {
-    // One label less; where no label can be taken off, the same place.
+    // Removes one label and returns the new offset; the same offset if no complete label is there.
     pub fn up(self, name: &[u8]) -> Climb
         ensures { λ r. ⌜ r .at ≡ parentPlace (now (name .entry)) (self .at) ⌝ }
     {

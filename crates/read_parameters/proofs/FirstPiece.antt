@@ -1,4 +1,4 @@
--- The pieces of a text where its first piece ends at a place.
+-- The pieces of a text whose first piece ends at a known offset.
 use Prim.Native.Nat.{ℕ, _+_, _≤_, _<_}
 use native.Mathlib.Nat.{sub-zero}
 use mathlib.Core.Path.{_≡_, refl}

@@ -1,4 +1,4 @@
--- Parameters by tests on their parts, as code makes them.
+-- Parameters by tests on their parts, as the code makes them.
 use Prim.Native.Nat.{ℕ, _+_, _-_, _≤_, _<_}
 use Prim.Native.Char.{code}
 use native.Mathlib.Omega.{arith}

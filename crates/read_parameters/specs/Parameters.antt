@@ -1,4 +1,4 @@
--- Parameters by their text.
+-- Parameters of issue values, as text.
 use Prim.Native.Nat.{ℕ}
 use Prim.Native.Char.{code}
 use mathlib.Core.Bool.{Bool}
@@ -6,6 +6,6 @@ use mathlib.Core.List.{List}
 use Rattle.spec_octets.specs.Pieces.{split}
 use Rattle.spec_value.specs.IssueValues.{areParameters}
 
--- what stands behind the first semicolon
+-- The octets after the first semicolon of a value.
 abbrev pub areParametersIn : List ℕ → Bool
 areParametersIn s = areParameters (split (code ";") s)

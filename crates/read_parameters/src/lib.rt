@@ -1,10 +1,10 @@
-// Parameters of issue and issuewild properties (RFC 8659 section 4.2).
+// Parameters of issue and issuewild values (RFC 8659 section 4.2).
 use text_classes::Class;
 ghost use mathlib.Core.Path.{_≡_};
 ghost use Rattle.spec_value.specs.IssueValues.{isParameter};
 ghost use Rattle.read_parameters.specs.Parameters.{areParametersIn};
 
-// A parameter, with blanks around it.
+// A parameter with optional white space around it.
 fn is_parameter(s: &[u8]) -> bool
     ensures { λ r. ⌜ r ≡ isParameter (now (s .entry)) ⌝ }
 {
@@ -23,7 +23,7 @@ fn is_parameter(s: &[u8]) -> bool
     text_classes::all_of(text_classes::trim_start(&p[e + 1..]), Class::ParameterOctet)
 }
 
-// What stands behind the first semicolon: nothing but blanks, or parameters.
+// The octets after the first semicolon: only white space, or parameters.
 pub fn are_parameters(s: &[u8]) -> bool
     ensures { λ r. ⌜ r ≡ areParametersIn (now (s .entry)) ⌝ }
 {

@@ -1,4 +1,4 @@
--- CAA data by places: what the places of a property say of the property, and the law of propertyAt for each way out of read_property.
+-- CAA data by offsets: what the offsets say about the property, and a law of propertyAt for each return of read_property.
 use Prim.Native.Nat.{ℕ, suc, _≤_, _<_, _+_, _-_}
 use native.Mathlib.Omega.{arith}
 use mathlib.Core.Path.{_≡_, refl, sym, _∙_}

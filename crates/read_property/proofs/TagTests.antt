@@ -1,4 +1,4 @@
--- The tag by the comparisons that code makes, one after the other.
+-- The property tag by the comparisons that the code makes, one after the other.
 use Prim.Native.Nat.{ℕ}
 use mathlib.Core.Path.{_≡_}
 use mathlib.Core.Bool.{Bool, true, false}

@@ -1,4 +1,4 @@
--- Definitions by place, for code that walks a slice: each is a value definition at what is left of the slice from a place on.
+-- The property of CAA data as the code returns it: its flags and the offset of its value, and tag and value as slices.
 use Prim.Native.Nat.{ℕ, _+_}
 use mathlib.Core.List.{List, []}
 use mathlib.Core.Option.{Option, none, some}
@@ -7,7 +7,7 @@ use Rattle.spec_record.specs.Property.{Property, property}
 use Rattle.read_property.specs.declared.PropertyRead.{PropertyRead}
 use Rattle.read_property.specs.declared.PropertyRead.the-variants.{Good, Fault}
 
--- the property of CAA data: behind flags and tag length stand the tag and then the value
+-- The tag begins at offset 2, after flags and tag length, and the value follows it.
 abbrev pub propertyPlaces : Option Property → PropertyRead
 propertyPlaces none = Fault
 propertyPlaces (some p) = Good (record { flags = p .flags; value = 2 + length (p .tag) })

@@ -1,4 +1,4 @@
-// CAA data: its property, tag and value.
+// CAA data (RFC 8659 section 4.1): its property, tag and value.
 use spec_record::PropertyTag;
 ghost use mathlib.Core.Path.{_≡_};
 ghost use Rattle.spec_record.specs.Property.{tagOf};
@@ -19,7 +19,7 @@ pub fn tag_of(t: &[u8]) -> PropertyTag
     PropertyTag::Unknown
 }
 
-// The property of CAA data: its flags, and where its value begins; the tag stands from 2 to there.
+// The flags, and the offset of the value. The tag is the octets from offset 2 up to there.
 pub struct PropertyAt {
     pub flags: u8,
     pub value: usize,
@@ -49,7 +49,7 @@ pub fn read_property(d: &[u8]) -> PropertyRead
     })
 }
 
-// The tag and the value of CAA data as parts of it; empty where it is laid out wrongly.
+// The tag and the value of CAA data as slices of it; empty if the data is malformed.
 pub fn tag_part(d: &[u8]) -> &[u8]
     ensures { λ r. ⌜ now r ≡ tagPart (now (d .entry)) ⌝ }
 {

@@ -1,4 +1,4 @@
--- The loop of check_book, a walk over the records of a book: a law for each way out.
+-- The loop of check_book over the records of a book: a law for each return.
 use Prim.Native.Nat.{ℕ, _≤_, _<_, _+_, _-_}
 use native.Mathlib.Omega.{arith}
 use mathlib.Core.Path.{_≡_}

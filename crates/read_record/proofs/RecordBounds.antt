@@ -1,4 +1,4 @@
--- The bounds of a record that read_record answers, for loops over the records of a book.
+-- Bounds of the offsets that read_record returns, for loops over the records of a book.
 use Prim.Native.Nat.{ℕ, _≤_}
 use native.Mathlib.Omega.{arith}
 use mathlib.Core.Path.{_≡_}
@@ -11,10 +11,10 @@ use Rattle.read_record.specs.declared.RecordRead.the-variants.{Good}
 use Rattle.read_record.proofs.RecordPlaces.{record-there}
 
 module _ (book : List ℕ) (at : ℕ) (o : RecordRead) (f : o ≡ recordAt book at) (p : RecordAt) (g : o ≡ Good p) where
-  pub owner-before : at ≤ p .fixed
+  pub owner-before : at ≤ p .«owner_end»
   owner-before = let (r, t) = record-there book at o f p g in omega (arith, t .owner .long)
 
-  pub owner-inside : p .fixed ≤ length book
+  pub owner-inside : p .«owner_end» ≤ length book
   owner-inside = let (r, t) = record-there book at o f p g in t .owner .inside
 
   pub data-before : p .rdata ≤ p .next

@@ -1,4 +1,4 @@
--- A record's fields, read by their places behind the end of the owner.
+-- The fields of a record at their offsets after the owner.
 use Prim.Native.Nat.{ℕ, _≤_, _+_, _-_}
 use native.Mathlib.Omega.{arith}
 use mathlib.Core.Path.{_≡_, refl}
@@ -30,7 +30,7 @@ module _ (s : List ℕ) where
 
   abbrev pub placesFrom : ℕ → RecordAt
   placesFrom e = record {
-    fixed = e;
+    «owner_end» = e;
     rtype = valueFrom 0 (take 2 (drop e s));
     class = valueFrom 0 (take 2 (drop (e + 2) s));
     rdata = e + 10;

@@ -1,4 +1,4 @@
--- What the places of a record, as code hands them on, say of the record read there: for whoever walks a slice by them.
+-- What the offsets of a record say about the record read there, for code that walks a slice by them.
 use Prim.Native.Nat.{ℕ, _≤_, _<_, _+_, _-_}
 use native.Mathlib.Omega.{arith}
 use mathlib.Core.Path.{_≡_, refl, sym, ap, _∙_}
@@ -22,11 +22,11 @@ module _ (s : List ℕ) (at : ℕ) where
   -- p says where the parts of the record r stand in s
   pub record RecordTo (p : RecordAt) (r : Record) : Type 0 where
     pub found : resourceRecord (drop at s) ≡ some (r, drop (p .next) s)
-    pub owner : NameTo s at (p .fixed) (r .owner)
+    pub owner : NameTo s at (p .«owner_end») (r .owner)
     pub type : p .rtype ≡ r .type
     pub class : p .class ≡ r .class
     pub rdata : take (p .next - p .rdata) (drop (p .rdata) s) ≡ r .rdata
-    pub ten : p .rdata ≡ p .fixed + 10
+    pub ten : p .rdata ≡ p .«owner_end» + 10
     pub order : p .rdata ≤ p .next
     pub inside : p .next ≤ length s
 

@@ -1,4 +1,4 @@
--- The law of recordAt for each way out of read_record.
+-- A law of recordAt for each return of read_record.
 use Prim.Native.Nat.{ℕ, _≤_, _<_, _+_, _-_}
 use native.Mathlib.Omega.{arith}
 use mathlib.Core.Path.{_≡_, sym, _∙_}
@@ -50,7 +50,7 @@ module _ (s : List ℕ) (at : ℕ) (o : NameEnd) (f : o ≡ nameEnd s at) where
 
         pub record-read :
             not b ≡ false → AnswerCode → 10 ≤ length s - e → n ≤ length s - (e + 10) →
-            Good (record { fixed = e; rtype = type; class = class; rdata = e + 10; next = e + 10 + n }) ≡ recordAt s at
+            Good (record { «owner_end» = e; rtype = type; class = class; rdata = e + 10; next = e + 10 + n }) ≡ recordAt s at
         record-read j d h i =
             let (m, k) = name-there s at o e f g in
             let w : Whole s e (recordFrom s m e) = record { fixed = h; data-fits = rw (← l) i; laid-out = sym (layout d m) ∙ not-false b j } in

@@ -1,4 +1,4 @@
--- Definitions by place, for code that walks a slice: each is a value definition at what is left of the slice from a place on.
+-- The same definitions over offsets, for code that walks a slice: `recordAt s at` is about the octets of `s` from offset `at` on.
 use Prim.Native.Nat.{ℕ, _+_, _-_}
 use mathlib.Core.List.{List}
 use mathlib.Core.Option.{Option, none, some}
@@ -9,18 +9,18 @@ use Rattle.spec_record.specs.Records.{Record, resourceRecord}
 use Rattle.read_record.specs.declared.RecordRead.{RecordRead}
 use Rattle.read_record.specs.declared.RecordRead.the-variants.{Good as RecordThere, Fault as RecordFault}
 
--- the record ends where what is left begins, and so does its data
+-- The record ends where the remaining octets begin, and so does its data.
 abbrev pub recordPlaces : List ℕ → ℕ → Option (Record × List ℕ) → RecordRead
 recordPlaces s at none = RecordFault
 recordPlaces s at (some r) =
     RecordThere (record {
-      fixed = at + length (wire (r .0 .owner));
+      «owner_end» = at + length (wire (r .0 .owner));
       rtype = r .0 .type;
       class = r .0 .class;
       rdata = placeOf s (r .1) - length (r .0 .rdata);
       next = placeOf s (r .1);
     })
 
--- the record that begins at `at`
+-- The record that begins at offset `at`.
 unfoldable pub recordAt : List ℕ → ℕ → RecordRead
 recordAt s at = recordPlaces s at (resourceRecord (drop at s))

@@ -1,4 +1,4 @@
-// Resource records: one at a place, and the check of a whole book.
+// Resource records (RFC 1035 section 3.2.1): reading one at an offset, and checking a whole book.
 use read_name::NameEnd;
 use read_property::PropertyRead;
 use spec_limits::MAX_BOOK_OCTETS;
@@ -24,7 +24,7 @@ pub fn is_caa(rtype: usize, class: usize) -> bool
     false
 }
 
-// Whether data is laid out rightly, by type and class.
+// Whether data is well formed for its type and class.
 fn is_laid_out(rtype: usize, class: usize, d: &[u8]) -> bool
     ensures { λ r. ⌜ r ≡ isLaidOut rtype class (now (d .entry)) ⌝ }
 {
@@ -37,7 +37,7 @@ fn is_laid_out(rtype: usize, class: usize, d: &[u8]) -> bool
     true
 }
 
-// A number of two octets, the high one first.
+// A number of two octets in network byte order.
 fn two_octets(s: &[u8], at: usize) -> usize
     requires { ⌜ at + 2 ≤ length (now s) ⌝ }
     ensures { λ r. ⌜ r ≡ valueFrom 0 (take 2 (drop at (now (s .entry)))) ⌝ }
@@ -48,9 +48,9 @@ fn two_octets(s: &[u8], at: usize) -> usize
     high * 256 + low
 }
 
-// A record by its places: where its owner ends and the type begins, the type, the class, where its data begins and ends.
+// A record by its offsets: `owner_end`, where the owner ends and the type begins; type and class; where the data begins and where it ends.
 pub struct RecordAt {
-    pub fixed: usize,
+    pub owner_end: usize,
     pub rtype: usize,
     pub class: usize,
     pub rdata: usize,
@@ -62,7 +62,7 @@ pub enum RecordRead {
     Fault,
 }
 
-// The record that begins at a place.
+// Reads the record that begins at offset `at`.
 pub fn read_record(s: &[u8], at: usize) -> RecordRead
     ensures { λ r. ⌜ r ≡ recordAt (now (s .entry)) at ⌝ }
 {
@@ -84,7 +84,7 @@ pub fn read_record(s: &[u8], at: usize) -> RecordRead
         return RecordRead::Fault;
     }
     RecordRead::Good(RecordAt {
-        fixed,
+        owner_end: fixed,
         rtype,
         class,
         rdata,

@@ -1,4 +1,4 @@
--- The names of an accepted request, place by place: for whoever walks a request that was checked.
+-- The names of an accepted request, offset by offset, for code that walks a request that was checked.
 use Prim.Native.Nat.{ℕ, suc, _≤_, _<_, _+_, _-_}
 use native.Mathlib.Omega.{arith}
 use mathlib.Core.Path.{_≡_, refl, sym, ap, _∙_}

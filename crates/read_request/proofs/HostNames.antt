@@ -1,4 +1,4 @@
--- The loop of are_host_labels: the labels that are left from a place on give the answer of the whole name.
+-- The loop of are_host_labels: the labels from an offset on give the result for the whole name.
 use Prim.Native.Nat.{ℕ, _≤_, _<_, _+_, _-_}
 use native.Mathlib.Omega.{arith}
 use mathlib.Core.Path.{_≡_, sym, ap, _∙_}

@@ -1,4 +1,4 @@
--- What the places of a requested name say of the name read there: for whoever walks a request by these places.
+-- What the offsets of a requested name say about the name read there, for code that walks a request by them.
 use Prim.Native.Nat.{ℕ, _≤_, _<_, _+_, _-_}
 use native.Mathlib.Omega.{arith}
 use mathlib.Core.Path.{_≡_, refl, ap, _∙_}

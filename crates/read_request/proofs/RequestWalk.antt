@@ -1,4 +1,4 @@
--- check_request step by step: its octets, then name by name. With k names read, what is left from `at` on gives the answer.
+-- check_request step by step: the length, then name by name. With k names read, reading on from offset `at` gives the result.
 use Prim.Native.Nat.{ℕ, _≤_, _<_, _+_}
 use native.Mathlib.Omega.{arith}
 use mathlib.Core.Path.{_≡_, refl}

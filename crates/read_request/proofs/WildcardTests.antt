@@ -1,4 +1,4 @@
--- A wildcard by the first two octets of its wire form, as code tests them.
+-- A wildcard by the first two octets of its wire form, as the code tests them.
 use Prim.Native.Nat.{ℕ, _<_}
 use native.Mathlib.Omega.{arith}
 use mathlib.Core.Path.{_≡_, refl, ap}

@@ -1,4 +1,4 @@
--- Definitions by place, for code that walks a slice: each is a value definition at what is left of the slice from a place on.
+-- The same definitions over offsets, for code that walks a slice: `requestedAt s at` is about the octets of `s` from offset `at` on.
 use Prim.Native.Nat.{ℕ, _-_}
 use mathlib.Core.List.{List}
 use mathlib.Core.Option.{Option, none, some}
@@ -9,12 +9,12 @@ use Rattle.read_request.specs.declared.RequestedRead.{RequestedRead}
 use Rattle.read_request.specs.declared.RequestedRead.the-variants.{Good, Fault}
 use Rattle.spec_request.specs.Request.{isWildcard, base, requestedName}
 
--- the name ends where what is left begins, and its X ends there too
+-- The name ends where the remaining octets begin, and its X ends there too.
 abbrev pub placesOf : List ℕ → Option (Name × List ℕ) → RequestedRead
 placesOf s none = Fault
 placesOf s (some r) =
     Good (record { wildcard = isWildcard (r .0); base = placeOf s (r .1) - length (wire (base (r .0))); next = placeOf s (r .1) })
 
--- the requested name that begins at `at`
+-- The requested name that begins at offset `at`.
 unfoldable pub requestedAt : List ℕ → ℕ → RequestedRead
 requestedAt s at = placesOf s (requestedName (drop at s))

@@ -1,4 +1,4 @@
-// Certificate requests: the name asked for at a place, and the check of a whole request.
+// Requests: reading the requested name at an offset, and checking a whole request.
 use read_name::Climb;
 use read_name::NameEnd;
 use spec_limits::MAX_NAMES;
@@ -15,7 +15,7 @@ ghost use Rattle.spec_name.specs.Names.{Name, wire, GoodName};
 ghost use Rattle.spec_request.specs.Request.{isWildcard, requestRefusal};
 ghost use Rattle.read_request.specs.Places.{requestedAt};
 
-// A requested name X or *.X: where X begins, and where the whole name ends, behind its closing zero.
+// A requested name X or *.X: the offset of X, and the offset after the closing zero.
 pub struct Requested {
     pub wildcard: bool,
     pub base: usize,
@@ -40,14 +40,14 @@ fn is_wildcard(name: &[u8]) -> bool
     name[1] == b'*'
 }
 
-// Whether a name is not the root, and its labels are letters, digits and inner hyphens.
+// Whether a name is not the root, and its labels hold letters, digits and inner hyphens.
 fn are_host_labels(name: &[u8]) -> bool
     ensures { λ r. ⌜ ((n : Name) → GoodName n → now (name .entry) ≡ wire n → r ≡ not (isEmpty n) && all isHostLabel n) ⌝ }
 {
     let mut at: usize = 0;
     loop {
         let next = Climb { at }.up(name).at;
-        // the closing zero
+        // The closing zero.
         if next <= at {
             return 0 < at;
         }
@@ -58,7 +58,7 @@ fn are_host_labels(name: &[u8]) -> bool
     }
 }
 
-// The requested name that begins at a place.
+// Reads the requested name that begins at offset `at`.
 pub fn requested_name(s: &[u8], at: usize) -> RequestedRead
     ensures { λ r. ⌜ r ≡ requestedAt (now (s .entry)) at ⌝ }
 {

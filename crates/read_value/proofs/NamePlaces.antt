@@ -1,4 +1,4 @@
--- Where the name stands: in the first piece, without the blanks around it.
+-- The offsets of the name: in the first piece, without the white space around it.
 use Prim.Native.Nat.{ℕ, _+_, _-_, _≤_}
 use native.Mathlib.Omega.{arith}
 use mathlib.Core.Path.{_≡_, refl, sym, ap, _∙_}

@@ -1,4 +1,4 @@
--- For callers of read_value: its answer tells the three cases of issueValue apart, and the name stands at the places it gives.
+-- For callers of read_value: its result is one of the three cases of issueValue, and the name is at the offsets returned.
 use Prim.Native.Nat.{ℕ, _+_, _-_, _≤_, _<_}
 use native.Mathlib.Omega.{arith}
 use mathlib.Core.Path.{_≡_, refl, sym, ap, subst, _∙_}

@@ -1,4 +1,4 @@
--- A value by tests on its parts, as code makes them.
+-- A value by tests on its parts, as the code makes them.
 use Prim.Native.Nat.{ℕ, _+_, _-_, _≤_, _<_}
 use Prim.Native.Char.{code}
 use mathlib.Core.Path.{_≡_, sym, _∙_}

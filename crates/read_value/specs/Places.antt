@@ -1,4 +1,4 @@
--- The name in a value by its places.
+-- The issuer domain name in an issue value, as offsets into the value.
 use Prim.Native.Nat.{ℕ, _+_, _-_}
 use mathlib.Core.List.{List}
 use lib.ListN.{length}
@@ -7,7 +7,7 @@ use Rattle.spec_value.specs.IssueValues.{IssueValue, malformed, nameless, named
 use Rattle.read_value.specs.declared.ValueRead.{ValueRead}
 use Rattle.read_value.specs.declared.ValueRead.the-variants.{Malformed, Nameless, Named}
 
--- the name begins at the first octet that is no blank
+-- The name begins after the leading white space.
 abbrev pub namePlaces : List ℕ → IssueValue → ValueRead
 namePlaces s malformed = Malformed
 namePlaces s nameless = Nameless

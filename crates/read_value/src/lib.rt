@@ -3,21 +3,21 @@ ghost use mathlib.Core.Path.{_≡_};
 ghost use Rattle.spec_value.specs.IssueValues.{trim, nameIn};
 ghost use Rattle.read_value.specs.Places.{namePlaces, valueAt};
 
-// The issuer domain name that a value holds, by its places.
+// The issuer domain name in a value: the offset of its first octet, and the offset after its last.
 pub struct NameAt {
     pub from: usize,
     pub to: usize,
 }
 
 pub enum ValueRead {
-    // The value doesn't fit the grammar.
+    // The value doesn't match the grammar.
     Malformed,
-    // It fits, and holds no name.
+    // It matches, without a name.
     Nameless,
     Named(NameAt),
 }
 
-// A name with blanks around it, or blanks alone.
+// A name with optional white space around it, or only white space.
 fn read_name(s: &[u8]) -> ValueRead
     ensures { λ r. ⌜ r ≡ namePlaces (now (s .entry)) (nameIn (trim (now (s .entry)))) ⌝ }
 {
@@ -26,7 +26,7 @@ fn read_name(s: &[u8]) -> ValueRead
     if name.len() == 0 {
         return ValueRead::Nameless;
     }
-    // labels of any length
+    // Labels of any length: the limit of 63 octets is checked where the name is used.
     if text_labels::are_labels(name, name.len()) {
         let from = front.len() - name.len();
         return ValueRead::Named(NameAt {

@@ -2,7 +2,8 @@
 use Prim.Native.Nat.{_^_, _<_}
 use native.Mathlib.Omega.{arith}
 use Rattle.spec_limits.specs.Limits.{maxNames, maxRecords}
-use Rattle.spec_packed.proofs.Unpacking.{unpacks, number-small}
+use Rattle.spec_packed.specs.Packed.{packed}
+use Rattle.spec_packed.proofs.Unpacking.{number-small}
 use Rattle.spec_rule.specs.declared.Judgement.{Judgement}
 use Rattle.spec_rule.specs.declared.Judgement.the-variants.{Permitted, UnknownCritical, NotGranted, Refused}
 use Rattle.spec_rule.specs.Calls.{AnswerCode, judge, judgementCode}
@@ -11,7 +12,8 @@ use Rattle.spec_answers.specs.Theorems.{Unpacked, Judgement-unpacks}
 use Rattle.spec_answers.proofs.NumberBounds.{Fits, judge-fits}
 
 pub told-unpacks : (t : AnswerCode) → t .number < 2 ^ 8 → valueOf t 0 < 2 ^ 24 → valueOf t 1 < 2 ^ 16 → Unpacked (packedCode t) t
-told-unpacks t n a b = let u = unpacks (t .number) (valueOf t 0) (valueOf t 1) 0 n a b (omega arith) in (u .0, u .1, u .2, u .3)
+unfolding packed
+told-unpacks t n a b = omega arith
 
 fitting-unpacks : (j : Judgement) → Fits j → Unpacked (packedJudgement j) (judgementCode j)
 unfolding packedJudgement judgementCode maxNames maxRecords

@@ -5,3 +5,10 @@ pub mod JudgementUnpacks
 pub mod ListUnpacks
 pub mod LineUnpacks
 pub mod Table
+pub mod DoorRows
+pub mod DoorWords
+pub mod JudgeDoor
+pub mod IssuersDoor
+pub mod LineDoors
+pub mod WriteLineDoor
+pub mod ReadLineDoor

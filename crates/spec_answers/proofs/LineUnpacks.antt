@@ -1,9 +1,9 @@
--- Unpacking what writing and reading a line answer gives its number and the length or the place: each length fits its field.
+-- Unpacking the answers of writing and reading a line gives the number and the length or place: each length fits its field.
 use Prim.Native.Nat.{ℕ, _^_, _≤_, _<_}
 use native.Mathlib.Omega.{arith}
 use mathlib.Core.Path.{_≡_, refl, ap}
 use mathlib.Core.Bool.{Bool, true, false, cond}
-use mathlib.Core.List.{List, _∷_, _++_}
+use mathlib.Core.List.{List, _++_}
 use mathlib.Core.Option.{Option, none, some}
 use lib.Dec.{leb}
 use lib.ListN.{length, drop, length-append}
@@ -11,8 +11,7 @@ use borrow.Author.Tests.{leb-true}
 use Rattle.spec_limits.specs.Limits.{maxDataOctets, maxLineOctets}
 use Rattle.spec_refusal.specs.declared.Refusal.the-variants.{NoRoom, LineTooLong, BadData}
 use Rattle.spec_refusal.specs.Refusal.{place}
-use Rattle.spec_octets.specs.Lists.{all-cons}
-use Rattle.spec_octets.specs.Octets.{Octets}
+use Rattle.spec_octets.proofs.ListLaws.{All-head}
 use Rattle.spec_record.specs.Property.{Property, wireProperty, property}
 use Rattle.spec_record.proofs.PropertyLaws.{property-is-its-parts}
 use Rattle.spec_packed.proofs.Unpacking.{number-small}
@@ -43,25 +42,26 @@ placed-fits made b h =
     cond-fits (leb (length made) (length b)) (record { answer = Length (length made); buffer = made ++ drop (length made) b })
     (refused (NoRoom (length made)) b) (λ e. h) h
 
-first-octet : (x : ℕ) (s : List ℕ) → Octets (x ∷ s) → x < 256
-first-octet x s (all-cons h hs) = h
-
-line-small : (d : List ℕ) (p : Property) → Octets d → length d ≤ maxDataOctets → property d ≡ some p → length (line p) < 2 ^ 24
+line-small : (d : List ℕ) (p : Property) → p .flags < 256 → length d ≤ maxDataOctets → property d ≡ some p → length (line p) < 2 ^ 24
 unfolding maxDataOctets
-line-small d p octets few e =
+line-small d p flags few e =
     let whole = property-is-its-parts d p .0 e .0 in
-    let flags = first-octet (p .flags) _ (rw whole at octets) in
     omega (arith, ap length whole, length-append (p .tag) (p .value), line-short p flags)
 
-write-fits : (d b : List ℕ) → Octets d → MadeFits (writeLine d b .answer)
+-- the flags of the data are one octet
+abbrev pub FlagsFit : List ℕ → Type 0
+FlagsFit d = (p : Property) → property d ≡ some p → p .flags < 256
+
+write-fits : (d b : List ℕ) → FlagsFit d → MadeFits (writeLine d b .answer)
 unfolding writeLine place
-write-fits d b octets =
+write-fits d b flags =
     cond-fits (leb (length d) maxDataOctets) (writtenOf (property d) b) (refused LineTooLong b)
     (λ e. found (leb-true (length d) maxDataOctets e) (property d) refl) (omega arith)
   where
     found : length d ≤ maxDataOctets → (o : Option Property) → property d ≡ o → MadeFits (writtenOf o b .answer)
     found few none e = omega arith
-    found few (some p) e = cond-fits (isWritable p) (placed (line p) b) (refused BadData b) (λ w. placed-fits (line p) b (line-small d p octets few e)) (omega arith)
+    found few (some p) e =
+        cond-fits (isWritable p) (placed (line p) b) (refused BadData b) (λ w. placed-fits (line p) b (line-small d p (flags p e) few e)) (omega arith)
 
 data-small : (n : ℕ) → leb n maxDataOctets ≡ true → n < 2 ^ 24
 unfolding maxDataOctets
@@ -88,8 +88,11 @@ unfolding packedLine lineCode
 fitting-unpacks (Length n) h = told-unpacks (lineCode (Length n)) (omega arith) h (omega arith)
 fitting-unpacks (Refused r) h = told-unpacks (lineCode (Refused r)) (number-small r) h (omega arith)
 
+pub small-flags-unpack : (d b : List ℕ) → FlagsFit d → Unpacked (packedLine (writeLine d b .answer)) (lineCode (writeLine d b .answer))
+small-flags-unpack d b flags = fitting-unpacks (writeLine d b .answer) (write-fits d b flags)
+
 pub written-line-unpacks : Written-line-unpacks
-written-line-unpacks d b octets = fitting-unpacks (writeLine d b .answer) (write-fits d b octets)
+written-line-unpacks d b octets = small-flags-unpack d b (λ p e. All-head (rw (property-is-its-parts d p .0 e .0) at octets))
 
 pub read-line-unpacks : Read-line-unpacks
 read-line-unpacks s b = fitting-unpacks (parseLine s b .answer) (read-fits s b)

@@ -1,4 +1,4 @@
--- Unpacking what the call that lists the permitted issuers answers gives its number and values: each fits its field.
+-- Unpacking the answer of the call that lists the permitted issuers gives its number and values: each fits its field.
 use Prim.Native.Nat.{ℕ, _^_, _≤_, _<_}
 use native.Mathlib.Omega.{arith}
 use mathlib.Core.Path.{_≡_, refl}

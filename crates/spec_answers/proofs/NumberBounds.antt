@@ -1,4 +1,4 @@
--- The numbers in a judgement: a name's below the limit of names, a record's below that of records, a refusal's place fitting.
+-- The numbers in a judgement fit their fields: name numbers and record numbers are below their limits, and so is a refusal's place.
 use Prim.Native.Nat.{ℕ, suc, _+_, _^_, _≤_, _<_}
 use native.Mathlib.Omega.{arith}
 use mathlib.Core.Path.{_≡_, refl}

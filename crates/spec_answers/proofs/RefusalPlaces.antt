@@ -1,4 +1,4 @@
--- The place of each refusal of a request, an issuer name and a book fits the field for it, whatever the octets.
+-- The place of each refusal of a request, an issuer domain name and a book fits its field, for any octets.
 use Prim.Native.Nat.{ℕ, _^_, _<_}
 use native.Mathlib.Omega.{arith}
 use mathlib.Core.Path.{_≡_, refl}

@@ -1,5 +1,6 @@
--- Some answers as numbers, by computing.
+-- Packed answers as numbers, by computing.
 use mathlib.Core.Path.{refl}
+use Rattle.spec_limits.specs.Limits.{maxNames, maxRecords}
 use Rattle.spec_refusal.specs.Refusal.{number, place}
 use Rattle.spec_packed.specs.Packed.{packed}
 use Rattle.spec_rule.specs.Calls.{judgementCode, permittedIssuersCode}
@@ -9,5 +10,6 @@ use Rattle.spec_answers.specs.LineAnswers.{lineCode, packedLine}
 use Rattle.spec_answers.specs.Theorems.{Packed-answers}
 
 pub packed-answers : Packed-answers
-unfolding number place packed judgementCode permittedIssuersCode packedJudgement packedIssuers lineCode packedLine
-packed-answers = (refl, refl, refl, refl)
+unfolding maxNames maxRecords number place packed judgementCode permittedIssuersCode packedJudgement packedIssuers lineCode packedLine
+packed-answers =
+    (refl, refl, refl, refl, refl, refl, refl, refl, refl, refl, refl, refl, refl, refl, refl, refl, refl, refl, refl)

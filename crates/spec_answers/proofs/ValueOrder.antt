@@ -1,4 +1,4 @@
--- The values of an answer stand in their order.
+-- The values of an answer are in their order.
 use mathlib.Core.Path.{refl}
 use Rattle.spec_answers.specs.Pinned.{Values-in-order}
 

@@ -1,11 +1,11 @@
--- The answers of the calls, packed: the number that the requirements give, and its values in the fields.
+-- The answers of the calls, packed into 64 bits: the number of the answer, and its values in the fields.
 use Prim.Native.Nat.{ℕ}
 use lib.ListN.{getD}
 use Rattle.spec_packed.specs.Packed.{packed}
 use Rattle.spec_rule.specs.declared.Judgement.{Judgement}
 use Rattle.spec_rule.specs.Calls.{AnswerCode, judgementCode}
 
--- the k-th value of an answer; 0 where it has none
+-- Value k of an answer, from 0; 0 if the answer has no such value.
 abbrev pub valueOf : AnswerCode → ℕ → ℕ
 valueOf t k = getD (t .values) k 0
 

@@ -3,3 +3,4 @@ pub mod ListAnswers
 pub mod LineAnswers
 pub mod Pinned
 pub mod Theorems
+pub mod Door

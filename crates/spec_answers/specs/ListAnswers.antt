@@ -1,4 +1,4 @@
--- What the call that lists the permitted issuers answers, packed.
+-- The answers of the call that lists the permitted issuers, packed.
 use Prim.Native.Nat.{ℕ}
 use Rattle.spec_rule.specs.declared.PermittedIssuers.{PermittedIssuers}
 use Rattle.spec_rule.specs.Calls.{permittedIssuersCode}

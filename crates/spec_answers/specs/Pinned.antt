@@ -1,4 +1,4 @@
--- Statements that only say a definition again, so that its text cannot change unseen. Each is proved under its name in proofs/.
+-- Equations that restate a definition, so that it can't change unnoticed. Each is proved under its name in proofs/.
 use Prim.Native.Nat.{ℕ}
 use mathlib.Core.Path.{_≡_}
 use mathlib.Core.List.{[], _∷_}
@@ -8,7 +8,7 @@ use Rattle.spec_refusal.specs.declared.Refusal.{Refusal}
 use Rattle.spec_line.specs.declared.LineAnswer.the-variants.{Length, Refused as LineRefused}
 use Rattle.spec_answers.specs.LineAnswers.{lineCode}
 
--- the values of an answer in their order, and 0 where it has no more
+-- The values of an answer in their order, and 0 for those that it doesn't have.
 abbrev pub Values-in-order : Type 0
 Values-in-order =
     ((n a b : ℕ) →
@@ -16,7 +16,7 @@ Values-in-order =
     × ((n a : ℕ) → (valueOf (record { number = n; values = a ∷ [] }) 0 ≡ a) × (valueOf (record { number = n; values = a ∷ [] }) 1 ≡ 0))
     × ((n : ℕ) → (valueOf (record { number = n; values = [] }) 0 ≡ 0) × (valueOf (record { number = n; values = [] }) 1 ≡ 0))
 
--- number 0 and the length of what was made, or a refusal's own number and place
+-- Number 0 with the length of the output, or a refusal with its number and place.
 abbrev pub Line-codes : Type 0
 Line-codes =
     ((n : ℕ) → lineCode (Length n) ≡ record { number = 0; values = n ∷ [] })

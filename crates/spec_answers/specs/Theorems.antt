@@ -2,37 +2,37 @@
 use Prim.Native.Nat.{ℕ}
 use mathlib.Core.Path.{_≡_}
 use mathlib.Core.List.{List}
-use Rattle.spec_refusal.specs.declared.Refusal.the-variants.{BadRecord}
+use Rattle.spec_refusal.specs.declared.Refusal.the-variants.{RequestTooLong, BadName, TooManyNames, BadIssuer, BookTooLong, BadRecord, TooManyRecords, NoRoom, BadLine, LineTooLong, BadData}
 use Rattle.spec_refusal.specs.Refusal.{number}
 use Rattle.spec_packed.specs.Packed.{numberIn, fieldA, fieldB, fieldC}
-use Rattle.spec_line.specs.declared.LineAnswer.the-variants.{Length}
+use Rattle.spec_line.specs.declared.LineAnswer.the-variants.{Length, Refused as LineRefused}
 use Rattle.spec_line.specs.Calls.{writeLine, parseLine}
 use Rattle.spec_octets.specs.Octets.{Octets}
-use Rattle.spec_rule.specs.declared.Judgement.the-variants.{NotGranted, Refused}
-use Rattle.spec_rule.specs.declared.PermittedIssuers.the-variants.{Listed}
+use Rattle.spec_rule.specs.declared.Judgement.the-variants.{Permitted, UnknownCritical, NotGranted, Refused}
+use Rattle.spec_rule.specs.declared.PermittedIssuers.the-variants.{Anyone, Listed, Refused as ListRefused}
 use Rattle.spec_rule.specs.Verdicts.{denial}
 use Rattle.spec_rule.specs.Calls.{AnswerCode, judge, judgementCode, listIssuers, permittedIssuersCode}
 use Rattle.spec_answers.specs.Answers.{valueOf, packedJudgement}
 use Rattle.spec_answers.specs.ListAnswers.{packedIssuers}
 use Rattle.spec_answers.specs.LineAnswers.{lineCode, packedLine}
 
--- unpacking gives the number and the values, and nothing else
+-- Unpacking x gives the number and the values of the answer t, and 0 in field c.
 abbrev pub Unpacked : ℕ → AnswerCode → Type 0
 Unpacked x t = (numberIn x ≡ t .number) × (fieldA x ≡ valueOf t 0) × (fieldB x ≡ valueOf t 1) × (fieldC x ≡ 0)
 
--- for every input of the call
+-- For every input of the call that judges.
 abbrev pub Judgement-unpacks : Type 0
 Judgement-unpacks =
     (request issuer book : List ℕ) →
     Unpacked (packedJudgement (judge request issuer book)) (judgementCode (judge request issuer book))
 
--- of a list the octets in a and the count in b
+-- For every input of the call that lists: octets in a, count in b.
 abbrev pub List-unpacks : Type 0
 List-unpacks =
     (request book buffer : List ℕ) → Octets book →
     Unpacked (packedIssuers (listIssuers request book buffer .answer)) (permittedIssuersCode (listIssuers request book buffer .answer))
 
--- and of the two calls on lines, whose answers are lengths or refusals
+-- For every input of the two calls on lines, which answer with a length or a refusal.
 abbrev pub Written-line-unpacks : Type 0
 Written-line-unpacks =
     (d buffer : List ℕ) → Octets d → Unpacked (packedLine (writeLine d buffer .answer)) (lineCode (writeLine d buffer .answer))
@@ -40,10 +40,26 @@ Written-line-unpacks =
 abbrev pub Read-line-unpacks : Type 0
 Read-line-unpacks = (s buffer : List ℕ) → Unpacked (packedLine (parseLine s buffer .answer)) (lineCode (parseLine s buffer .answer))
 
--- answers as one number: 21 for name 1 by record 3; refusal 6 at 4; a list of 2 in 32 octets; a line of 36 octets
+-- Packed answers, worked out by hand: the number, plus the place or the first value times 256, plus the second value times 4294967296.
+-- Names 7, 2 and 1, records 4, 5 and 3, 32 octets, a list of 2 names in 32 octets, a line of 36 octets.
 abbrev pub Packed-answers : Type 0
 Packed-answers =
-    (packedJudgement (NotGranted (denial 1 3)) ≡ 12884902165)
+    (packedJudgement Permitted ≡ 0)
+    × (packedJudgement (Refused RequestTooLong) ≡ 1)
+    × (packedJudgement (Refused (BadName (record { 0 = 7 }))) ≡ 1794)
+    × (packedJudgement (Refused TooManyNames) ≡ 25603)
+    × (packedJudgement (Refused BadIssuer) ≡ 4)
+    × (packedJudgement (Refused BookTooLong) ≡ 5)
     × (packedJudgement (Refused (BadRecord (record { 0 = 4 }))) ≡ 1030)
+    × (packedJudgement (Refused TooManyRecords) ≡ 65543)
+    × (packedJudgement (UnknownCritical (denial 2 5)) ≡ 21474837012)
+    × (packedJudgement (NotGranted (denial 1 3)) ≡ 12884902165)
+    × (packedIssuers (ListRefused (BadName (record { 0 = 7 }))) ≡ 1794)
+    × (packedIssuers (ListRefused (NoRoom 32)) ≡ 8200)
+    × (packedIssuers Anyone ≡ 30)
     × (packedIssuers (Listed 2 32) ≡ 8589942815)
     × (packedLine (Length 36) ≡ 9216)
+    × (packedLine (LineRefused (NoRoom 32)) ≡ 8200)
+    × (packedLine (LineRefused BadLine) ≡ 9)
+    × (packedLine (LineRefused LineTooLong) ≡ 10)
+    × (packedLine (LineRefused BadData) ≡ 11)

@@ -1,1 +1,1 @@
-// What number of 64 bits each call answers: the answer's number in bits 0 to 7, and its values in the fields behind it.
+// The 64-bit word that each call returns: the number of the answer in bits 0 to 7, and its values in the fields above. No code.

@@ -1,4 +1,4 @@
--- What the definitions compute: the lines that the requirements print, and whose line it is where there is a book.
+-- By computing: the lines that the requirements print, and the line when there is a book.
 use mathlib.Core.Path.{refl}
 use mathlib.Core.List.{append-assoc}
 use Rattle.spec_limits.specs.Limits.{maxRecords}

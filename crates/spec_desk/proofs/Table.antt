@@ -1,4 +1,4 @@
--- The desk's lines from what its files hold, by computing.
+-- The desk program's lines from the contents of its files, by computing.
 use mathlib.Core.Path.{refl}
 use Rattle.spec_limits.specs.Limits.{maxLabelOctets, maxIssuerOctets, maxNameOctets, maxRequestOctets, maxNames, maxBookOctets, maxRecords}
 use Rattle.spec_octets.specs.Reader.{number}

@@ -1,4 +1,4 @@
--- What a text of the desk says can be read back: its words, and the numbers among them.
+-- The words of the desk program's line, and the numbers among them, can be read back.
 use Prim.Native.Nat.{ℕ, _≤_}
 use Prim.Native.Char.{code}
 use native.Mathlib.Omega.{arith}

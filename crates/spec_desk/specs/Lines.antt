@@ -1,4 +1,4 @@
--- The line of the desk program.
+-- The line that the desk program prints. (The desk is the customer's certificate desk, which runs the program.)
 use Prim.Native.Nat.{ℕ}
 use mathlib.Core.Bool.{Bool, cond}
 use mathlib.Core.List.{List, [], _∷_, _++_}
@@ -13,14 +13,14 @@ use Rattle.spec_octets.specs.WrittenDecimal.{decimal}
 abbrev pub lineEnd : ℕ
 lineEnd = 10
 
--- a text, a number, a text, a number
+-- A text, a number, a text, a number.
 abbrev pub numbered : List ℕ → ℕ → List ℕ → ℕ → List ℕ
 numbered first a second b = first ++ decimal a ++ second ++ decimal b
 
 abbrev pub denialText : List ℕ → Denial → List ℕ
 denialText first d = numbered first (d .name .0) (text " record ") (d .rr .0)
 
--- an answer in words, without the line end
+-- The words of an answer, without the line end.
 unfoldable pub answerText : Judgement → List ℕ
 answerText Permitted = text "verdict 0"
 answerText (UnknownCritical d) = denialText (text "verdict 20 name ") d

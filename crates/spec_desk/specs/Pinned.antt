@@ -1,4 +1,4 @@
--- Statements that only say a definition again, so that its text cannot change unseen. Each is proved under its name in proofs/.
+-- An equation that restates a definition, so that it can't change unnoticed. It is proved under its name in proofs/.
 use Prim.Native.Nat.{ℕ}
 use mathlib.Core.Path.{_≡_}
 use mathlib.Core.Bool.{true}
@@ -6,6 +6,6 @@ use mathlib.Core.List.{List}
 use Rattle.spec_rule.specs.Calls.{judge}
 use Rattle.spec_desk.specs.Lines.{judgementLine, deskLine}
 
--- with a book the line is the judgement's
+-- With a book, the line is that of the judgement.
 abbrev pub Judged : Type 0
 Judged = (request issuer book : List ℕ) → deskLine true request issuer book ≡ judgementLine (judge request issuer book)

@@ -21,30 +21,30 @@ use Rattle.spec_rule.specs.Verdicts.{denial}
 use Rattle.spec_rule.specs.Calls.{judgementCode}
 use Rattle.spec_desk.specs.Lines.{answerText, judgementLine, noBook, deskLine}
 
--- the numbers among the words of a text
+-- The numbers among the words of a text.
 abbrev pub numbersIn : List ℕ → List ℕ
 numbersIn s = map (decimalFrom 0) (select (begins isDigit) (split (code " ") s))
 
--- the numbers in an answer's text are the answer's number and its values, in their order
+-- The numbers in an answer's text are the answer's number and its values, in this order.
 abbrev pub Text-tells : Type 0
 Text-tells = (j : Judgement) → numbersIn (answerText j) ≡ judgementCode j .number ∷ judgementCode j .values
 
--- so different answers have different lines
+-- So different answers have different lines.
 abbrev pub Lines-differ : Type 0
 Lines-differ = (i j : Judgement) → judgementLine i ≡ judgementLine j → i ≡ j
 
--- `no book` says that there is no book, and nothing else says so
+-- The line is `no book` exactly when there is no book.
 abbrev pub No-book : Type 0
 No-book = (found : Bool) (request issuer book : List ℕ) → (deskLine found request issuer book ≡ noBook) ↔ (found ≡ false)
 
--- the words around the numbers, for every number
+-- The words around the numbers, for all numbers.
 abbrev pub Line-words : Type 0
 Line-words =
     ((k r : ℕ) → judgementLine (UnknownCritical (denial k r)) ≡ text "verdict 20 name " ++ decimal k ++ text " record " ++ decimal r ++ text "\n")
     × ((k r : ℕ) → judgementLine (NotGranted (denial k r)) ≡ text "verdict 21 name " ++ decimal k ++ text " record " ++ decimal r ++ text "\n")
     × ((r : Refusal) → judgementLine (Refused r) ≡ text "refused " ++ decimal (number r) ++ text " at " ++ decimal (place r) ++ text "\n")
 
--- the lines that the requirements print, and some more
+-- The lines that the requirements print, and some more.
 abbrev pub Line-examples : Type 0
 Line-examples =
     (judgementLine Permitted ≡ text "verdict 0\n")
@@ -56,7 +56,7 @@ Line-examples =
     × (judgementLine (Refused TooManyRecords) ≡ text "refused 7 at 256\n")
     × ((request issuer book : List ℕ) → deskLine false request issuer book ≡ text "no book\n")
 
--- from what the files hold: the requirements' whole case, a request that is permitted, and one refusal for each file
+-- Lines from the contents of the files: the requirements' whole case, a permitted request, one refusal for each file, and no book.
 abbrev pub Desk-lines : Type 0
 Desk-lines =
     (deskLine true both ca1 (bookOf wholeBook) ≡ text "verdict 21 name 1 record 3\n")

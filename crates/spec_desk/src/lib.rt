@@ -1,4 +1,4 @@
-// What the desk program's line says.
+// The line that the desk program prints: definitions and theorems.
 
-// The longest line: `verdict 21 name K record R`, K and R of 20 digits as the largest usize, and the line end.
+// The longest line: `verdict 21 name K record R` with K and R of 20 digits, which the largest usize has, and the line end.
 pub const LINE_OCTETS: usize = 65;

@@ -1,4 +1,4 @@
--- Letter case does not matter to the form of an issuer domain name.
+-- Whether an issuer domain name is well formed doesn't depend on letter case.
 use Prim.Native.Nat.{ℕ, _+_, _<_}
 use Prim.Native.Char.{code}
 use native.Mathlib.Omega.{arith}

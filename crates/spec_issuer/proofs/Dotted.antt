@@ -1,4 +1,4 @@
--- An issuer domain name is its labels, and is refused exactly when it is not.
+-- An issuer domain name is valid labels joined by dots, and is refused exactly when it is not.
 use Prim.Native.Nat.{ℕ}
 use Prim.Native.Char.{code}
 use mathlib.Core.Path.{_≡_, refl}

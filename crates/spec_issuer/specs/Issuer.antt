@@ -1,4 +1,4 @@
--- Issuer domain names as text: labels joined by dots, no closing dot (the requirements' "issuer name").
+-- Issuer domain names as text, such as ca1.example.net (the requirements' "issuer name"): labels joined by dots, no trailing dot.
 use Prim.Native.Nat.{ℕ, _≤_}
 use Prim.Native.Char.{code}
 use mathlib.Core.Bool.{Bool, cond, _&&_}
@@ -18,11 +18,11 @@ use mathlib.Core.Logic.{_≢_}
 unfoldable pub isIssuer : List ℕ → Bool
 isIssuer d = between 1 maxIssuerOctets (length d) && all isHostLabel (split (code ".") d)
 
--- row 4 of the requirements' table of refusals
+-- Row 4 of the requirements' table of refusals.
 unfoldable pub issuerRefusal : List ℕ → Option Refusal
 issuerRefusal d = cond (isIssuer d) none (some BadIssuer)
 
--- one or more good labels joined by single dots, 1 to 253 octets
+-- One or more valid labels joined by single dots, 1 to 253 octets.
 abbrev pub WellFormed : List ℕ → Type 0
 WellFormed d =
     (1 ≤ length d) × (length d ≤ maxIssuerOctets)

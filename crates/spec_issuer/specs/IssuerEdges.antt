@@ -1,4 +1,4 @@
--- Issuer domain names beside whether the requirements take them.
+-- Issuer domain names, each with whether the requirements accept it.
 use Prim.Native.Nat.{ℕ}
 use Prim.Native.Char.{code}
 use mathlib.Core.Bool.{Bool, true, false}
@@ -7,13 +7,13 @@ use lib.ListN.{replicate}
 use Rattle.spec_octets.specs.Octets.{text}
 use Rattle.spec_octets.specs.Pieces.{join}
 
--- labels of so many letters each, joined by dots
+-- Labels of these lengths, joined by dots.
 abbrev pub ofLengths : List ℕ → List ℕ
 ofLengths ns = join (code ".") (map (λ n. replicate n (code "a")) ns)
 
 abbrev pub issuerEdges : List (List ℕ × Bool)
 issuerEdges =
-    -- labels of letters, digits and inner hyphens, joined by single dots, no closing dot
+    -- Labels of letters, digits and inner hyphens, joined by single dots, without a trailing dot.
     (text "", false)
     ∷ (text "n", true)
     ∷ (text "ca1.example.net", true)
@@ -27,10 +27,10 @@ issuerEdges =
     ∷ (text "n-.n", false)
     ∷ (text "a_b", false)
     ∷ (text "*.n", false)
-    -- octet for octet: no blank and no line end around it
+    -- No white space and no line end around the name.
     ∷ (text " n", false)
     ∷ (text "n\n", false)
-    -- labels of 63 and 64 octets, names of 253 and 254
+    -- Labels of 63 and 64 octets, names of 253 and 254.
     ∷ (ofLengths (63 ∷ []), true)
     ∷ (ofLengths (64 ∷ []), false)
     ∷ (ofLengths (63 ∷ 63 ∷ 63 ∷ 61 ∷ []), true)

@@ -14,11 +14,11 @@ use Rattle.spec_issuer.specs.Issuer.{isIssuer, issuerRefusal, WellFormed
 abbrev pub Issuer-is-its-labels : Type 0
 Issuer-is-its-labels = (d : List ℕ) → (isIssuer d ≡ true) ↔ WellFormed d
 
--- letter case does not matter to the form
+-- Whether a name is well formed doesn't depend on letter case.
 abbrev pub Issuer-in-any-case : Type 0
 Issuer-in-any-case = (d : List ℕ) → isIssuer (lowered d) ≡ isIssuer d
 
--- row 4 of the requirements' table
+-- Row 4 of the requirements' table.
 abbrev pub Row-4 : List ℕ → Type 0
 Row-4 d = WellFormed d → ⊥
 
@@ -27,6 +27,6 @@ Issuer-refusals =
     (d : List ℕ) → ((issuerRefusal d ≡ some BadIssuer) ↔ Row-4 d) × ((issuerRefusal d ≡ none) ↔ WellFormed d)
     × ((r : Refusal) → issuerRefusal d ≡ some r → r ≡ BadIssuer)
 
--- the table of issuer names
+-- The table IssuerEdges.antt.
 abbrev pub Issuer-edges : Type 0
 Issuer-edges = map (λ e. isIssuer (e .0)) issuerEdges ≡ map (λ e. e .1) issuerEdges

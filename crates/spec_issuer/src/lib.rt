@@ -1,1 +1,1 @@
-// Issuer domain names as text: definitions and theorems.
+// Issuer domain names as text: definitions and theorems, no code.

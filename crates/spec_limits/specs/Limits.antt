@@ -1,38 +1,38 @@
--- Every limit of the requirements, once.
+-- Every limit of the requirements.
 use Prim.Native.Nat.{ℕ}
 
--- RFC 1035 section 2.3.4: the octets of a label, and of a name in wire form with its closing zero
+-- RFC 1035 section 2.3.4: the octets of a label, and of a name in wire form with its closing zero octet.
 unfoldable pub maxLabelOctets : ℕ
 maxLabelOctets = 63
 
 unfoldable pub maxNameOctets : ℕ
 maxNameOctets = 255
 
--- an issuer domain name as text: 255 octets less the first length octet and the closing zero
+-- An issuer domain name as text: 255 octets without the first length octet and the closing zero.
 unfoldable pub maxIssuerOctets : ℕ
 maxIssuerOctets = 253
 
--- a request: its octets, and how many names it holds
+-- A request: its octets, and how many names it holds.
 unfoldable pub maxRequestOctets : ℕ
 maxRequestOctets = 8192
 
 unfoldable pub maxNames : ℕ
 maxNames = 100
 
--- the records to decide by (the requirements' "book"): their octets, and how many they are
+-- The records to decide by (the requirements' "book"): their octets, and how many there are.
 unfoldable pub maxBookOctets : ℕ
 maxBookOctets = 32768
 
 unfoldable pub maxRecords : ℕ
 maxRecords = 256
 
--- CAA data that a line is made of or that is made of a line, and the line itself
+-- CAA data when it is written as a line or read from one, and the line itself.
 unfoldable pub maxDataOctets : ℕ
 maxDataOctets = 4096
 
 unfoldable pub maxLineOctets : ℕ
 maxLineOctets = 16384
 
--- the tag length of CAA data is one octet (RFC 8659 section 4.1)
+-- The tag length of CAA data is one octet (RFC 8659 section 4.1).
 unfoldable pub maxTagOctets : ℕ
 maxTagOctets = 255

@@ -1,4 +1,4 @@
-// The limits, with the numbers of specs/Limits.antt: a function that used another number would not meet its contract.
+// The limits of specs/Limits.antt as constants. A function that used another number would not meet its contract.
 pub const MAX_LABEL_OCTETS: usize = 63;
 
 pub const MAX_NAME_OCTETS: usize = 255;

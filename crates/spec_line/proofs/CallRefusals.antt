@@ -1,4 +1,4 @@
--- Why a call that makes octets of a property is refused, and that a refusal leaves the buffer as it was.
+-- When a call that writes a property to a buffer is refused; and that a refusal leaves the buffer unchanged.
 use Prim.Native.Nat.{ℕ, _≤_, _<_}
 use native.Mathlib.Omega.{arith}
 use mathlib.Core.Path.{_≡_, refl, sym, _∙_}

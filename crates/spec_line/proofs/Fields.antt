@@ -1,4 +1,4 @@
--- The next field of a line: all up to its first blank, and the blanks behind it are left out.
+-- A field of a line ends at its first white space, which is skipped.
 use Prim.Native.Nat.{ℕ}
 use mathlib.Core.Path.{_≡_, refl, ap}
 use mathlib.Core.Logic.{_↔_}

@@ -1,4 +1,4 @@
--- A written line never exceeds its limit: an octet of the value takes at most four.
+-- A written line is never over the limit of lines: an octet of the value takes at most four.
 use Prim.Native.Nat.{ℕ, _+_, _*_, _≤_, _<_}
 use native.Mathlib.Omega.{arith}
 use mathlib.Core.Path.{_≡_, refl}

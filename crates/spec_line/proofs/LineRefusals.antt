@@ -1,4 +1,4 @@
--- Each call is refused by the rows of the requirements' table and by no other, and a refusal leaves the buffer as it was.
+-- Each call is refused exactly by the rows of the requirements' table, and a refusal leaves the buffer unchanged.
 use Prim.Native.Nat.{ℕ}
 use native.Mathlib.Omega.{arith}
 use mathlib.Core.Path.{_≡_, refl}

@@ -1,4 +1,4 @@
--- The value of a line: between two quotes, or bare and not empty; either way it begins with no blank.
+-- The value of a line, in quotes or bare and not empty, never begins with white space.
 use Prim.Native.Nat.{ℕ}
 use mathlib.Core.Path.{_≡_, refl, ap}
 use mathlib.Core.Logic.{_↔_, _≢_, inl, inr}

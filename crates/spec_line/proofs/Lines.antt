@@ -1,4 +1,4 @@
--- A line is read exactly where it is one by the productions, for the one property that it stands for.
+-- A line is read exactly when the productions match it, as the one property that it stands for.
 use Prim.Native.Nat.{ℕ, _≤_}
 use native.Mathlib.Omega.{arith}
 use mathlib.Core.Path.{_≡_, refl, ap}

@@ -1,4 +1,4 @@
--- What fits is placed, and what doesn't is refused.
+-- Output that fits the buffer is written, and output that doesn't fit is refused.
 use Prim.Native.Nat.{ℕ, _≤_, _<_}
 use mathlib.Core.Path.{_≡_, sym, ap}
 use mathlib.Core.List.{List}

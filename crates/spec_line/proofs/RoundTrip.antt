@@ -1,4 +1,4 @@
--- Writing and reading again gives the same data, its tag in small letters.
+-- Writing and reading again gives the same data with its tag in lower case.
 use Prim.Native.Nat.{ℕ, _<_}
 use native.Mathlib.Omega.{arith}
 use mathlib.Core.Path.{_≡_, subst}

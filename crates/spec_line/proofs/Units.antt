@@ -1,4 +1,4 @@
--- A text is read as units exactly where it is good units end to end, in any list.
+-- A text is read as written octets exactly when it is a sequence of valid written octets.
 use Prim.Native.Nat.{ℕ}
 use mathlib.Core.Path.{_≡_, refl}
 use mathlib.Core.Logic.{_↔_, _≢_}

@@ -1,4 +1,4 @@
--- Which octets stand for themselves in a value, what units stand for, and how a line is written, octet for octet.
+-- Which octets of a value need no escape, what written octets stand for, and how a line is written, octet by octet.
 use Prim.Native.Nat.{ℕ, _/_, _%_, _≤_, _<_}
 use native.Mathlib.Omega.{arith}
 use mathlib.Core.Path.{_≡_, refl}

@@ -1,4 +1,4 @@
--- A written line is of the grammar, and stands for the data with its tag in small letters.
+-- The grammar matches a written line, for the data with its tag in lower case.
 use Prim.Native.Nat.{ℕ, _+_, _/_, _%_, _<_}
 use native.Mathlib.Omega.{arith}
 use mathlib.Core.Path.{_≡_, refl, _∙_}

@@ -1,4 +1,4 @@
--- The two calls, whole: any octets in, one answer out, and what the lent buffer then holds.
+-- The two calls on lines: from any octets to one answer, and to the contents of the caller's buffer afterwards.
 use Prim.Native.Nat.{ℕ}
 use mathlib.Core.Bool.{Bool, cond}
 use mathlib.Core.List.{List, _++_}
@@ -16,7 +16,7 @@ use Rattle.spec_line.specs.declared.LineAnswer.the-variants.{Length, Ref
 use Rattle.spec_line.specs.Written.{line}
 use Rattle.spec_line.specs.Read.{readLine}
 
--- the answer, and the buffer afterwards
+-- The answer, and the buffer afterwards.
 pub record Output : Type 0 where
   pub answer : LineAnswer
   pub buffer : List ℕ
@@ -24,14 +24,14 @@ pub record Output : Type 0 where
 abbrev pub refused : Refusal → List ℕ → Output
 refused r buffer = record { answer = Refused r; buffer = buffer }
 
--- what is made stands at the front and the rest stays; refusal 8 where there is no room for it
+-- Writes the output at the start of the buffer and leaves the other octets unchanged; refusal 8 if the buffer is too short.
 unfoldable pub placed : List ℕ → List ℕ → Output
 placed made buffer =
     cond (leb (length made) (length buffer))
     (record { answer = Length (length made); buffer = made ++ drop (length made) buffer })
     (refused (NoRoom (length made)) buffer)
 
--- Writing: 10 on the data; 11; 8.
+-- Writing. The checks in their order: 10 for the data; 11; 8.
 abbrev pub isWritable : Property → Bool
 isWritable p = all isLetterOrDigit (p .tag)
 
@@ -42,7 +42,7 @@ writtenOf (some p) buffer = cond (isWritable p) (placed (line p) buffer) (refuse
 unfoldable pub writeLine : List ℕ → List ℕ → Output
 writeLine d buffer = cond (leb (length d) maxDataOctets) (writtenOf (property d) buffer) (refused LineTooLong buffer)
 
--- Reading: 10 on the line; 9; 10 on the data made; 8.
+-- Reading. The checks in their order: 10 for the line; 9; 10 for its data; 8.
 abbrev pub readOf : Option Property → List ℕ → Output
 readOf none buffer = refused BadLine buffer
 readOf (some p) buffer =

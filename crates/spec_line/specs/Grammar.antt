@@ -1,4 +1,4 @@
--- The requirements' "Read" as productions: which lines stand for which data.
+-- Which lines stand for which data: what the requirements say under "Read", as productions.
 use Prim.Native.Nat.{ℕ, _≤_, _<_}
 use mathlib.Core.Path.{_≡_}
 use mathlib.Core.Logic.{_⊎_, _≢_}
@@ -14,19 +14,19 @@ use Rattle.spec_record.specs.Property.{Property}
 use Rattle.spec_line.specs.Written.{quote, backslash}
 use Rattle.spec_line.specs.Read.{WrittenOctet, plain, quoted, numbered, valueOf, isInQuotes, isBare}
 
--- one or more blanks
+-- 1*WSP: one or more octets of white space (space or tab).
 abbrev pub someBlanks : Production
 someBlanks = one isBlank ⊕ many (one isBlank)
 
--- 1 to 3 digits that stand for n, not above 255
+-- 1 to 3 digits with the value n, at most 255.
 abbrev pub OctetField : ℕ → List ℕ → Type 0
 OctetField n s = (1 ≤ length s) × (length s ≤ 3) × All (λ x. isDigit x ≡ true) s × (decimalFrom 0 s ≡ n) × (n ≤ 255)
 
--- 1 to 255 letters and digits
+-- 1 to 255 letters and digits.
 abbrev pub TagField : List ℕ → Type 0
 TagField s = (1 ≤ length s) × (length s ≤ maxTagOctets) × All (λ x. isLetterOrDigit x ≡ true) s
 
--- how a unit is written, and when it is good where octets of the class stand for themselves
+-- How a written octet is spelled; and which are valid, where the octets of `class` need no escape.
 abbrev pub asWritten : WrittenOctet → List ℕ
 asWritten (plain x) = x ∷ []
 asWritten (quoted x) = backslash ∷ x ∷ []
@@ -38,19 +38,19 @@ GoodWrittenOctet class (quoted x) = (32 ≤ x) × (x ≤ 126) × (isDigit x ≡ 
 GoodWrittenOctet class (numbered a b c) =
     (isDigit a ≡ true) × (isDigit b ≡ true) × (isDigit c ≡ true) × (decimalFrom 0 (a ∷ b ∷ c ∷ []) ≤ 255)
 
--- s is units that stand for the octets v
+-- s is a sequence of written octets for the value v.
 abbrev pub WrittenFor : (ℕ → Bool) → List ℕ → List ℕ → Type 0
 WrittenFor class v s = (us : List WrittenOctet) × (s ≡ flatten (map asWritten us)) × All (GoodWrittenOctet class) us × (map valueOf us ≡ v)
 
--- quoted, or bare and not empty
+-- A value in quotes, or a bare one that is not empty.
 abbrev pub ValueField : List ℕ → List ℕ → Type 0
 ValueField v s =
     ((c : List ℕ) × (s ≡ quote ∷ (c ++ (quote ∷ []))) × WrittenFor isInQuotes v c) ⊎ ((s ≢ []) × WrittenFor isBare v s)
 
--- the line s stands for the property p: nothing before the flags and nothing behind the value
+-- The line s stands for the property p. Nothing precedes the flags, and nothing follows the value.
 abbrev pub LineOf : Property → Production
 LineOf p = OctetField (p .flags) ⊕ someBlanks ⊕ (λ s. (s ≡ p .tag) × TagField s) ⊕ someBlanks ⊕ ValueField (p .value)
 
--- data that has a line: its tag is 1 to 255 letters and digits, and all its parts are octets
+-- Data that has a line: the tag is 1 to 255 letters and digits, and all parts are octets.
 abbrev pub HasLine : Property → Type 0
 HasLine p = (p .flags < 256) × TagField (p .tag) × Octets (p .value)

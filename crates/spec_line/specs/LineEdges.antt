@@ -1,5 +1,5 @@
--- Lines beside what the requirements' "Read" says of them, row by row and without the productions: above all what only reading meets and
--- the writer never writes. A reader and a production that were changed together would still agree with each other, and not with these.
+-- Lines, each with what the requirements' "Read" says of it, written without the productions; most are lines that the writer never writes.
+-- If the reader and its productions changed together, they would still agree with each other, but not with this table.
 use Prim.Native.Nat.{ℕ}
 use Prim.Native.Char.{code}
 use Prim.Native.String.{String}
@@ -9,7 +9,7 @@ use lib.ListN.{replicate}
 use Rattle.spec_octets.specs.Octets.{text}
 use Rattle.spec_record.specs.Property.{Property}
 
--- flags 0, tag issue and this value, as text or as one octet; these flags and this tag, with the value v
+-- Flags 0, tag issue and this value, as text or as one octet; and these flags and this tag with the value v.
 abbrev pub issue : String → Option Property
 issue v = some (record { flags = 0; tag = text "issue"; value = text v })
 
@@ -19,13 +19,13 @@ octet x = some (record { flags = 0; tag = text "issue"; value = x ∷ [] })
 abbrev pub headed : ℕ → String → Option Property
 headed f t = some (record { flags = f; tag = text t; value = text "v" })
 
--- a tag of so many letters
+-- A tag of n letters.
 abbrev pub longTag : ℕ → List ℕ
 longTag n = replicate n (code "t")
 
 abbrev pub lineEdges : List (List ℕ × Option Property)
 lineEdges =
-    -- flags: 1 to 3 digits, not above 255, and zeros in front mean nothing
+    -- Flags: 1 to 3 digits, at most 255; leading zeros are allowed.
     (text "0 issue v", headed 0 "issue")
     ∷ (text "7 issue v", headed 7 "issue")
     ∷ (text "07 issue v", headed 7 "issue")
@@ -42,7 +42,7 @@ lineEdges =
     ∷ (text "1a issue v", none)
     ∷ (text "a issue v", none)
     ∷ (text "issue v", none)
-    -- one or more blanks, which are spaces and tabs, between the fields; none before or after the whole
+    -- White space (one or more spaces or tabs) between the fields; none before or after the line.
     ∷ (text "0   issue   v", headed 0 "issue")
     ∷ (text "0\tissue\tv", headed 0 "issue")
     ∷ (text "0 \t issue\t \t\"v\"", headed 0 "issue")
@@ -59,7 +59,7 @@ lineEdges =
     ∷ (text "0 issue \"v\" ", none)
     ∷ (text "0 issue \"v\"\t", none)
     ∷ (text "0 issue \"v\"\n", none)
-    -- tag: 1 to 255 letters and digits, as it stands
+    -- Tag: 1 to 255 letters and digits, in the case of the line.
     ∷ (text "0 ISSUE v", headed 0 "ISSUE")
     ∷ (text "0 issueWild v", headed 0 "issueWild")
     ∷ (text "0 0 v", headed 0 "0")
@@ -71,14 +71,14 @@ lineEdges =
     ∷ (text "0 \"issue\" v", none)
     ∷ (text "0 " ++ (longTag 255 ++ text " v"), some (record { flags = 0; tag = longTag 255; value = text "v" }))
     ∷ (text "0 " ++ (longTag 256 ++ text " v"), none)
-    -- fields left out
+    -- Missing fields.
     ∷ (text "", none)
     ∷ (text "0", none)
     ∷ (text "0 ", none)
     ∷ (text "0 issue", none)
     ∷ (text "0 v", none)
     ∷ (text "0 \"v\"", none)
-    -- a bare value: not empty, 33 to 126 except quote, backslash, semicolon and brackets
+    -- A bare value: not empty; 33 to 126 except quote, backslash, semicolon and parentheses.
     ∷ (text "0 issue ", none)
     ∷ (text "0 issue \t", none)
     ∷ (text "0 issue ca1.example.net", issue "ca1.example.net")
@@ -93,7 +93,7 @@ lineEdges =
     ∷ (text "0 issue a\"", none)
     ∷ (text "0 issue " ++ (127 ∷ []), none)
     ∷ (text "0 issue " ++ (255 ∷ []), none)
-    -- a quoted value: it may be empty, 32 to 126 except quote and backslash, and nothing stands behind its closing quote
+    -- A quoted value: may be empty; 32 to 126 except quote and backslash. Nothing follows the closing quote.
     ∷ (text "0 issue \"\"", issue "")
     ∷ (text "0 issue \" \"", issue " ")
     ∷ (text "0 issue \" a b \"", issue " a b ")
@@ -109,7 +109,7 @@ lineEdges =
     ∷ (text "0 issue \"a\nb\"", none)
     ∷ (text "0 issue \"" ++ (127 ∷ text "\""), none)
     ∷ (text "0 issue \"" ++ (255 ∷ text "\""), none)
-    -- a backslash and an octet 32 to 126 that is no digit gives that octet, a space also at the end of a bare value
+    -- A backslash and a non-digit 32 to 126 stands for that octet; a space so escaped may end a bare value.
     ∷ (text "0 issue \\;", octet 59)
     ∷ (text "0 issue \\(\\)", issue "()")
     ∷ (text "0 issue \\\"", octet 34)
@@ -129,7 +129,7 @@ lineEdges =
     ∷ (text "0 issue \\" ++ (31 ∷ []), none)
     ∷ (text "0 issue \\" ++ (127 ∷ []), none)
     ∷ (text "0 issue \\" ++ (255 ∷ []), none)
-    -- a backslash and three digits up to 255 gives that octet
+    -- A backslash and three digits up to 255 stands for that octet.
     ∷ (text "0 issue \\000", octet 0)
     ∷ (text "0 issue \\032", octet 32)
     ∷ (text "0 issue \\097", octet 97)
@@ -139,7 +139,7 @@ lineEdges =
     ∷ (text "0 issue \\256", none)
     ∷ (text "0 issue \\999", none)
     ∷ (text "0 issue \"\\256\"", none)
-    -- a backslash cut short
+    -- An incomplete escape sequence.
     ∷ (text "0 issue \\", none)
     ∷ (text "0 issue a\\", none)
     ∷ (text "0 issue \"\\\"", none)

@@ -1,4 +1,5 @@
--- Statements that only say a definition again, so that its text cannot change unseen. Each is proved under its name in proofs/.
+-- A round-trip theorem doesn't fix a format: change reader and writer together, and it still holds. So each format is also spelled out by
+-- an equation. Each is proved under its name in proofs/.
 use Prim.Native.Nat.{ℕ, _+_, _*_, _<_}
 use mathlib.Core.Path.{_≡_}
 use Rattle.spec_line.specs.Read.{plain, quoted, numbered, valueOf}
@@ -10,13 +11,13 @@ use Rattle.spec_record.specs.Property.{Property}
 use Rattle.spec_line.specs.Written.{escaped, line}
 use Rattle.spec_line.specs.Grammar.{OctetField}
 
--- what a unit stands for: the octet, alone or behind a backslash, or the number of the three digits
+-- The octet that a written octet stands for: the octet itself, the octet after the backslash, or the value of the three digits.
 abbrev pub Written-octet-values : Type 0
 Written-octet-values =
     (x a b c : ℕ) →
     (valueOf (plain x) ≡ x) × (valueOf (quoted x) ≡ x) × (valueOf (numbered (48 + a) (48 + b) (48 + c)) ≡ a * 100 + b * 10 + c)
 
--- flags with no needless zero, one space, tag in small letters, one space, the value in quotes
+-- Flags without leading zeros, one space, tag in lower case, one space, value in quotes.
 abbrev pub Line-as-written : Type 0
 Line-as-written =
     (p : Property) →

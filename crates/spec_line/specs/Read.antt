@@ -1,4 +1,4 @@
--- A line read as CAA data.
+-- Reading a line as CAA data (the requirements' "Read"): the presentation format of RFC 8659 section 4.1.1.
 use Prim.Native.Nat.{ℕ}
 use Prim.Native.Char.{code}
 use mathlib.Core.Bool.{Bool, cond, not, _&&_, _||_}
@@ -15,7 +15,8 @@ use Rattle.spec_octets.specs.Decimal.{decimalFrom, decimalOctet}
 use Rattle.spec_record.specs.Property.{Property}
 use Rattle.spec_line.specs.Written.{quote, backslash}
 
--- what stands for one octet of a value: itself, a backslash and an octet, or a backslash and three digits
+-- A written octet: what stands for one octet of a value in a line. It is the octet itself (plain), or an escape sequence of RFC 1035
+-- section 5.1: \X, a backslash and a character (quoted), or \DDD, a backslash and three digits (numbered).
 pub data WrittenOctet : Type 0 where
   plain : ℕ → WrittenOctet
   quoted : ℕ → WrittenOctet
@@ -26,7 +27,7 @@ valueOf (plain x) = x
 valueOf (quoted x) = x
 valueOf (numbered a b c) = decimalFrom 0 (a ∷ b ∷ c ∷ [])
 
--- three digits up to 255, of which the first is read; or an octet 32 to 126 that is no digit
+-- What follows the backslash: three digits up to 255, of which `a` is already read; or a non-digit 32 to 126.
 abbrev pub threeMore : ℕ → Reader WrittenOctet
 threeMore a = do
   b ← octet
@@ -38,7 +39,7 @@ escape = do
   x ← octet
   cond (isDigit x) (threeMore x) (given (between 32 126 x) (quoted x))
 
--- one unit, where octets of the class stand for themselves
+-- One written octet, where the octets of `class` need no escape.
 abbrev pub writtenOctet : (ℕ → Bool) → Reader WrittenOctet
 writtenOctet class = do
   x ← octet
@@ -49,24 +50,24 @@ values (whole us) = some (map valueOf us)
 values (broken k) = none
 values over = none
 
--- all of s as units
+-- The value of a sequence of written octets; none if s is not such a sequence.
 unfoldable pub unescaped : (ℕ → Bool) → List ℕ → Option (List ℕ)
 unescaped class s = values (items (writtenOctet class) (length s) s)
 
--- inside quotes 32 to 126 except quote and backslash; bare 33 to 126 except quote, backslash, semicolon and brackets
+-- Octets that need no escape: in quotes 32 to 126 except quote and backslash; bare 33 to 126 except these, semicolon and parentheses.
 unfoldable pub isInQuotes : ℕ → Bool
 isInQuotes x = between 32 126 x && not (eqb x quote || eqb x backslash)
 
 unfoldable pub isBare : ℕ → Bool
 isBare x = between 33 126 x && not (eqb x quote || eqb x backslash || eqb x (code ";") || eqb x (code "(") || eqb x (code ")"))
 
--- between two quotes, which stand first and last; or bare, and not empty
+-- A value between two quotes, which are its first and last octet; or a bare value, which is not empty.
 unfoldable pub lineValue : List ℕ → Option (List ℕ)
 lineValue [] = none
 lineValue (x ∷ s) =
     cond (eqb x quote) (cond (ends (eqb quote) s) (unescaped isInQuotes (dropLast s)) none) (unescaped isBare (x ∷ s))
 
--- a field up to the next blank, and the blanks behind it
+-- A field up to the next white space, which is skipped.
 abbrev pub extendField : ℕ → Option (List ℕ × List ℕ) → Option (List ℕ × List ℕ)
 extendField x none = none
 extendField x (some r) = some (x ∷ r .0, r .1)
@@ -75,7 +76,7 @@ abbrev pub field : Reader (List ℕ)
 field [] = none
 field (x ∷ s) = cond (isBlank x) (λ r. some ([], trimStart s)) (extendField x) (field s)
 
--- 1 to 255 letters and digits
+-- 1 to 255 letters and digits.
 unfoldable pub isLineTag : List ℕ → Bool
 isLineTag t = not (isEmpty t) && leb (length t) maxTagOctets && all isLetterOrDigit t
 
@@ -84,6 +85,6 @@ propertyOf none t v = none
 propertyOf (some f) t none = none
 propertyOf (some f) t (some v) = cond (isLineTag t) (some (record { flags = f; tag = t; value = v })) none
 
--- flags, blanks, tag as it stands, blanks, value
+-- Flags, white space, tag in the case of the line, white space, value.
 unfoldable pub readLine : List ℕ → Option Property
 readLine s = ifRead none (field s) (λ f s₁. ifRead none (field s₁) (λ t s₂. propertyOf (decimalOctet f) t (lineValue s₂)))

@@ -20,27 +20,27 @@ use Rattle.spec_line.specs.Calls.{writeLine, parseLine}
 use Rattle.spec_line.specs.Grammar.{LineOf, HasLine}
 use Rattle.spec_line.specs.LineEdges.{lineEdges}
 
--- the same data with its tag in small letters
+-- The same data with its tag in lower case.
 abbrev pub smallTag : Property → Property
 smallTag p = record { flags = p .flags; tag = lowered (p .tag); value = p .value }
 
--- the reader accepts exactly the lines that the requirements describe, each for the one property that it stands for
+-- The reader accepts exactly the lines of Grammar.antt, each for the one property that it stands for.
 abbrev pub Line-is-the-grammar : Type 0
 Line-is-the-grammar = (s : List ℕ) (p : Property) → (readLine s ≡ some p) ↔ LineOf p s
 
--- each line of the table is read as the requirements say
+-- Each line of the table LineEdges.antt is read as the requirements say.
 abbrev pub Line-edges : Type 0
 Line-edges = map (λ r. readLine (r .0)) lineEdges ≡ map (λ r. r .1) lineEdges
 
--- inside quotes 32 to 126 except 34, the quote, and 92, the backslash; bare 33 to 126 except these, 59, the semicolon, and 40 and 41,
--- the brackets
+-- Octets that need no escape: in quotes 32 to 126 except 34, the quote, and 92, the backslash; bare 33 to 126 except these, 59, the
+-- semicolon, and 40 and 41, the parentheses.
 abbrev pub Plain-octets : Type 0
 Plain-octets =
     (x : ℕ) →
     ((isInQuotes x ≡ true) ↔ ((32 ≤ x) × (x ≤ 126) × (x ≢ 34) × (x ≢ 92)))
     × ((isBare x ≡ true) ↔ ((33 ≤ x) × (x ≤ 126) × (x ≢ 34) × (x ≢ 92) × (x ≢ 59) × (x ≢ 40) × (x ≢ 41)))
 
--- what is written: 32 to 126 stand as they are, but quote and backslash take a backslash; all others are backslash and three digits
+-- How the writer spells an octet: quote and backslash after a backslash, other octets 32 to 126 as themselves, all others as \DDD.
 abbrev pub Octet-as-written : Type 0
 Octet-as-written =
     (x : ℕ) →
@@ -49,19 +49,19 @@ Octet-as-written =
     × (x < 256 → (x < 32) ⊎ (126 < x) → (a b c : ℕ) × (escaped x ≡ 92 ∷ a ∷ b ∷ c ∷ [])
     × All (λ y. isDigit y ≡ true) (a ∷ b ∷ c ∷ []) × (decimalFrom 0 (a ∷ b ∷ c ∷ []) ≡ x))
 
--- reading the written line gives the data with its tag in small letters
+-- Reading a written line gives the data with its tag in lower case.
 abbrev pub There-and-back : Type 0
 There-and-back = (p : Property) → HasLine p → readLine (line p) ≡ some (smallTag p)
 
--- writing what was read and reading it again gives the same data, its tag in small letters
+-- Reading a line, writing the data and reading it again gives the same data with its tag in lower case.
 abbrev pub Back-and-there : Type 0
 Back-and-there = (s : List ℕ) (p : Property) → Octets s → readLine s ≡ some p → readLine (line p) ≡ some (smallTag p)
 
--- a written line never exceeds its limit
+-- A written line is never over the limit of lines.
 abbrev pub Line-fits : Type 0
 Line-fits = (p : Property) → HasLine p → length (wireProperty p) ≤ maxDataOctets → length (line p) ≤ maxLineOctets
 
--- The rows of the requirements' table when writing: the data is over its limit; it holds no property with a tag of letters and
+-- The refusals when writing, as in the requirements' table: the data is over its limit; it is not a property with a tag of letters and
 -- digits; the buffer is shorter than the line.
 abbrev pub Writable : List ℕ → Property → Type 0
 Writable d p = (d ≡ wireProperty p) × (1 ≤ length (p .tag)) × All (λ x. isLetterOrDigit x ≡ true) (p .tag)
@@ -75,7 +75,7 @@ Write-refusals =
     ↔ ((length d ≤ maxDataOctets) × ((p : Property) × Writable d p × (length (line p) ≡ n) × (length buffer < n))))
     × ((r : Refusal) → writeLine d buffer .answer ≡ Refused r → writeLine d buffer .buffer ≡ buffer)
 
--- and when reading: the line is over its limit; it stands for no data; the data is over its limit; the buffer is shorter
+-- The refusals when reading: the line is over its limit; it is malformed; its data is over the limit; the buffer is too short.
 abbrev pub Read-refusals : Type 0
 Read-refusals =
     (s buffer : List ℕ) →
@@ -87,7 +87,7 @@ Read-refusals =
     ↔ ((length s ≤ maxLineOctets) × ((p : Property) × LineOf p s × (length (wireProperty p) ≤ maxDataOctets) × (length (wireProperty p) ≡ n) × (length buffer < n))))
     × ((r : Refusal) → parseLine s buffer .answer ≡ Refused r → parseLine s buffer .buffer ≡ buffer)
 
--- with room enough what is made stands at the front, its length is told and the rest of the buffer stays
+-- If the buffer is long enough, the output is at its start, its length is returned and the octets after it are unchanged.
 abbrev pub Line-placed : Type 0
 Line-placed =
     (d buffer : List ℕ) (p : Property) → length d ≤ maxDataOctets → Writable d p → length (line p) ≤ length buffer →
@@ -100,7 +100,7 @@ Data-placed =
     parseLine s buffer
     ≡ record { answer = Length (length (wireProperty p)); buffer = wireProperty p ++ drop (length (wireProperty p)) buffer }
 
--- with room enough, reading what was written gives the data with its tag in small letters, whatever the buffers held
+-- With buffers that are long enough, reading what was written gives the data with its tag in lower case, whatever the buffers held.
 abbrev pub Written-reads-back : Type 0
 Written-reads-back =
     (p : Property) (b₁ b₂ : List ℕ) → HasLine p → length (wireProperty p) ≤ maxDataOctets →

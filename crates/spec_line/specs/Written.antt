@@ -1,4 +1,4 @@
--- CAA data written as a line (RFC 8659 section 4.1.1; the requirements' "A record as a line").
+-- CAA data as a line of text: the presentation format of RFC 8659 section 4.1.1 (the requirements' "A record as a line").
 use Prim.Native.Nat.{ℕ}
 use Prim.Native.Char.{code}
 use mathlib.Core.Bool.{cond, _||_}
@@ -18,13 +18,13 @@ quote = code "\""
 abbrev pub backslash : ℕ
 backslash = code "\\"
 
--- octets 32 to 126 stand as they are, but the quote and the backslash take a backslash; all others are backslash and three digits
+-- How one octet of a value is written: quote and backslash after a backslash, other octets 32 to 126 as themselves, all others as \DDD.
 unfoldable pub escaped : ℕ → List ℕ
 escaped x =
     cond (eqb x quote || eqb x backslash) (backslash ∷ x ∷ [])
     (cond (between 32 126 x) (x ∷ []) (backslash ∷ threeDigits x))
 
--- flags, space, tag in small letters, space, value in quotes
+-- Flags, space, tag in lower case, space, value in quotes.
 unfoldable pub line : Property → List ℕ
 line p =
     decimal (p .flags) ++ (space ∷ []) ++ lowered (p .tag) ++ (space ∷ [])

@@ -1,7 +1,7 @@
-// CAA data as a line of text, the presentation format of RFC 8659 section 4.1.1: the answer of its two calls. Its definitions stand in specs/.
+// CAA data as a line of text, the presentation format of RFC 8659 section 4.1.1: the answer of the two calls. The definitions are in specs/.
 use spec_refusal::Refusal;
 
-// What making a line or data comes to: how many octets now stand at the front of the lent buffer, or the refusal.
+// The length of the output, which is at the start of the caller's buffer; or the refusal.
 pub enum LineAnswer {
     Length(usize),
     Refused(Refusal),

@@ -1,4 +1,4 @@
--- The names that the search looks at, by how many labels are taken off.
+-- The names at which the search looks, by the number of labels removed.
 use Prim.Native.Nat.{ℕ, zero, suc, _<_}
 use native.Mathlib.Nat.{not-suc-le-zero, le-of-suc-le-suc}
 use mathlib.Core.Path.{_≡_, refl, ap}

@@ -1,4 +1,4 @@
--- A name as a field to read, of one octet or more.
+-- A name as a field that a reader reads; it has at least one octet.
 use mathlib.Core.Logic.{_≢_}
 use mathlib.Core.List.{[], _∷_, cons≢nil}
 use Rattle.spec_octets.proofs.Fields.{Field}

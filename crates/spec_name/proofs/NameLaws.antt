@@ -1,4 +1,4 @@
--- A name is read exactly where its wire form stands.
+-- A name is read exactly where the octets begin with its wire form.
 use Prim.Native.Nat.{ℕ, zero, suc, _≤_, _<_}
 use native.Mathlib.Nat.{not-suc-le-zero}
 use native.Mathlib.Omega.{arith}

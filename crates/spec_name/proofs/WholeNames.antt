@@ -1,4 +1,4 @@
--- When two names are the same: as equal lists of labels in small letters, and as equal texts in wire form.
+-- Equality of names: equal lists of labels in lower case, and equal texts in wire form ignoring case.
 use native.Mathlib.Omega.{arith}
 use mathlib.Core.Path.{_≡_, refl, sym, ap, _∙_}
 use mathlib.Core.Logic.{_↔_, inl}

@@ -1,4 +1,4 @@
--- Pairs of names, and whether they are the same: whole, octet for octet, A to Z counting as a to z.
+-- Pairs of names, each with whether they are the same name when letter case is ignored. Worked out by hand.
 use mathlib.Core.Bool.{Bool, true, false}
 use mathlib.Core.List.{List, [], _∷_}
 use Rattle.spec_octets.specs.Octets.{text}
@@ -6,22 +6,22 @@ use Rattle.spec_name.specs.Names.{Name}
 
 abbrev pub nameEdges : List (Name × Name × Bool)
 nameEdges =
-    -- the root; any letter case
+    -- The same: the root twice, and names that differ only in letter case.
     ([], [], true)
     ∷ (text "www" ∷ text "hotel" ∷ text "example" ∷ [], text "WWW" ∷ text "Hotel" ∷ text "EXAMPLE" ∷ [], true)
-    -- another letter first, last, or before a dot; the root beside a name
+    -- Another first letter, another last letter, another letter before a dot; the root and a name.
     ∷ (text "www" ∷ text "hotel" ∷ text "example" ∷ [], text "xww" ∷ text "hotel" ∷ text "example" ∷ [], false)
     ∷ (text "www" ∷ text "hotel" ∷ text "example" ∷ [], text "www" ∷ text "hotel" ∷ text "exampla" ∷ [], false)
     ∷ (text "www" ∷ text "hotel" ∷ text "example" ∷ [], text "www" ∷ text "hoten" ∷ text "example" ∷ [], false)
     ∷ ([], text "a" ∷ [], false)
     ∷ (text "a" ∷ [], [], false)
-    -- the same letters in other labels; a label more in front or behind
+    -- The same letters in other labels; one label more at the beginning or at the end; a longer first label.
     ∷ (text "a" ∷ text "bc" ∷ [], text "ab" ∷ text "c" ∷ [], false)
     ∷ (text "hotel" ∷ text "example" ∷ [], text "www" ∷ text "hotel" ∷ text "example" ∷ [], false)
     ∷ (text "www" ∷ text "hotel" ∷ text "example" ∷ [], text "hotel" ∷ text "example" ∷ [], false)
     ∷ (text "www" ∷ text "hotel" ∷ [], text "www" ∷ text "hotel" ∷ text "example" ∷ [], false)
     ∷ (text "hotel" ∷ text "example" ∷ [], text "badhotel" ∷ text "example" ∷ [], false)
-    -- 15 to 17 and 31 to 33 octets with the closing zero: in another letter case; with another letter first, and last
+    -- Names of 15, 16, 17, 31, 32 and 33 octets with the closing zero. Each: the same in upper case; another first octet, another last one.
     ∷ (text "abcdefghijklm" ∷ [], text "ABCDEFGHIJKLM" ∷ [], true)
     ∷ (text "abcdefghijklm" ∷ [], text "zbcdefghijklm" ∷ [], false)
     ∷ (text "abcdefghijklm" ∷ [], text "abcdefghijkl-" ∷ [], false)

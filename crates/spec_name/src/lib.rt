@@ -1,1 +1,1 @@
-// Domain names in wire form: definitions and theorems.
+// Domain names in wire form: definitions and theorems, no code.

@@ -1,4 +1,4 @@
--- No element of a list stands twice exactly when none stands at two places.
+-- No element of a list occurs twice exactly when none stands at two positions.
 use mathlib.Core.Path.{_≡_, refl, sym, ap}
 use mathlib.Core.Logic.{_≢_}
 use mathlib.Core.List.{List, [], _∷_, _++_, cons-eq-cons, cons≢nil}

@@ -1,4 +1,4 @@
--- Texts whose pieces all pass a test, as texts joined of passing pieces; and labels, which hold no dot.
+-- Texts whose pieces all pass a test are joined from pieces that pass; labels contain no dot.
 use Prim.Native.Nat.{ℕ}
 use Prim.Native.Char.{code}
 use mathlib.Core.Path.{_≡_, refl}

@@ -1,4 +1,4 @@
--- Reading several fields, one after the other: each stands at the front of what the one before it has left.
+-- Reading several fields in a row: each begins where the one before it ends.
 use Prim.Native.Nat.{ℕ, _^_, _<_}
 use mathlib.Core.Path.{_≡_, subst, subst₂}
 use mathlib.Core.Bool.{Bool, true}

@@ -1,4 +1,4 @@
--- Items end to end are whole, broken at a place or over exactly when their octets say so.
+-- When a sequence of items is read completely, when item k of it is malformed, and when it has too many items.
 use Prim.Native.Nat.{ℕ, zero, suc, _+_, _-_, _≤_, _<_}
 use native.Mathlib.Omega.{arith}
 use mathlib.Core.Path.{_≡_, refl, sym, ap, _∙_}

@@ -1,4 +1,4 @@
--- Octets read as items are accepted with their items, or refused by one of three rows: for requests and for books.
+-- A sequence of items is accepted with its items, or refused by one of three rows: for requests and for books.
 use Prim.Native.Nat.{ℕ, _+_, _≤_, _<_}
 use native.Mathlib.Omega.{arith}
 use mathlib.Core.Path.{_≡_, refl, sym}

@@ -1,4 +1,4 @@
--- Items are no more than there is room for, whatever the octets, and so is the place of a fault among them.
+-- The number of items, and the number of a malformed item, are within the maximum, for any octets.
 use Prim.Native.Nat.{ℕ, zero, suc, _≤_, _<_}
 use native.Mathlib.Omega.{arith}
 use mathlib.Core.List.{List, [], _∷_}

@@ -1,4 +1,4 @@
--- A loop that reads items off a slice, place by place: with k items read, what is left from `at` on gives the answer of the whole.
+-- A loop that reads items from a slice: with k items read, reading on from offset `at` gives the result for the whole slice.
 use Prim.Native.Nat.{ℕ, suc, _≤_, _<_, _+_, _-_}
 use native.Mathlib.Nat.{sub-zero, sub-self, zero-add, add-zero}
 use native.Mathlib.Omega.{arith}

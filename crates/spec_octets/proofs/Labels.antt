@@ -1,4 +1,4 @@
--- Labels: the test, the requirements' words and the production of RFC 8659 section 4.2 say the same.
+-- Three ways to say what a label is agree: the test, the requirements' words and the production of RFC 8659 section 4.2.
 use Prim.Native.Nat.{ℕ, _≤_}
 use native.Mathlib.Omega.{arith}
 use mathlib.Core.Path.{_≡_, refl, ap, sym, _∙_}

@@ -1,4 +1,4 @@
--- A number of k octets is read exactly where it is written, the high octet first.
+-- A number of k octets is read exactly where it is written in network byte order.
 use Prim.Native.Nat.{ℕ, zero, suc, _+_, _*_, _/_, _%_, _^_, _<_}
 use native.Mathlib.Omega.{arith}
 use native.Mathlib.Nat.{pow-suc}

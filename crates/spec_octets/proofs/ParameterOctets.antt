@@ -1,4 +1,4 @@
--- The octets of a parameter's value; a number in three digits; a buffer whose front is filled.
+-- The octets of a parameter's value; a number in three digits; a buffer with octets written at its start.
 use Prim.Native.Nat.{ℕ, _/_, _%_, _≤_, _<_}
 use native.Mathlib.Omega.{arith}
 use mathlib.Core.Path.{_≡_, refl}

@@ -1,4 +1,4 @@
--- The pieces of a text are the one way to make it by joining texts without the octet it is cut at.
+-- The pieces of a text are the only way to make it by joining texts without the separator.
 use Prim.Native.Nat.{ℕ}
 use mathlib.Core.Path.{_≡_, refl}
 use mathlib.Core.Logic.{_≢_}

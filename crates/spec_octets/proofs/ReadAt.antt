@@ -1,4 +1,4 @@
--- Octets and numbers read at a place of a slice: what is read is a part of the slice, and reading goes on behind it.
+-- Octets and numbers read at an offset of a slice: what is read is a part of the slice, and reading continues after it.
 use Prim.Native.Nat.{ℕ, suc, _≤_, _+_, _*_, _-_}
 use native.Mathlib.Numerals.{add-one}
 use native.Mathlib.Omega.{arith}

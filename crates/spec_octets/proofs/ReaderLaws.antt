@@ -1,4 +1,4 @@
--- When each reader takes a value off the front of some octets, and which.
+-- When each reader succeeds, and with which value.
 use Prim.Native.Nat.{ℕ}
 use native.Mathlib.Omega.{arith}
 use mathlib.Core.Path.{_≡_, refl, sym, ap}

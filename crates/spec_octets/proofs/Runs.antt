@@ -1,4 +1,4 @@
--- Octets of one class: what *(one of a class) matches, blanks, and the classes that hold no blank; what may be left out.
+-- Sequences of octets of one class: what *(class) matches, white space, classes without white space, optional parts.
 use Prim.Native.Nat.{ℕ}
 use Prim.Native.Char.{code}
 use mathlib.Core.Path.{_≡_, refl}

@@ -1,4 +1,4 @@
--- What small letters leave as it was: the class of letters and digits, and a text in small letters.
+-- Lower case keeps letters and digits letters and digits, and leaves a text in lower case unchanged.
 use Prim.Native.Nat.{ℕ, _+_, _≤_}
 use native.Mathlib.Omega.{arith}
 use mathlib.Core.Path.{_≡_, refl, ap}

@@ -1,4 +1,4 @@
--- When two texts are the same: as equal lists in small letters, so only texts of one length.
+-- Equality of texts: equal lists in lower case, so only texts of the same length.
 use Prim.Native.Nat.{ℕ}
 use mathlib.Core.Path.{_≡_, refl}
 use mathlib.Core.Logic.{_↔_}

@@ -1,4 +1,4 @@
--- Trimming takes off the blanks at an end, all of them and nothing else.
+-- Trimming removes all white space at an end, and nothing else.
 use Prim.Native.Nat.{ℕ}
 use mathlib.Core.Path.{_≡_, refl, _∙_, ap}
 use mathlib.Core.Bool.{Bool, true, false, cond}

@@ -1,4 +1,4 @@
--- Trimming takes off the blanks in front, all of them and nothing else.
+-- Trimming removes all leading white space, and nothing else.
 use Prim.Native.Nat.{ℕ}
 use mathlib.Core.Path.{_≡_, refl, ap}
 use mathlib.Core.Bool.{Bool, true, false, cond}

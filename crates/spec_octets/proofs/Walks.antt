@@ -1,4 +1,4 @@
--- Steps of a loop along a slice: what is left of it, and `all` by what is left.
+-- Steps of a loop along a slice: the remaining octets, and `all` over them.
 use Prim.Native.Nat.{ℕ, _+_, _-_, _≤_, _<_}
 use native.Mathlib.Omega.{arith}
 use native.Mathlib.Numerals.{add-one}

@@ -1,4 +1,4 @@
--- A comparison of whole lists, element by element, finds no list the same as a proper tail or front of it.
+-- A comparison of whole lists, element by element: no list equals a proper prefix or suffix of itself.
 use Prim.Native.Nat.{_<_}
 use native.Mathlib.Omega.{arith}
 use mathlib.Core.Path.{_≡_, refl, sym, ap, _∙_}

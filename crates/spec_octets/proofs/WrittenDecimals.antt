@@ -1,4 +1,4 @@
--- A decimal says its number, with no needless zero.
+-- A decimal has the value of its number, without leading zeros.
 use Prim.Native.Nat.{ℕ, zero, suc, _+_, _/_, _%_, _^_, _≤_, _<_}
 use Prim.Native.Char.{code}
 use native.Mathlib.Omega.{arith}

@@ -1,4 +1,4 @@
--- The operators of ABNF (RFC 5234), for stating a grammar as its productions: each says which texts it matches.
+-- The operators of ABNF (RFC 5234), so that a grammar can be stated as its productions. A production says which texts it matches.
 use Prim.Native.Nat.{ℕ}
 use mathlib.Core.Path.{_≡_}
 use mathlib.Core.Logic.{_⊎_}
@@ -10,21 +10,21 @@ infixr 45 _⊕_
 abbrev pub Production : Type 1
 Production = List ℕ → Type 0
 
--- one octet of a class; one octet
+-- One octet of a class; and one given octet.
 abbrev pub one : (ℕ → Bool) → Production
 one p s = (x : ℕ) × (s ≡ x ∷ []) × (p x ≡ true)
 
 abbrev pub lit : ℕ → Production
 lit c s = s ≡ c ∷ []
 
--- p and then q; p or nothing
+-- Concatenation, p then q; and RFC 5234's [p], p or nothing.
 abbrev pub _⊕_ : Production → Production → Production
 _⊕_ p q s = (a b : List ℕ) × (s ≡ a ++ b) × p a × q b
 
 abbrev pub optional : Production → Production
 optional p s = (s ≡ []) ⊎ p s
 
--- p any number of times: RFC 5234's *p
+-- Repetition, RFC 5234's *p: p any number of times, also none.
 pub data many (p : Production) : List ℕ → Type 0 where
   many-none : many p []
   many-more : {s : List ℕ} (a b : List ℕ) → s ≡ a ++ b → p a → many p b → many p s

@@ -1,4 +1,4 @@
--- Items end to end: the names of a request, the records of a book.
+-- A sequence of items without separators: the names of a request, the records of a book.
 use Prim.Native.Nat.{ℕ, zero, suc}
 use mathlib.Core.Path.{_≡_}
 use mathlib.Core.Logic.{_≢_}
@@ -8,17 +8,17 @@ use lib.ListN.{length}
 use Rattle.spec_octets.specs.Lists.{All, flatten}
 use Rattle.spec_octets.specs.Reader.{Reader}
 
--- what reading some octets as items comes to
+-- The result of reading octets as a sequence of items.
 pub data Items (A : Type 0) : Type 0 where
-  -- these items and nothing else
+  -- The octets are exactly these items.
   whole : List A → Items A
-  -- the item of this number, from 0, can't be read
+  -- The item with this number, counted from 0, is malformed.
   broken : ℕ → Items A
-  -- octets remain after as many items as there may be
+  -- Octets are left after the maximum number of items.
   over : Items A
 
 module _ {A : Type 0} where
-  -- the same with one item more in front
+  -- The result when one more item comes first.
   abbrev pub follow : A → Items A → Items A
   follow a (whole xs) = whole (a ∷ xs)
   follow a (broken k) = broken (suc k)
@@ -28,38 +28,38 @@ module _ {A : Type 0} where
   before none rest = broken 0
   before (some r) rest = follow (r .0) (rest (r .1))
 
-  -- the items themselves; none where they are broken or over
+  -- The items; none if one is malformed or there are too many.
   abbrev pub wholeItems : Items A → List A
   wholeItems (whole xs) = xs
   wholeItems (broken k) = []
   wholeItems over = []
 
-  -- why they are refused, by an answer for a broken item and one for too many
+  -- The refusal, if any: `bad k` if item k is malformed, `many` if there are too many.
   abbrev pub itemFault : {R : Type 0} → (ℕ → R) → R → Items A → Option R
   itemFault bad many (whole xs) = none
   itemFault bad many (broken k) = some (bad k)
   itemFault bad many over = some many
 
 module _ {A : Type 0} (read : Reader A) where
-  -- at most so many items; an item is read where any octet is left
+  -- Reads at most `room` items, one after the other, as long as octets are left.
   abbrev pub items : ℕ → List ℕ → Items A
   items zero [] = whole []
   items zero (x ∷ s) = over
   items (suc room) [] = whole []
   items (suc room) (x ∷ s) = before (read (x ∷ s)) (λ rest. items room rest)
 
--- The same without a reader: what an item's octets are, and which items are good.
+-- The same without a reader. `wire` gives the octets of an item, `Good` says which items are valid.
 module _ {A : Type 0} (wire : A → List ℕ) (Good : A → Type 0) where
-  -- good items xs, in their order, stand at the front of s, and rest follows
+  -- s begins with the valid items xs, in this order, and then rest follows.
   abbrev pub Front : List ℕ → List A → List ℕ → Type 0
   Front s xs rest = (s ≡ flatten (map wire xs) ++ rest) × All Good xs
 
-  -- k good items stand at the front of s, more octets follow, and no good item stands there
+  -- s begins with k valid items; octets follow, and they don't begin with a valid item.
   abbrev pub BrokenAt : List ℕ → ℕ → Type 0
   BrokenAt s k =
       (xs : List A) × (rest : List ℕ) × Front s xs rest × (length xs ≡ k) × (rest ≢ []) ×
       ((a : A) (more : List ℕ) → rest ≡ wire a ++ more → Good a → ⊥)
 
-  -- octets remain after n good items
+  -- Octets are left after n valid items.
   abbrev pub Beyond : ℕ → List ℕ → Type 0
   Beyond n s = (xs : List A) × (rest : List ℕ) × Front s xs rest × (length xs ≡ n) × (rest ≢ [])

@@ -1,4 +1,4 @@
--- Octets are numbers below 256. Their classes (RFC 5234 appendix B.1), letter case, and when two texts are the same.
+-- Octets, their classes (RFC 5234 appendix B.1), letter case and comparison.
 use Prim.Native.Nat.{ℕ, _+_, _<_}
 use Prim.Native.Char.{code}
 use Prim.Native.String.{String}
@@ -8,11 +8,11 @@ use mathlib.Core.List.{List, [], _∷_, map}
 use lib.Dec.{leb, eqb}
 use Rattle.spec_octets.specs.Lists.{All}
 
--- every number of the list is an octet
+-- Every number of the list is an octet: it is below 256.
 abbrev pub Octets : List ℕ → Type 0
 Octets s = All (λ x. x < 256) s
 
--- the octets of an ASCII text
+-- The octets of an ASCII text.
 abbrev pub text : String → List ℕ
 text String.[] = []
 text (String._∷_ c s) = code c ∷ text s
@@ -35,16 +35,16 @@ isLetterOrDigit x = isUpper x || isLower x || isDigit x
 abbrev pub hyphen : ℕ
 hyphen = code "-"
 
--- WSP of RFC 5234: space and tab (the requirements' "blank")
+-- White space: WSP of RFC 5234, space or tab (the requirements' "blank").
 unfoldable pub isBlank : ℕ → Bool
 isBlank x = eqb x (code " ") || eqb x (code "\t")
 
--- a text without the blanks at its front
+-- Removes leading white space.
 abbrev pub trimStart : List ℕ → List ℕ
 trimStart [] = []
 trimStart (x ∷ s) = cond (isBlank x) (trimStart s) (x ∷ s)
 
--- a text without the blanks at its end
+-- Removes trailing white space.
 abbrev pub unlessLastBlank : ℕ → List ℕ → List ℕ
 unlessLastBlank x [] = cond (isBlank x) [] (x ∷ [])
 unlessLastBlank x (y ∷ s) = x ∷ y ∷ s
@@ -53,24 +53,25 @@ abbrev pub trimEnd : List ℕ → List ℕ
 trimEnd [] = []
 trimEnd (x ∷ s) = unlessLastBlank x (trimEnd s)
 
--- the octets that the value of a parameter may hold (RFC 8659 section 4.2): 33 to 126 except the semicolon
+-- RFC 8659 section 4.2: the octets of a parameter's value, 33 to 126 except the semicolon.
 unfoldable pub isParameterOctet : ℕ → Bool
 isParameterOctet x = between 33 126 x && not (eqb x (code ";"))
 
--- "A to Z counting as a to z", and no other octet as another one
+-- Lower case of one octet: "A to Z counting as a to z". Every other octet is unchanged.
 unfoldable pub lower : ℕ → ℕ
 lower x = cond (isUpper x) (x + 32) x
 
+-- A text in lower case.
 abbrev pub lowered : List ℕ → List ℕ
 lowered s = map lower s
 
--- two texts of one length, octet for octet
+-- Equality octet for octet; texts of different lengths differ.
 abbrev pub same : List ℕ → List ℕ → Bool
 same [] [] = true
 same [] (y ∷ ys) = false
 same (x ∷ xs) [] = false
 same (x ∷ xs) (y ∷ ys) = eqb x y && same xs ys
 
--- "Names are equal when whole and equal octet for octet, A to Z counting as a to z"; property tags too (RFC 8659 section 4.1)
+-- "Names are equal when whole and equal octet for octet, A to Z counting as a to z". So are tags (RFC 8659 section 4.1).
 unfoldable pub equalIgnoringCase : List ℕ → List ℕ → Bool
 equalIgnoringCase a b = same (lowered a) (lowered b)

@@ -1,4 +1,4 @@
--- Statements that only say a definition again, so that its text cannot change unseen. Each is proved under its name in proofs/.
+-- Equations that restate a definition, so that it can't change unnoticed. Each is proved under its name in proofs/.
 use Prim.Native.Nat.{ℕ, _<_, _≤_}
 use mathlib.Core.Logic.{_↔_, _⊎_}
 use mathlib.Core.List.{List, map, [], _∷_, _++_}
@@ -12,32 +12,32 @@ use Rattle.spec_octets.specs.Grammar.{Production, optional}
 use lib.ListN.{length, drop}
 use Rattle.spec_octets.specs.Buffer.{filled, filledLength}
 
--- octets are the numbers below 256, all of them: any slice of octets is such a list
+-- Octets are all the numbers below 256, so any slice of octets is such a list.
 abbrev pub Octets-below-256 : Type 0
 Octets-below-256 = (s : List ℕ) → Octets s ↔ All (λ x. x < 256) s
 
--- a text in small letters is that text octet for octet, however long
+-- A text is put in lower case octet by octet, whatever its length.
 abbrev pub Small-letters : Type 0
 Small-letters = (s : List ℕ) → lowered s ≡ map lower s
 
 abbrev pub Hyphen-octet : Type 0
 Hyphen-octet = hyphen ≡ 45
 
--- one piece is the text; of more, the first has c behind it, and then come the others
+-- One piece is joined to itself. Of several, the first comes first, then c, then the others joined.
 abbrev pub Join-form : Type 0
 Join-form =
     (c : ℕ) → (join c [] ≡ []) × ((p : List ℕ) → join c (p ∷ []) ≡ p)
     × ((p q : List ℕ) (ps : List (List ℕ)) → join c (p ∷ q ∷ ps) ≡ p ++ (c ∷ join c (q ∷ ps)))
 
--- all that is left is read, and nothing stays
+-- `remainder` reads everything and leaves nothing.
 abbrev pub Remainder-whole : Type 0
 Remainder-whole = (s : List ℕ) → remainder s ≡ some (s, [])
 
--- what may be left out matches the empty text, and whatever else the production matches
+-- An optional production matches the empty text, and what the production itself matches.
 abbrev pub Optional-form : Type 1
 Optional-form = (p : Production) (s : List ℕ) → optional p s ↔ ((s ≡ []) ⊎ p s)
 
--- with room the octets stand at the front of a buffer and the rest stays; without, nothing is put and all of it stays
+-- If the buffer is long enough, e is written at its start and the other octets are unchanged. If not, nothing is written.
 abbrev pub Buffer-filled : Type 0
 Buffer-filled =
     (e d : List ℕ) →

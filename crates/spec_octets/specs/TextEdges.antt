@@ -1,4 +1,4 @@
--- Pairs of texts, and whether they are the same: whole, octet for octet, A to Z counting as a to z.
+-- Pairs of texts, each with whether they are the same text when letter case is ignored. Worked out by hand.
 use Prim.Native.Nat.{ℕ}
 use mathlib.Core.Bool.{Bool, true, false}
 use mathlib.Core.List.{List, [], _∷_}
@@ -6,13 +6,13 @@ use Rattle.spec_octets.specs.Octets.{text}
 
 abbrev pub textEdges : List (List ℕ × List ℕ × Bool)
 textEdges =
-    -- no octets; any letter case
+    -- The same: two empty texts, and texts that differ only in letter case.
     (text "", text "", true)
     ∷ (text "issue", text "ISSUE", true)
     ∷ (text "IsSuE", text "iSsUe", true)
     ∷ (text "abcdefghijklmnopqrstuvwxyz", text "ABCDEFGHIJKLMNOPQRSTUVWXYZ", true)
     ∷ (74 ∷ [], 106 ∷ [], true)
-    -- the bit that tells A from a, in what is no letter: @ and `, [ and {, 13 and the hyphen, and so on
+    -- Octets that differ by 32, as A and a do, but are not the two cases of a letter: @ and `, [ and {, 13 and the hyphen.
     ∷ (text "@", text "`", false)
     ∷ (text "[", text "{", false)
     ∷ (text "]", text "}", false)
@@ -24,7 +24,7 @@ textEdges =
     ∷ (16 ∷ [], 48 ∷ [], false)
     ∷ (0 ∷ [], 32 ∷ [], false)
     ∷ (193 ∷ [], 225 ∷ [], false)
-    -- a text is neither its front nor its end, whichever stands first
+    -- A text and its beginning or its end, in both orders.
     ∷ (text "ca1.example.net", text "notca1.example.net", false)
     ∷ (text "notca1.example.net", text "ca1.example.net", false)
     ∷ (text "ca1.example.net", text "ca1.example.net0", false)
@@ -33,8 +33,8 @@ textEdges =
     ∷ (text "issuewild", text "issue", false)
     ∷ (text "", text "a", false)
     ∷ (text "a", text "", false)
-    -- about one and two times sixteen octets: in another letter case; with another octet first, last, last but one, and on
-    -- both sides of the sixteenth from either end
+    -- Texts of 15, 16, 17, 31, 32 and 33 octets. Each: the same in upper case; another first octet, last octet and octet before the
+    -- last; another octet on each side of the sixteenth, counted from either end.
     ∷ (text "abcdefghijklmno", text "ABCDEFGHIJKLMNO", true)
     ∷ (text "abcdefghijklmno", text "-bcdefghijklmno", false)
     ∷ (text "abcdefghijklmno", text "abcdefghijklm-O", false)

@@ -1,1 +1,1 @@
-// Octets: their classes, letter case and comparison; labels; pieces and items of a text; readers. Definitions and theorems alone.
+// Octets: classes, letter case, comparison, labels, splitting and joining, sequences of items, readers. Definitions and theorems, no code.

@@ -1,4 +1,4 @@
--- What is packed is found again; of a refusal the number and the place.
+-- Unpacking returns what was packed; for a refusal its number and place.
 use Prim.Native.Nat.{_^_, _<_}
 use native.Mathlib.Omega.{arith}
 use mathlib.Core.Path.{refl}
@@ -6,7 +6,7 @@ use Rattle.spec_refusal.specs.declared.Refusal.{Refusal}
 use Rattle.spec_refusal.specs.declared.Refusal.the-variants.{RequestTooLong, BadName, TooManyNames, BadIssuer, BookTooLong, BadRecord, TooManyRecords, NoRoom, BadLine, LineTooLong, BadData}
 use Rattle.spec_refusal.specs.Refusal.{number, place}
 use Rattle.spec_packed.specs.Packed.{packed, packedRefusal}
-use Rattle.spec_packed.specs.Theorems.{Unpacks, Fields-apart, Refusal-unpacks, Packed-bits, Packed-example}
+use Rattle.spec_packed.specs.Theorems.{Unpacks, Fields-apart, Refusal-unpacks, Packed-bits, Packed-example, Packed-refusals}
 
 pub unpacks : Unpacks
 unfolding packed
@@ -31,9 +31,8 @@ number-small LineTooLong = omega arith
 number-small BadData = omega arith
 
 pub refusal-unpacks : Refusal-unpacks
-unfolding packedRefusal
-refusal-unpacks r h =
-    let u = unpacks (number r) (place r) 0 0 (number-small r) h (omega arith) (omega arith) in (u .0, u .1, u .2, u .3)
+unfolding packed packedRefusal
+refusal-unpacks r h = omega (arith, number-small r)
 
 pub packed-bits : Packed-bits
 unfolding packed
@@ -42,3 +41,7 @@ packed-bits n a b c hn ha hb hc = omega arith
 pub packed-example : Packed-example
 unfolding packed
 packed-example = refl
+
+pub packed-refusals : Packed-refusals
+unfolding number place packed packedRefusal
+packed-refusals = (refl, refl, refl)

@@ -1,4 +1,4 @@
--- An answer as one number of 64 bits: its number in bits 0 to 7, and fields in bits 8 to 31, 32 to 47 and 48 to 63.
+-- An answer packed into 64 bits: its number in bits 0 to 7, field a in bits 8 to 31, b in 32 to 47, c in 48 to 63.
 use Prim.Native.Nat.{ℕ, _+_, _*_, _/_, _%_, _^_}
 use Rattle.spec_refusal.specs.declared.Refusal.{Refusal}
 use Rattle.spec_refusal.specs.Refusal.{number, place}
@@ -9,7 +9,7 @@ packed n a b c = n % 2 ^ 8 + a % 2 ^ 24 * 2 ^ 8 + b % 2 ^ 16 * 2 ^ 32 + c % 2 ^ 
 unfoldable pub packedRefusal : Refusal → ℕ
 packedRefusal r = packed (number r) (place r) 0 0
 
--- the number and the fields of a packed answer
+-- The number and the fields of a packed answer.
 abbrev pub numberIn : ℕ → ℕ
 numberIn x = x % 2 ^ 8
 

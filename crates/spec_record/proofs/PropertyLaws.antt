@@ -1,4 +1,4 @@
--- CAA data holds a property exactly when it is written so; the critical bit; the known tags in any letter case.
+-- CAA data holds a property exactly when it is its wire form; the critical bit; the known tags in upper and lower case.
 use Prim.Native.Nat.{ℕ, _≤_, _/_, _%_}
 use Prim.Native.String.{String}
 use native.Mathlib.Omega.{arith}

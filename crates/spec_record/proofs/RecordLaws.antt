@@ -1,4 +1,4 @@
--- A resource record is read exactly where its fields stand, one after the other.
+-- A resource record is read exactly where the octets begin with its fields in order.
 use Prim.Native.Nat.{ℕ, _≤_}
 use native.Mathlib.Omega.{arith}
 use mathlib.Core.Path.{_≡_, refl, _∙_}

@@ -1,4 +1,4 @@
--- Books, octet for octet, beside the refusal that the requirements state, or none.
+-- Books as octets, each with the refusal that the requirements state, or none.
 use Prim.Native.Nat.{ℕ, _-_, _/_, _%_}
 use mathlib.Core.List.{List, [], _∷_, _++_}
 use mathlib.Core.Option.{Option, none, some}
@@ -11,11 +11,11 @@ use Rattle.spec_octets.specs.Octets.{text}
 abbrev pub badRecord : ℕ → Option Refusal
 badRecord k = some (BadRecord (record { 0 = k }))
 
--- a record of the owner `a`: the two octets of its type, its class, the length told of its data, and the data
+-- A record with the owner `a`: the two octets of its type, its class, the data length field, and the data.
 abbrev pub recordOctets : ℕ → ℕ → ℕ → ℕ → List ℕ → List ℕ
 recordOctets high low class n d = (1 ∷ 97 ∷ 0 ∷ high ∷ low ∷ 0 ∷ class ∷ 9 ∷ 9 ∷ 9 ∷ 9 ∷ 0 ∷ n ∷ []) ++ d
 
--- type 257 and class 1; type 1 and class 1; type 257 and class 3
+-- Type 257 and class 1; type 1 and class 1; type 257 and class 3.
 abbrev pub caaOctets : List ℕ → List ℕ
 caaOctets d = recordOctets 1 1 1 (length d) d
 
@@ -25,7 +25,7 @@ addressOctets d = recordOctets 0 1 1 (length d) d
 abbrev pub chaosOctets : List ℕ → List ℕ
 chaosOctets d = recordOctets 1 1 3 (length d) d
 
--- so many records of the root without data, each of 11 octets; and one record that takes so many octets
+-- n records of the root without data, each of 11 octets; and one record of n octets.
 abbrev pub records : ℕ → List ℕ
 records n = flatten (replicate n (0 ∷ 0 ∷ 1 ∷ 0 ∷ 1 ∷ 0 ∷ 0 ∷ 0 ∷ 0 ∷ 0 ∷ 0 ∷ []))
 
@@ -34,42 +34,42 @@ ofOctets n = (0 ∷ 0 ∷ 1 ∷ 0 ∷ 1 ∷ 0 ∷ 0 ∷ 0 ∷ 0 ∷ (n - 11) / 2
 
 abbrev pub bookEdges : List (List ℕ × Option Refusal)
 bookEdges =
-    -- no record; CAA data of flags, tag length, tag and value; one without a value
+    -- No record; CAA data of flags, tag length, tag and value; CAA data without a value.
     ([], none)
     ∷ (caaOctets (0 ∷ 5 ∷ text "issueca1.example.net"), none)
     ∷ (caaOctets (255 ∷ 1 ∷ text "t"), none)
-    -- fewer than 2 octets, an empty tag, a tag longer than the data
+    -- Fewer than 2 octets, an empty tag, a tag longer than the data.
     ∷ (caaOctets [], badRecord 0)
     ∷ (caaOctets (0 ∷ []), badRecord 0)
     ∷ (caaOctets (0 ∷ 0 ∷ []), badRecord 0)
     ∷ (caaOctets (0 ∷ 0 ∷ text "t"), badRecord 0)
     ∷ (caaOctets (0 ∷ 2 ∷ text "t"), badRecord 0)
-    -- a tag with other octets is laid out rightly
+    -- A tag with octets other than letters and digits is well formed in a book.
     ∷ (caaOctets (128 ∷ 4 ∷ text "tb_s"), none)
-    -- what is no CAA record may hold anything; the number counts every record
+    -- Records other than CAA may hold any data, and they count in the record number.
     ∷ (addressOctets [], none)
     ∷ (chaosOctets (0 ∷ []), none)
     ∷ (addressOctets [] ++ chaosOctets [] ++ caaOctets (0 ∷ []), badRecord 2)
-    -- the root and any octets as an owner; a length octet above 63; an owner cut off
+    -- Owners: the root, any octets, a length octet above 63, a compression pointer, one that is cut off.
     ∷ (0 ∷ 0 ∷ 1 ∷ 0 ∷ 1 ∷ 0 ∷ 0 ∷ 0 ∷ 0 ∷ 0 ∷ 0 ∷ [], none)
     ∷ (2 ∷ 255 ∷ 46 ∷ 0 ∷ 0 ∷ 1 ∷ 0 ∷ 1 ∷ 0 ∷ 0 ∷ 0 ∷ 0 ∷ 0 ∷ 0 ∷ [], none)
     ∷ (64 ∷ [], badRecord 0)
     ∷ (192 ∷ 12 ∷ 0 ∷ 1 ∷ 0 ∷ 1 ∷ 0 ∷ 0 ∷ 0 ∷ 0 ∷ 0 ∷ 0 ∷ [], badRecord 0)
     ∷ (1 ∷ 97 ∷ [], badRecord 0)
-    -- fixed fields cut off; a data length one too long, and one too short
+    -- Fixed fields that are cut off; a data length that is too long by one, and too short by one.
     ∷ (addressOctets [] ++ (1 ∷ 97 ∷ 0 ∷ 0 ∷ 1 ∷ 0 ∷ 1 ∷ 0 ∷ 0 ∷ 0 ∷ 0 ∷ 0 ∷ []), badRecord 1)
     ∷ (recordOctets 0 1 1 3 (1 ∷ 2 ∷ []), badRecord 0)
     ∷ (recordOctets 0 1 1 1 (1 ∷ 2 ∷ []), badRecord 1)
-    -- of two faults the first is told: CAA data laid out wrongly, and a record cut off
+    -- The first fault is reported: malformed CAA data, and a record that is cut off.
     ∷ (caaOctets (0 ∷ []) ++ (1 ∷ 97 ∷ []), badRecord 0)
     ∷ (caaOctets (0 ∷ 1 ∷ text "t") ++ caaOctets (0 ∷ []) ++ (1 ∷ 97 ∷ []), badRecord 1)
     ∷ (caaOctets (0 ∷ 1 ∷ text "t") ++ (1 ∷ 97 ∷ []), badRecord 1)
-    -- 256 records, and octets behind them, whatever these are
+    -- 256 records, and any octets after them.
     ∷ (records 256, none)
     ∷ (records 257, some TooManyRecords)
     ∷ (records 256 ++ (64 ∷ []), some TooManyRecords)
     ∷ (records 255 ++ (64 ∷ []), badRecord 255)
-    -- 32,768 octets, and one more: one record of the root that fills the book
+    -- 32,768 octets, and one more: one record of the root that fills the book.
     ∷ (ofOctets 32768, none)
     ∷ (ofOctets 32769, some BookTooLong)
     ∷ (replicate 32768 255, badRecord 0)

@@ -1,4 +1,5 @@
--- Statements that only say a definition again, so that its text cannot change unseen. Each is proved under its name in proofs/.
+-- A round-trip theorem doesn't fix a format: change reader and writer together, and it still holds. So each format is also spelled out by
+-- an equation. Each is proved under its name in proofs/.
 use mathlib.Core.Path.{_≡_}
 use mathlib.Core.List.{_∷_, _++_}
 use lib.ListN.{length}
@@ -7,11 +8,11 @@ use Rattle.spec_octets.specs.Reader.{inOctets}
 use Rattle.spec_name.specs.Names.{wire}
 use Rattle.spec_record.specs.Records.{Record, wireRecord}
 
--- flags, the length of the tag, tag and value
+-- RFC 8659 section 4.1: flags, tag length, tag and value.
 abbrev pub Property-form : Type 0
 Property-form = (p : Property) → wireProperty p ≡ p .flags ∷ length (p .tag) ∷ (p .tag ++ p .value)
 
--- the owner, then type and class in two octets each, the time to live in four, the length of the data in two, and the data
+-- RFC 1035 section 3.2.1: owner, type and class (2 octets each), time to live (4), data length (2), data.
 abbrev pub Record-form : Type 0
 Record-form =
     (r : Record) →

@@ -15,11 +15,11 @@ pub record Property : Type 0 where
   pub tag : List ℕ
   pub value : List ℕ
 
--- flags (1 octet), tag length n (1), tag (n), value (the rest)
+-- Flags (1 octet), tag length n (1), tag (n), value (all remaining octets).
 abbrev pub wireProperty : Property → List ℕ
 wireProperty p = p .flags ∷ length (p .tag) ∷ (p .tag ++ p .value)
 
--- the tag length is at least 1, and no more than what is left
+-- The tag length is at least 1, and the data has that many octets left.
 unfoldable pub readProperty : Reader Property
 readProperty = do
   f ← octet
@@ -28,7 +28,7 @@ readProperty = do
   v ← remainder
   given (leb 1 n) (record { flags = f; tag = t; value = v })
 
--- the property that CAA data holds, or none where the data is laid out wrongly
+-- The property in CAA data; none if the data is malformed.
 abbrev pub found : Option (Property × List ℕ) → Option Property
 found none = none
 found (some r) = some (r .0)
@@ -36,7 +36,7 @@ found (some r) = some (r .0)
 unfoldable pub property : List ℕ → Option Property
 property d = found (readProperty d)
 
--- RFC 8659 section 4.1: the critical flag is bit 0, the one worth 128; the other seven mean nothing
+-- RFC 8659 section 4.1, Issuer Critical Flag: bit 0, the most significant bit, of value 128. The other seven bits are ignored.
 unfoldable pub isCritical : Property → Bool
 isCritical p = eqb (p .flags / 128 % 2) 1
 

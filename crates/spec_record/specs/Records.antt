@@ -21,7 +21,7 @@ pub record Record : Type 0 where
   pub ttl : ℕ
   pub rdata : List ℕ
 
--- owner, type, class, time to live, data length, data
+-- RFC 1035 section 3.2.1: owner, type, class, time to live, data length, data.
 abbrev pub wireRecord : Record → List ℕ
 wireRecord r =
     wire (r .owner) ++ inOctets 2 (r .type) ++ inOctets 2 (r .class) ++ inOctets 4 (r .ttl)
@@ -35,7 +35,7 @@ abbrev pub isSome : {A : Type 0} → Option A → Bool
 isSome none = false
 isSome (some a) = true
 
--- which data is laid out rightly, by type and class; what is no CAA record may hold anything
+-- Whether data is well formed for its type and class. Data of other types and classes is not checked.
 unfoldable pub isLaidOut : ℕ → ℕ → List ℕ → Bool
 isLaidOut type class d = not (isCaa type class) || isSome (property d)
 
@@ -52,18 +52,18 @@ resourceRecord = do
 unfoldable pub recordItems : List ℕ → Items Record
 recordItems b = items resourceRecord maxRecords b
 
--- the records, numbered from 0 by their order; where one is broken or they are too many, none
+-- The records, numbered from 0 in their order; none if one is malformed or there are too many.
 unfoldable pub records : List ℕ → List Record
 records b = wholeItems (recordItems b)
 
--- rows 5 to 7 of the requirements' table of refusals
+-- Rows 5 to 7 of the requirements' table of refusals.
 abbrev pub recordRefusal : Items Record → Option Refusal
 recordRefusal i = itemFault (λ k. BadRecord (record { 0 = k })) TooManyRecords i
 
 unfoldable pub bookRefusal : List ℕ → Option Refusal
 bookRefusal b = cond (ltb maxBookOctets (length b)) (some BookTooLong) (recordRefusal (recordItems b))
 
--- each field fits its octets, and the data of type 257 and class 1 holds a property
+-- A valid record: each field fits its octets, and the data of type 257 and class 1 holds a property.
 abbrev pub GoodRecord : Record → Type 0
 GoodRecord r =
     GoodName (r .owner) × (r .type < 2 ^ 16) × (r .class < 2 ^ 16) × (r .ttl < 2 ^ 32) × (length (r .rdata) < 2 ^ 16)

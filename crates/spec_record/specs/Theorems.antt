@@ -19,27 +19,27 @@ use Rattle.spec_record.specs.Property.{Property, wireProperty, property,
 use Rattle.spec_record.specs.BookEdges.{bookEdges}
 use Rattle.spec_record.specs.Records.{Record, wireRecord, resourceRecord, records, bookRefusal, GoodRecord}
 
--- data holds a property exactly when it is written so with a tag of one octet or more
+-- Data holds a property exactly when it is the wire form of that property and the tag is not empty.
 abbrev pub Property-is-its-parts : Type 0
 Property-is-its-parts = (d : List ℕ) (p : Property) → (property d ≡ some p) ↔ ((d ≡ wireProperty p) × (1 ≤ length (p .tag)))
 
--- of the flags only the bit worth 128 counts: critical exactly from 128 to 255
+-- A property is critical exactly when its flags are 128 to 255.
 abbrev pub Critical-bit : Type 0
 Critical-bit = (p : Property) → p .flags < 256 → (isCritical p ≡ true) ↔ (128 ≤ p .flags)
 
--- the three known tags, in any letter case
+-- The three known tags, in upper or lower case.
 abbrev pub Known-tags : Type 0
 Known-tags =
     (t : List ℕ) →
     ((tagOf t ≡ Issue) ↔ (lowered t ≡ text "issue")) × ((tagOf t ≡ IssueWild) ↔ (lowered t ≡ text "issuewild"))
     × ((tagOf t ≡ Iodef) ↔ (lowered t ≡ text "iodef"))
 
--- every other tag is unknown
+-- Every other tag is unknown.
 abbrev pub Unknown-tags : Type 0
 Unknown-tags =
     (t : List ℕ) → (tagOf t ≡ Unknown) ↔ ((lowered t ≢ text "issue") × (lowered t ≢ text "issuewild") × (lowered t ≢ text "iodef"))
 
--- a record octet for octet: the owner; type 257, class 1, time to live 3600, data length 22; flags 128, a tag of 5 octets, tag and value
+-- A record octet by octet: owner; type 257, class 1, time to live 3600, data length 22; flags 128, tag length 5, tag and value.
 abbrev pub Record-example : Type 0
 Record-example =
     wireRecord (record {
@@ -55,15 +55,15 @@ Record-example =
 abbrev pub Record-is-its-fields : Type 0
 Record-is-its-fields = Reads resourceRecord wireRecord GoodRecord
 
--- accepted with the records rs exactly when the octets are the wire forms of rs, end to end, at most 256 good records, within
--- 32,768 octets
+-- A book is accepted with the records rs exactly when its octets are the wire forms of rs, one after the other, with at most 256 valid
+-- records and at most 32,768 octets.
 abbrev pub Book-is-its-records : Type 0
 Book-is-its-records =
     (b : List ℕ) → Octets b → (rs : List Record) →
     ((bookRefusal b ≡ none) × (records b ≡ rs))
     ↔ ((b ≡ flatten (map wireRecord rs)) × All GoodRecord rs × (length rs ≤ maxRecords) × (length b ≤ maxBookOctets))
 
--- The rows of the requirements' table, each with its "When" and its place, and nothing of the reader.
+-- The rows of the requirements' table, each with its condition and its place, stated without the reader.
 abbrev pub Row-5 : List ℕ → Type 0
 Row-5 b = maxBookOctets < length b
 
@@ -73,7 +73,7 @@ Row-6 b k = (k < maxRecords) × BrokenAt wireRecord GoodRecord b k
 abbrev pub Row-7 : List ℕ → Type 0
 Row-7 b = Beyond wireRecord GoodRecord maxRecords b
 
--- row 5 is checked first; rows 6 and 7 never hold together
+-- Row 5 is checked first. Rows 6 and 7 never hold together.
 abbrev pub Book-refusals : Type 0
 Book-refusals =
     (b : List ℕ) → Octets b →
@@ -82,6 +82,6 @@ Book-refusals =
     × ((bookRefusal b ≡ some TooManyRecords) ↔ ((length b ≤ maxBookOctets) × Row-7 b))
     × ((r : Refusal) → bookRefusal b ≡ some r → (5 ≤ number r) × (number r ≤ 7))
 
--- the table of books
+-- The table BookEdges.antt.
 abbrev pub Book-edges : Type 0
 Book-edges = map (λ e. bookRefusal (e .0)) bookEdges ≡ map (λ e. e .1) bookEdges

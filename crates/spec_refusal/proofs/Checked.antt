@@ -1,4 +1,4 @@
--- What a check that was made says of its refusal.
+-- What the result of a check says about the refusal.
 use Prim.Native.Nat.{ℕ}
 use native.Mathlib.Omega.{arith}
 use mathlib.Core.Path.{_≡_, refl, sym, _∙_}

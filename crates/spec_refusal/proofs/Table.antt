@@ -1,4 +1,4 @@
--- The table of refusals by computing, and the way back from a number and a place.
+-- The table of refusals, by computing; and a refusal from its number and place.
 use Prim.Native.Nat.{ℕ}
 use mathlib.Core.Path.{_≡_, refl, sym, ap₂, _∙_}
 use mathlib.Core.Bool.{cond}

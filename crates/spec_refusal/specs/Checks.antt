@@ -1,4 +1,4 @@
--- What checking an input comes to, from the refusal that applies to it, if any.
+-- The result of a check: refused with the refusal that applies to the input, accepted if there is none.
 use mathlib.Core.Option.{Option, none, some}
 use Rattle.spec_refusal.specs.declared.Refusal.{Refusal}
 use Rattle.spec_refusal.specs.declared.Check.{Check}

@@ -1,4 +1,5 @@
--- The requirements' table "When the desk says no": the number and the one place of each refusal.
+-- The requirements' table of refusals, "When the desk says no": the number of each refusal, and its place: the number of a name or record,
+-- the octets needed, or 0.
 use Prim.Native.Nat.{ℕ}
 use Rattle.spec_limits.specs.Limits.{maxNames, maxRecords}
 use Rattle.spec_refusal.specs.declared.Refusal.{Refusal}

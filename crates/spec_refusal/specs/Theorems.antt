@@ -13,7 +13,7 @@ use Rattle.spec_refusal.specs.declared.Check.the-variants.{Accepted, Ref
 use Rattle.spec_refusal.specs.Refusal.{number, place}
 use Rattle.spec_refusal.specs.Checks.{checked}
 
--- the rows in the table's order
+-- The rows in the order of the table.
 abbrev pub rows : NameNo → RecordNo → ℕ → List Refusal
 rows k r n =
     RequestTooLong ∷ BadName k ∷ TooManyNames ∷ BadIssuer ∷ BookTooLong ∷ BadRecord r ∷ TooManyRecords ∷ NoRoom n ∷ BadLine
@@ -25,11 +25,11 @@ Refusal-table =
     (map number (rows k r n) ≡ 1 ∷ 2 ∷ 3 ∷ 4 ∷ 5 ∷ 6 ∷ 7 ∷ 8 ∷ 9 ∷ 10 ∷ 11 ∷ [])
     × (map place (rows k r n) ≡ 0 ∷ k .0 ∷ maxNames ∷ 0 ∷ 0 ∷ r .0 ∷ maxRecords ∷ n ∷ 0 ∷ 0 ∷ 0 ∷ [])
 
--- a refusal is known by its number and place
+-- No two refusals have the same number and the same place.
 abbrev pub Number-and-place-tell : Type 0
 Number-and-place-tell = (p q : Refusal) → number p ≡ number q → place p ≡ place q → p ≡ q
 
--- accepted exactly when no refusal applies, and refused with the one that does
+-- An input is accepted exactly when no refusal applies, and refused with the one that does.
 abbrev pub Checked-exactly : Type 0
 Checked-exactly =
     (o : Option Refusal) → ((checked o ≡ Accepted) ↔ (o ≡ none)) × ((r : Refusal) → (checked o ≡ Refused r) ↔ (o ≡ some r))

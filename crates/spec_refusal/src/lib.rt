@@ -1,4 +1,4 @@
-// The answers "no": what was handed in breaks a rule, so nothing is decided.
+// Refusals: an input breaks a rule, so nothing is decided.
 use spec_limits::MAX_NAMES;
 use spec_limits::MAX_RECORDS;
 ghost use mathlib.Core.Path.{_≡_};
@@ -7,10 +7,10 @@ ghost use Rattle.spec_refusal.specs.Refusal.{number, place};
 // The number of a name in a request, from 0.
 pub struct NameNo(pub usize);
 
-// The number of a record among all records handed in, CAA or not, from 0.
+// The number of a record in the book, from 0. All records count, CAA or not.
 pub struct RecordNo(pub usize);
 
-// One case for each row of the requirements' table; specs/Refusal.antt gives each its number and place.
+// One case for each row of the requirements' table of refusals. specs/Refusal.antt gives each its number and place.
 pub enum Refusal {
     RequestTooLong,
     BadName(NameNo),
@@ -19,15 +19,15 @@ pub enum Refusal {
     BookTooLong,
     BadRecord(RecordNo),
     TooManyRecords,
-    // The octets that the output needs.
+    // The buffer is too short; how many octets the output needs.
     NoRoom(usize),
     BadLine,
-    // A line, or the data of a line, over its limit.
+    // A line, or its CAA data, is over its limit.
     LineTooLong,
     BadData,
 }
 
-// What checking an input comes to.
+// The result of checking an input.
 pub enum Check {
     Accepted,
     Refused(Refusal),
@@ -52,7 +52,7 @@ pub fn number_of(r: Refusal) -> u64
     }
 }
 
-// The one place of a refusal.
+// The place of a refusal in the table.
 pub fn place_of(r: Refusal) -> usize
     ensures { λ p. ⌜ p ≡ place r ⌝ }
 {

@@ -1,4 +1,4 @@
--- The names that may be asked for: the wildcard form X or *.X, and when such a name is read.
+-- Valid requested names: the forms X and *.X, and when such a name is read.
 use Prim.Native.Nat.{ℕ}
 use native.Mathlib.Omega.{arith}
 use mathlib.Core.Path.{_≡_, refl}

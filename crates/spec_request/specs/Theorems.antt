@@ -18,7 +18,7 @@ use Rattle.spec_name.specs.Names.{Label, Name, wire}
 use Rattle.spec_request.specs.RequestEdges.{requestEdges}
 use Rattle.spec_request.specs.Request.{isWildcard, base, requestedName, requestedNames, requestRefusal, GoodRequested}
 
--- a name is a wildcard of X exactly when it is an asterisk label before X; any other name, the root too, is its own X
+-- A name is a wildcard with base X exactly when it is an asterisk label before X. Any other name, the root included, is its own base.
 abbrev pub Wildcard-form : Type 0
 Wildcard-form =
     ((x : Name) → (isWildcard (text "*" ∷ x) ≡ true) × (base (text "*" ∷ x) ≡ x))
@@ -28,14 +28,15 @@ Wildcard-form =
 abbrev pub Requested-name-is-its-labels : Type 0
 Requested-name-is-its-labels = Reads requestedName wire GoodRequested
 
--- accepted with the names ns exactly when the octets are the wire forms of ns, end to end, 1 to 100 good names, within 8,192 octets
+-- A request is accepted with the names ns exactly when its octets are the wire forms of ns, one after the other, with 1 to 100 valid names
+-- and at most 8,192 octets.
 abbrev pub Request-is-its-names : Type 0
 Request-is-its-names =
     (s : List ℕ) → Octets s → (ns : List Name) →
     ((requestRefusal s ≡ none) × (requestedNames s ≡ ns))
     ↔ ((s ≡ flatten (map wire ns)) × All GoodRequested ns × (1 ≤ length ns) × (length ns ≤ maxNames) × (length s ≤ maxRequestOctets))
 
--- The rows of the requirements' table, each with its "When" and its place, and nothing of the reader.
+-- The rows of the requirements' table, each with its condition and its place, stated without the reader.
 abbrev pub Row-1 : List ℕ → Type 0
 Row-1 s = maxRequestOctets < length s
 
@@ -45,7 +46,7 @@ Row-2 s k = ((s ≡ []) × (k ≡ 0)) ⊎ ((k < maxNames) × BrokenAt wire GoodR
 abbrev pub Row-3 : List ℕ → Type 0
 Row-3 s = Beyond wire GoodRequested maxNames s
 
--- row 1 is checked first; rows 2 and 3 never hold together
+-- Row 1 is checked first. Rows 2 and 3 never hold together.
 abbrev pub Request-refusals : Type 0
 Request-refusals =
     (s : List ℕ) → Octets s →
@@ -54,6 +55,6 @@ Request-refusals =
     × ((requestRefusal s ≡ some TooManyNames) ↔ ((length s ≤ maxRequestOctets) × Row-3 s))
     × ((r : Refusal) → requestRefusal s ≡ some r → number r ≤ 3)
 
--- the table of requests
+-- The table RequestEdges.antt.
 abbrev pub Request-edges : Type 0
 Request-edges = map (λ e. requestRefusal (e .0)) requestEdges ≡ map (λ e. e .1) requestEdges

@@ -1,1 +1,1 @@
-// Certificate requests: the names asked for. Definitions and theorems.
+// Certificate requests, given as the names to be certified: definitions and theorems, no code.

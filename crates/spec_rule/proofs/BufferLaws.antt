@@ -1,4 +1,4 @@
--- What an accepted call leaves in the lent buffer: the list, if there is room, and the list is read back.
+-- The caller's buffer after an accepted call: the list, if it fits, and the list can be read back.
 use Prim.Native.Nat.{ℕ, _≤_}
 use native.Mathlib.Omega.{arith}
 use mathlib.Core.Path.{_≡_, refl, sym, ap}

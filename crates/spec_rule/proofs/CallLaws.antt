@@ -1,4 +1,4 @@
--- What the call answers to an accepted request and book: the list in every buffer with room, and how much room that is.
+-- The answer to an accepted request and book: the list in every buffer that is long enough, and how long that is.
 use Prim.Native.Nat.{ℕ, _≤_, _<_}
 use native.Mathlib.Omega.{arith}
 use mathlib.Core.Path.{_≡_, refl, sym, ap, _∙_}

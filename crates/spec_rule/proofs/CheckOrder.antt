@@ -1,4 +1,4 @@
--- Checks in the order of the table's rows give the first row that holds.
+-- Checks in the order of the table give the first row that holds.
 use Prim.Native.Nat.{ℕ, _≤_, _<_}
 use native.Mathlib.Omega.{arith}
 use mathlib.Core.Path.{_≡_, refl}

@@ -1,4 +1,4 @@
--- An unknown critical record of any requested name leaves nobody to list.
+-- A critical record with an unknown tag for any requested name empties the list.
 use Prim.Native.Nat.{ℕ}
 use native.Mathlib.Omega.{arith}
 use mathlib.Core.Path.{_≡_, refl, ap}

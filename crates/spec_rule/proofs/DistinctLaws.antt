@@ -1,4 +1,4 @@
--- Texts each kept once, where it first stands: the same texts in the same order, and none twice.
+-- Keeping each text once, at its first position: the same texts in the same order, and none twice.
 use Prim.Native.Nat.{ℕ}
 use mathlib.Core.Path.{_≡_, refl, sym, ap, _∙_}
 use mathlib.Core.Logic.{_↔_, _≢_}

@@ -1,4 +1,4 @@
--- The grantees of records: well-formed names in small letters, in the order of the records that first grant to them.
+-- The grantees of records: well-formed names in lower case, in the order of the records that first grant them.
 use Prim.Native.Nat.{ℕ}
 use mathlib.Core.Path.{_≡_, refl, sym, ap, _∙_}
 use mathlib.Core.Logic.{_↔_, Iff·trans}

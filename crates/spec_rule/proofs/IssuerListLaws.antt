@@ -1,4 +1,4 @@
--- The issuers for a list of authorizations, whatever these come from: anyone, or those whom every authorization permits.
+-- The issuers for any list of authorizations: anyone, or those that every authorization permits.
 use Prim.Native.Nat.{ℕ}
 use native.Mathlib.Omega.{arith}
 use mathlib.Core.Path.{_≡_, refl, sym, ap, _∙_, fun-ext}

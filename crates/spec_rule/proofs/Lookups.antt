@@ -1,4 +1,4 @@
--- Which records the search looks through, and what one lookup among them finds.
+-- Which records the search uses, and what one lookup finds.
 use Prim.Native.Nat.{ℕ, suc}
 use mathlib.Core.Path.{_≡_, refl}
 use mathlib.Core.Logic.{_↔_, _≢_, _⊎_, inl, inr, Iff·rfl, Iff·trans, Iff·and}

@@ -1,4 +1,4 @@
--- The relevant set stands at the first of X, its parent, .. at which anything is found.
+-- The relevant set is found at the first of X, its parent, .. that has a CAA record.
 use Prim.Native.Nat.{ℕ, zero, suc, _<_}
 use native.Mathlib.Nat.{not-suc-le-zero, le-of-suc-le-suc}
 use native.Mathlib.Omega.{arith}

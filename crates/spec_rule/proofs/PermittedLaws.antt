@@ -1,4 +1,4 @@
--- Who may sign: anyone, or those whom the verdict permits, each once and in the order of the governing records.
+-- Who may issue: anyone, or those that the verdict permits, each once and in the order of the governing records.
 use Prim.Native.Nat.{ℕ}
 use mathlib.Core.Path.{_≡_, sym, _∙_}
 use mathlib.Core.Logic.{_↔_, Iff·symm, Iff·trans}

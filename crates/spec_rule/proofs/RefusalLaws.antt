@@ -1,4 +1,4 @@
--- When each call refuses: rows 1 to 3 and 5 to 7 are checked by both, row 4 by one and row 8 by the other.
+-- When each call refuses: both check rows 1 to 3 and 5 to 7; row 4 belongs to one call and row 8 to the other.
 use Prim.Native.Nat.{ℕ, _≤_, _<_}
 use native.Mathlib.Omega.{arith}
 use mathlib.Core.Path.{_≡_, refl, ap}

@@ -1,4 +1,4 @@
--- Other record numbers change those in the answer and nothing else.
+-- With other record numbers only the numbers in the answer change.
 use Prim.Native.Nat.{ℕ, suc}
 use mathlib.Core.Path.{_≡_, refl, ap, fun-ext}
 use mathlib.Core.Bool.{Bool, true, false, cond}

@@ -1,4 +1,4 @@
--- A buffer as long as the book is always enough: each name listed stands, with an octet to spare, in a record of its own.
+-- A buffer as long as the book is always enough: each listed name comes from its own record, which is at least as long as its entry.
 use Prim.Native.Nat.{ℕ, _+_, _≤_}
 use native.Mathlib.Omega.{arith}
 use mathlib.Core.Path.{_≡_, refl, ap}

@@ -1,4 +1,4 @@
--- The verdict is that of the lowest name that is not permitted, and permission where there is none.
+-- The verdict is that of the lowest name that is not permitted; permitted if there is none.
 use Prim.Native.Nat.{ℕ, suc, _+_}
 use native.Mathlib.Omega.{arith}
 use mathlib.Core.Path.{_≡_, refl, ap, _∙_}

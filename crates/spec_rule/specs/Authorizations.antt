@@ -1,4 +1,4 @@
--- Who may issue for one requested name: steps 2 to 4 of the requirements' rule of issue (RFC 8659 sections 4.1 to 4.3).
+-- Who may issue for one requested name: steps 2 to 4 of the requirements' "rule of issue" (RFC 8659 sections 4.1 to 4.3).
 use Prim.Native.Nat.{ℕ}
 use mathlib.Core.Bool.{Bool, true, false, cond, _&&_}
 use mathlib.Core.List.{List, [], _∷_}
@@ -14,13 +14,13 @@ use Rattle.spec_record.specs.Property.{isCritical, tagOf}
 use Rattle.spec_value.specs.IssueValues.{IssueValue, malformed, nameless, named, issueValue}
 use Rattle.spec_rule.specs.RelevantSet.{CaaRecord, Lookup, empty, found, relevantSet}
 
--- what CAA says of one requested name
+-- What CAA says about one requested name.
 pub data Authorization : Type 0 where
-  -- CAA does not restrict issuance
+  -- CAA doesn't restrict issuance.
   unrestricted : Authorization
-  -- an unknown critical property: granted to nobody. The number of the first such record
+  -- A critical property with an unknown tag: nobody may issue. The number of the first such record.
   forbidden : ℕ → Authorization
-  -- restricted: the number of the first governing record, and the issuers granted, in small letters and in the records' order
+  -- Issuance is restricted: the number of the first governing record, and the issuers granted, in lower case and in the order of the records.
   granted : ℕ → List (List ℕ) → Authorization
 
 abbrev pub isIssueTag : PropertyTag → Bool
@@ -44,7 +44,7 @@ isUnknownTag Unknown = true
 abbrev pub propertyTag : CaaRecord → PropertyTag
 propertyTag r = tagOf (r .property .tag)
 
--- RFC 8659 section 4.1, Issuer Critical Flag: a critical property with an unknown tag
+-- RFC 8659 section 4.1, Issuer Critical Flag: a critical property with an unknown tag.
 unfoldable pub isUnknownCritical : CaaRecord → Bool
 isUnknownCritical r = isCritical (r .property) && isUnknownTag (propertyTag r)
 
@@ -58,12 +58,13 @@ abbrev pub orElse : List CaaRecord → List CaaRecord → List CaaRecord
 orElse [] others = others
 orElse (r ∷ rs) others = r ∷ rs
 
--- RFC 8659 section 4.3 (the requirements' "governing records"): for X the issue records; for *.X the issuewild records if there are any, else the issue records
+-- The records that restrict issuance (the requirements' "governing records"). RFC 8659 section 4.2, for X: the issue records. Section 4.3,
+-- for *.X: the issuewild records if there are any, otherwise the issue records.
 unfoldable pub governing : Bool → List CaaRecord → List CaaRecord
 governing wildcard rs = cond wildcard (orElse (select isIssueWild rs) (select isIssue rs)) (select isIssue rs)
 
--- the one issuer that a governing record grants: the name that its value holds, in small letters. A value that doesn't fit the
--- grammar, holds no name, or holds one beyond the limits of issuer names grants nobody
+-- The issuer that a governing record grants: the name in its value, in lower case. A value that doesn't match the grammar, has no name, or
+-- has one over the limits of issuer domain names grants nobody.
 abbrev pub granteeOfValue : IssueValue → Option (List ℕ)
 granteeOfValue malformed = none
 granteeOfValue nameless = none
@@ -72,7 +73,7 @@ granteeOfValue (named n) = cond (isIssuer n) (some (lowered n)) none
 unfoldable pub grantee : CaaRecord → Option (List ℕ)
 grantee r = granteeOfValue (issueValue (r .property .value))
 
--- there is a grantee, and it is d
+-- There is a grantee, and it is d.
 abbrev pub isGrantee : List ℕ → Option (List ℕ) → Bool
 isGrantee d none = false
 isGrantee d (some n) = same d n
@@ -85,12 +86,12 @@ abbrev pub grantees : List CaaRecord → List (List ℕ)
 grantees [] = []
 grantees (r ∷ rs) = consSome (grantee r) (grantees rs)
 
--- no governing record: not restricted; one or more: restricted
+-- Without a governing record the name is unrestricted; otherwise it is restricted.
 abbrev pub governedBy : List CaaRecord → Authorization
 governedBy [] = unrestricted
 governedBy (g ∷ gs) = granted (g .number) (grantees (g ∷ gs))
 
--- an unknown critical record comes before all else
+-- A critical record with an unknown tag takes precedence over everything else.
 abbrev pub unlessForbidden : List CaaRecord → Authorization → Authorization
 unlessForbidden [] a = a
 unlessForbidden (u ∷ us) a = forbidden (u .number)
@@ -99,11 +100,11 @@ abbrev pub authorizationFrom : Bool → Lookup → Authorization
 authorizationFrom wildcard empty = unrestricted
 authorizationFrom wildcard (found rs) = unlessForbidden (select isUnknownCritical rs) (governedBy (governing wildcard rs))
 
--- for X or *.X the search starts at X
+-- For X and for *.X the search starts at X.
 unfoldable pub authorization : List CaaRecord → Name → Authorization
 authorization book n = authorizationFrom (isWildcard n) (relevantSet book (base n))
 
--- the issuer d may issue for a name of which CAA says this
+-- Whether the issuer d may issue for a name with this authorization.
 abbrev pub permits : List ℕ → Authorization → Bool
 permits d unrestricted = true
 permits d (forbidden r) = false

@@ -1,4 +1,4 @@
--- The two calls on octets, beside the answers and the buffers that the requirements state.
+-- The two calls on octets, each with the answer and the buffer that the requirements state.
 use Prim.Native.Nat.{ℕ}
 use Prim.Native.String.{String}
 use mathlib.Core.Path.{_≡_}
@@ -16,7 +16,7 @@ use Rattle.spec_rule.specs.Verdicts.{denial}
 use Rattle.spec_rule.specs.Calls.{judge, Listing, listIssuers}
 use Rattle.spec_rule.specs.Edges.{dotted, caa, ca1, ca2, wholeBook}
 
--- a request for these names, and the octets of these records
+-- A request for these names; and these records as a book.
 abbrev pub asking : List String → List ℕ
 asking ns = flatten (map (λ n. wire (dotted n)) ns)
 
@@ -29,7 +29,7 @@ www = asking ("www.example.com" ∷ [])
 abbrev pub both : List ℕ
 both = asking ("www.example.com" ∷ "pay.example.com" ∷ [])
 
--- what the call answers, beside what the requirements state
+-- What the call answers, and what the requirements state.
 pub record CallEdge : Type 0 where
   pub answered : Judgement
   pub stated : Judgement
@@ -39,16 +39,16 @@ callEdge request issuer book j = record { answered = judge request issuer book; 
 
 abbrev pub callEdges : List CallEdge
 callEdges =
-    -- the whole case; the issuer in any letter case; the lowest name that is not permitted; a tail of a name; no record
+    -- The whole case; the issuer in mixed case; the lowest name that is not permitted; an issuer that only ends like a granted one; no record.
     callEdge both ca1 (bookOf wholeBook) (NotGranted (denial 1 3))
     ∷ callEdge both (text "CA2.example.ORG") (bookOf wholeBook) Permitted
     ∷ callEdge (asking ("pay.example.com" ∷ "www.example.com" ∷ [])) (text "ca3") (bookOf wholeBook) (NotGranted (denial 0 3))
     ∷ callEdge www (text "notca1.example.net") (bookOf wholeBook) (NotGranted (denial 0 0))
     ∷ callEdge www (text "n") [] Permitted
-    -- an unknown critical record of the second name; where the first is not granted, that is told
+    -- A critical record with an unknown tag for the second name; if the first name is not granted, that is reported instead.
     ∷ callEdge both ca1 (bookOf (caa "example.com" 0 "issue" "ca1.example.net" ∷ caa "pay.example.com" 128 "tbs" "x" ∷ [])) (UnknownCritical (denial 1 1))
     ∷ callEdge both ca2 (bookOf (caa "example.com" 0 "issue" "ca1.example.net" ∷ caa "pay.example.com" 128 "tbs" "x" ∷ [])) (NotGranted (denial 0 0))
-    -- the order of checks: request, issuer name, book
+    -- The order of the checks: request, issuer domain name, book.
     ∷ callEdge [] [] (64 ∷ []) (Refused (BadName (record { 0 = 0 })))
     ∷ callEdge www [] (64 ∷ []) (Refused BadIssuer)
     ∷ callEdge www (text "n") (64 ∷ []) (Refused (BadRecord (record { 0 = 0 })))
@@ -57,7 +57,7 @@ callEdges =
 abbrev pub Calls-agree : Type 0
 Calls-agree = map (λ e. e .answered) callEdges ≡ map (λ e. e .stated) callEdges
 
--- two owners that grant the same two issuers in different orders, and one that forbids
+-- Two owners that grant the same two issuers in different orders, and one that forbids issuance.
 abbrev pub orders : List ℕ
 orders =
     bookOf
@@ -70,22 +70,22 @@ orders =
     ∷ caa "bad.example.com" 128 "tbs" "Unknown"
     ∷ [])
 
--- the call on a buffer of so many octets 95
+-- The call on a buffer of n octets, all 95.
 abbrev pub listing : List String → List ℕ → ℕ → Listing
 listing ns book n = listIssuers (asking ns) book (replicate n 95)
 
 abbrev pub Lists-agree : Type 0
 Lists-agree =
-    -- the whole case, with its counts and octets; the rest of the buffer stays; an octet short; anyone
+    -- The whole case, with its count and octets and the octets after the list unchanged; a buffer one octet too short; anyone.
     (listing ("www.example.com" ∷ []) (bookOf wholeBook) 34 ≡ record { answer = Listed 2 32; buffer = (15 ∷ ca1) ++ ((15 ∷ ca2) ++ replicate 2 95) })
     × (listing ("www.example.com" ∷ "pay.example.com" ∷ []) (bookOf wholeBook) 16 ≡ record { answer = Listed 1 16; buffer = 15 ∷ ca2 })
     × (listing ("www.example.com" ∷ []) (bookOf wholeBook) 31 ≡ record { answer = ListRefused (NoRoom 32); buffer = replicate 31 95 })
     × (listing ("example.org" ∷ []) (bookOf wholeBook) 3 ≡ record { answer = Anyone; buffer = replicate 3 95 })
-    -- in the order of the restricted name with the lowest number
+    -- The order is that of the restricted name with the lowest number.
     × (listing ("www.example.com" ∷ "pay.example.com" ∷ []) orders 33 ≡ record { answer = Listed 2 32; buffer = (15 ∷ ca2) ++ ((15 ∷ ca1) ++ replicate 1 95) })
     × (listing ("example.org" ∷ "pay.example.com" ∷ "www.example.com" ∷ []) orders 33
     ≡ record { answer = Listed 2 32; buffer = (15 ∷ ca1) ++ ((15 ∷ ca2) ++ replicate 1 95) })
-    -- an unknown critical record of any name; the refusals of request and book
+    -- A critical record with an unknown tag for any name; the refusals of request and book.
     × (listing ("www.example.com" ∷ "*.bad.example.com" ∷ []) orders 3 ≡ record { answer = Listed 0 0; buffer = replicate 3 95 })
     × (listing [] (64 ∷ []) 3 ≡ record { answer = ListRefused (BadName (record { 0 = 0 })); buffer = replicate 3 95 })
     × (listing ("www.example.com" ∷ []) (64 ∷ []) 0 ≡ record { answer = ListRefused (BadRecord (record { 0 = 0 })); buffer = [] })

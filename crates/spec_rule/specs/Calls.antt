@@ -1,4 +1,4 @@
--- The two calls, whole: any octets in, one answer out, and what a lent buffer then holds.
+-- The two calls: from any octets to one answer, and to the contents of the caller's buffer afterwards.
 use Prim.Native.Nat.{ℕ}
 use mathlib.Core.Bool.{cond}
 use mathlib.Core.List.{List, [], _∷_, _++_, map}
@@ -20,17 +20,17 @@ use Rattle.spec_rule.specs.Authorizations.{Authorization, authorization}
 use Rattle.spec_rule.specs.Verdicts.{verdict}
 use Rattle.spec_rule.specs.IssuerLists.{Issuers, anyone, listed, issuers, entries}
 
--- what CAA says of each requested name, by the records of the book
+-- What CAA says about each requested name, by the records of the book.
 unfoldable pub authorizations : List ℕ → List ℕ → List Authorization
 authorizations request book = map (authorization (caaRecords (records book))) (requestedNames request)
 
--- checks in their order, each a refusal or go on: the first refusal is the answer
+-- Checks in their order, each a refusal or none: the first refusal is the answer.
 abbrev pub firstRefusal : List (Option Refusal) → Option Refusal
 firstRefusal [] = none
 firstRefusal (none ∷ checks) = firstRefusal checks
 firstRefusal (some r ∷ checks) = some r
 
--- May this issuer sign?
+-- May this issuer issue?
 abbrev pub judgeChecks : List ℕ → List ℕ → List ℕ → List (Option Refusal)
 judgeChecks request issuer book = requestRefusal request ∷ issuerRefusal issuer ∷ bookRefusal book ∷ []
 
@@ -42,7 +42,7 @@ unfoldable pub judge : List ℕ → List ℕ → List ℕ → Judgement
 judge request issuer book =
     refusedOr (firstRefusal (judgeChecks request issuer book)) (verdict issuer (authorizations request book))
 
--- Who may sign? The answer, and the buffer afterwards.
+-- Who may issue? The answer, and the buffer afterwards.
 pub record Listing : Type 0 where
   pub answer : PermittedIssuers
   pub buffer : List ℕ
@@ -55,7 +55,7 @@ abbrev pub listChecks : List ℕ → List ℕ → List ℕ → List (Option Refu
 listChecks request book buffer =
     requestRefusal request ∷ bookRefusal book ∷ roomRefusal (issuers (authorizations request book)) buffer ∷ []
 
--- the entries at the front, the rest as it was
+-- The entries are written at the start of the buffer. Its other octets are unchanged.
 abbrev pub written : Issuers → List ℕ → Listing
 written anyone buffer = record { answer = Anyone; buffer = buffer }
 written (listed ns) buffer =
@@ -69,7 +69,7 @@ unfoldable pub listIssuers : List ℕ → List ℕ → List ℕ → Listing
 listIssuers request book buffer =
     unlessRefused (firstRefusal (listChecks request book buffer)) (written (issuers (authorizations request book)) buffer) buffer
 
--- The requirements' number and values of each answer. Numbers 30 and 31 are this project's own: the requirements give none.
+-- The number and the values of each answer. The requirements give the numbers, except 30 and 31, which are this project's own.
 pub record AnswerCode : Type 0 where
   pub number : ℕ
   pub values : List ℕ

@@ -1,4 +1,4 @@
--- The issuers that may sign for a whole request (the requirements' "who may issue"), and their layout in a buffer.
+-- The issuers that may issue for every name of a request (the requirements' "who may issue"), and how a buffer lists them.
 use Prim.Native.Nat.{ℕ}
 use mathlib.Core.Bool.{Bool, not}
 use mathlib.Core.List.{List, [], _∷_, map}
@@ -12,26 +12,26 @@ pub data Issuers : Type 0 where
   anyone : Issuers
   listed : List (List ℕ) → Issuers
 
--- each once, where it first stands
+-- Each element once, at its first position.
 abbrev pub distinct : List (List ℕ) → List (List ℕ)
 distinct [] = []
 distinct (n ∷ ns) = n ∷ select (λ m. not (same m n)) (distinct ns)
 
--- no restricted name: anyone. Else those that the first restricted name grants, in that order, if every later name permits them
+-- Anyone, if no name is restricted. Otherwise the issuers granted for the first restricted name, in that order, that every later name permits.
 abbrev pub issuers : List Authorization → Issuers
 issuers [] = anyone
 issuers (unrestricted ∷ rest) = issuers rest
 issuers (forbidden r ∷ rest) = listed []
 issuers (granted r ns ∷ rest) = listed (select (λ n. all (permits n) rest) (distinct ns))
 
--- each name as one length octet and its octets
+-- A name as one length octet and its octets.
 abbrev pub entry : List ℕ → List ℕ
 entry n = length n ∷ n
 
 abbrev pub entries : List (List ℕ) → List ℕ
 entries ns = flatten (map entry ns)
 
--- how a caller reads an entry: the length octet, and then as many octets
+-- How a caller reads an entry: the length octet, and then that many octets.
 unfoldable pub readEntry : Reader (List ℕ)
 readEntry = do
   n ← octet

@@ -1,4 +1,4 @@
--- The rule of issue as statements about records, with nothing of how they are searched: what the theorems speak of.
+-- The requirements' "rule of issue" (RFC 8659 sections 3 and 4) as statements about records, without the search. The theorems use these.
 use Prim.Native.Nat.{ℕ, suc, _≤_, _<_}
 use mathlib.Core.Path.{_≡_}
 use mathlib.Core.Logic.{_⊎_}
@@ -17,7 +17,7 @@ use Rattle.spec_record.specs.Records.{Record}
 use Rattle.spec_value.specs.Productions.{valueWithName}
 use Rattle.spec_rule.specs.RelevantSet.{CaaRecord, empty, found, lookup, relevantSet}
 
--- cs are the CAA records of rs, in their order, each with its number, where the first of rs has the number k
+-- cs are the CAA records of rs, in their order, each with its number. The first record of rs has the number k.
 pub data CaaRecordsOf : ℕ → List Record → List CaaRecord → Type 0 where
   at-end : {k : ℕ} → CaaRecordsOf k [] []
   is-caa : {k : ℕ} {r : Record} {rs : List Record} {cs : List CaaRecord} (p : Property) →
@@ -26,11 +26,11 @@ pub data CaaRecordsOf : ℕ → List Record → List CaaRecord → Type 0 where
   is-other : {k : ℕ} {r : Record} {rs : List Record} {cs : List CaaRecord} →
       ((r .type ≡ 257) × (r .class ≡ 1) → ⊥) → CaaRecordsOf (suc k) rs cs → CaaRecordsOf k (r ∷ rs) cs
 
--- the record's owner is x, whole, letter case ignored
+-- The owner of the record is x: the whole name, ignoring case.
 abbrev pub OwnedBy : Name → CaaRecord → Type 0
 OwnedBy x r = map lowered (r .owner) ≡ map lowered x
 
--- x with k labels taken off is where the relevant set stands: the first place at which any CAA record is found
+-- The relevant set rs is found at x without its first k labels, and no CAA record at any name before that.
 abbrev pub NearestAt : List CaaRecord → Name → ℕ → List CaaRecord → Type 0
 NearestAt book x k rs =
     (k < length x) × (lookup book (drop k x) ≡ found rs) × ((j : ℕ) → j < k → lookup book (drop j x) ≡ empty)
@@ -38,21 +38,21 @@ NearestAt book x k rs =
 abbrev pub Tagged : PropertyTag → CaaRecord → Type 0
 Tagged t r = tagOf (r .property .tag) ≡ t
 
--- step 2: an unknown tag that is critical
+-- Step 2: a critical record with an unknown tag.
 abbrev pub UnknownCriticalRecord : CaaRecord → Type 0
 UnknownCriticalRecord r = (isCritical (r .property) ≡ true) × Tagged Unknown r
 
--- step 3: r is of the kind that governs X, or *.X, where rs is the relevant set
+-- Step 3: r governs X (false) or *.X (true), given the relevant set rs.
 abbrev pub Governs : Bool → List CaaRecord → CaaRecord → Type 0
 Governs false rs r = Tagged Issue r
 Governs true rs r = Tagged IssueWild r ⊎ (Tagged Issue r × All (λ q. Tagged IssueWild q → ⊥) rs)
 
--- step 4: the value holds a well-formed name, and this is it in small letters
+-- Step 4: the value has a well-formed issuer domain name, and d is that name in lower case.
 abbrev pub Grants : List ℕ → CaaRecord → Type 0
 Grants d r = (n : List ℕ) × valueWithName n (r .property .value) × WellFormed n × (lowered n ≡ d)
 
 module _ (book : List CaaRecord) (n : Name) where
-  -- rs is the relevant set of the requested name n
+  -- rs is the relevant set of the requested name n.
   abbrev pub Relevant : List CaaRecord → Type 0
   Relevant rs = relevantSet book (base n) ≡ found rs
 
@@ -68,32 +68,32 @@ module _ (book : List CaaRecord) (n : Name) where
   GrantedTo d =
       (rs : List CaaRecord) × Relevant rs × NoneCritical rs × Any (λ r. Governs (isWildcard n) rs r × Grants (lowered d) r) rs
 
-  -- step 5
+  -- Step 5: the issuer d may issue for n.
   abbrev pub PermittedTo : List ℕ → Type 0
   PermittedTo d = Unrestricted ⊎ GrantedTo d
 
-  -- r is the number of the first unknown critical record of the relevant set
+  -- r is the number of the first critical record with an unknown tag in the relevant set.
   abbrev pub ForbiddenBy : ℕ → Type 0
   ForbiddenBy r = (rs : List CaaRecord) × (c : CaaRecord) × Relevant rs × First UnknownCriticalRecord rs c × (c .number ≡ r)
 
-  -- r is the number of the first governing record of a relevant set without unknown critical records
+  -- r is the number of the first governing record, and the relevant set has no critical record with an unknown tag.
   abbrev pub GovernedFrom : ℕ → Type 0
   GovernedFrom r =
       (rs : List CaaRecord) × (c : CaaRecord) × Relevant rs × NoneCritical rs × First (Governs (isWildcard n) rs) rs c × (c .number ≡ r)
 
-  -- gs are the governing records of n, all of them in their order
+  -- gs are all governing records of n, in their order.
   abbrev pub GoverningRecords : List CaaRecord → Type 0
   GoverningRecords gs = (rs : List CaaRecord) × Relevant rs × NoneCritical rs × Selects (Governs (isWildcard n) rs) rs gs
 
--- n has the number k, every name before it is of one kind and n is not
+-- n is name number k, P holds of every name before it, and not of n.
 abbrev pub LowestNot : (Name → Type 0) → List Name → ℕ → Name → Type 0
 LowestNot P ns k n = (before after : List Name) × (ns ≡ before ++ (n ∷ after)) × (length before ≡ k) × All P before × (P n → ⊥)
 
--- a stands somewhere before b
+-- a comes before b in the list.
 abbrev pub Before : {A : Type 0} → A → A → List A → Type 0
 Before {A} a b xs = (p q r : List A) × (xs ≡ p ++ (a ∷ (q ++ (b ∷ r))))
 
--- among gs, the first record that grants a comes before the first that grants b
+-- Among gs, the first record that grants a comes before the first that grants b.
 abbrev pub GrantedBefore : List CaaRecord → List ℕ → List ℕ → Type 0
 GrantedBefore gs a b =
     (p q r : List CaaRecord) × (g h : CaaRecord) × (gs ≡ p ++ (g ∷ (q ++ (h ∷ r)))) × Grants a g × Grants b h

@@ -1,4 +1,4 @@
--- Statements that only say a definition again, so that its text cannot change unseen. Each is proved under its name in proofs/.
+-- Equations that restate a definition, so that it can't change unnoticed. Each is proved under its name in proofs/.
 use Prim.Native.Nat.{ℕ}
 use mathlib.Core.Path.{_≡_}
 use mathlib.Core.List.{List, [], _∷_, _++_}
@@ -11,11 +11,11 @@ use Rattle.spec_rule.specs.declared.PermittedIssuers.the-variants.{Refus
 use Rattle.spec_rule.specs.Verdicts.{denial}
 use Rattle.spec_rule.specs.Calls.{judgementCode, permittedIssuersCode}
 
--- each entry has its own length before it
+-- Each entry follows its own length octet.
 abbrev pub Entries-laid-out : Type 0
 Entries-laid-out = (entries [] ≡ []) × ((n : List ℕ) (ns : List (List ℕ)) → entries (n ∷ ns) ≡ length n ∷ (n ++ entries ns))
 
--- the numbers of the answers: 0; 20 and 21 with a name's and a record's number; a refusal's own
+-- The numbers of the answers: 0; 20 and 21 with the numbers of name and record; for a refusal its own number and place.
 abbrev pub Answer-codes : Type 0
 Answer-codes =
     (judgementCode Permitted ≡ record { number = 0; values = [] })
@@ -24,7 +24,7 @@ Answer-codes =
     × ((r : Refusal) → (judgementCode (Refused r) ≡ record { number = number r; values = place r ∷ [] })
     × (permittedIssuersCode (ListRefused r) ≡ record { number = number r; values = place r ∷ [] }))
 
--- those of the list are this project's own: 30, and 31 with octets and count
+-- The numbers of the list are this project's own: 30 for anyone; 31 with octets and count.
 abbrev pub List-codes : Type 0
 List-codes =
     (permittedIssuersCode Anyone ≡ record { number = 30; values = [] })

@@ -1,4 +1,4 @@
--- RFC 8659 section 3: the relevant resource record set of a name.
+-- RFC 8659 section 3: the Relevant RRset of a name (the requirements' "relevant set").
 use Prim.Native.Nat.{ℕ, suc}
 use mathlib.Core.Bool.{Bool, cond}
 use mathlib.Core.List.{List, [], _∷_, _++_, map}
@@ -8,13 +8,13 @@ use Rattle.spec_name.specs.Names.{Name, sameName, ancestors}
 use Rattle.spec_record.specs.Property.{Property, property}
 use Rattle.spec_record.specs.Records.{Record, isCaa}
 
--- a CAA record, with its number among all records
+-- A CAA record, with its number among all records of the book.
 pub record CaaRecord : Type 0 where
   pub number : ℕ
   pub owner : Name
   pub property : Property
 
--- "Records are numbered from 0 over the whole book"; those that are no CAA records are passed over
+-- "Records are numbered from 0 over the whole book". Records other than CAA are dropped after numbering.
 abbrev pub withProperty : ℕ → Name → Option Property → List CaaRecord
 withProperty k owner none = []
 withProperty k owner (some p) = record { number = k; owner = owner; property = p } ∷ []
@@ -29,7 +29,7 @@ caaRecordsFrom k (r ∷ rs) = caaRecord k r ++ caaRecordsFrom (suc k) rs
 abbrev pub caaRecords : List Record → List CaaRecord
 caaRecords rs = caaRecordsFrom 0 rs
 
--- what a lookup of CAA records finds: RFC 8659's CAA(X), empty or not
+-- The result of one lookup: RFC 8659's CAA(X), empty or not.
 pub data Lookup : Type 0 where
   empty : Lookup
   found : List CaaRecord → Lookup
@@ -38,7 +38,7 @@ abbrev pub asLookup : List CaaRecord → Lookup
 asLookup [] = empty
 asLookup (r ∷ rs) = found (r ∷ rs)
 
--- all CAA records with that owner. An asterisk in an owner is only a label: nothing is made from it
+-- All CAA records with that owner. An asterisk in an owner is an ordinary label; no records are synthesized from it.
 unfoldable pub lookup : List CaaRecord → Name → Lookup
 lookup book x = asLookup (select (λ r. sameName (r .owner) x) book)
 
@@ -47,6 +47,6 @@ firstFound [] = empty
 firstFound (empty ∷ ls) = firstFound ls
 firstFound (found rs ∷ ls) = found rs
 
--- RFC 8659 section 3, RelevantCAASet: what is found at the first of X, its parent, .. that owns any CAA record
+-- RFC 8659 section 3, RelevantCAASet(X): the CAA records of the first of X, its parent, .. that has any.
 unfoldable pub relevantSet : List CaaRecord → Name → Lookup
 relevantSet book x = firstFound (map (lookup book) (ancestors x))

@@ -28,25 +28,25 @@ use Rattle.spec_rule.specs.IssuerLists.{Issuers, anyone, listed, issuers
 use Rattle.spec_rule.specs.Calls.{authorizations, judge, Listing, listIssuers, AnswerCode, judgementCode}
 use Rattle.spec_rule.specs.Meaning.{CaaRecordsOf, OwnedBy, NearestAt, UnknownCriticalRecord, Relevant, Unrestricted, PermittedTo, ForbiddenBy, GovernedFrom, GoverningRecords, LowestNot, Before, GrantedBefore}
 
--- the CAA records are those of type 257 and class 1, numbered from 0 over all records
+-- The CAA records are those of type 257 and class 1, numbered from 0 over all records.
 abbrev pub Caa-records : Type 0
 Caa-records = (rs : List Record) → All GoodRecord rs → CaaRecordsOf 0 rs (caaRecords rs)
 
--- a lookup finds the CAA records of that owner, all of them, in the book's order
+-- A lookup finds all CAA records of that owner, in the order of the book.
 abbrev pub A-lookup : Type 0
 A-lookup =
     (book : List CaaRecord) (x : Name) →
     ((lookup book x ≡ empty) ↔ All (λ r. OwnedBy x r → ⊥) book)
     × ((rs : List CaaRecord) → (lookup book x ≡ found rs) ↔ (Selects (OwnedBy x) book rs × (rs ≢ [])))
 
--- the relevant set is what is found at the first of X, its parent, .. at which anything is found; the root is not among these
+-- The relevant set is what is found at the first of X, its parent, .. that has a CAA record. The root is not among these names.
 abbrev pub Nearest-name-decides : Type 0
 Nearest-name-decides =
     (book : List CaaRecord) (x : Name) →
     ((rs : List CaaRecord) → (relevantSet book x ≡ found rs) ↔ ((k : ℕ) × NearestAt book x k rs))
     × ((relevantSet book x ≡ empty) ↔ ((k : ℕ) → k < length x → lookup book (drop k x) ≡ empty))
 
--- permitted exactly when every name is unrestricted or granted to the issuer; else the lowest name that isn't, and why
+-- Permitted exactly when every name is unrestricted or granted to the issuer. Otherwise: the lowest name that isn't, and why.
 abbrev pub Verdict-on : List CaaRecord → List Name → List ℕ → Judgement → Type 0
 Verdict-on book ns d v =
     ((v ≡ Permitted) ↔ All (λ n. PermittedTo book n d) ns)
@@ -57,7 +57,7 @@ Verdict-on book ns d v =
 abbrev pub Verdict-by-the-rule : Type 0
 Verdict-by-the-rule = (book : List CaaRecord) (ns : List Name) (d : List ℕ) → Verdict-on book ns d (verdict d (map (authorization book) ns))
 
--- in the requirements' numbers: 0; 20 and 21 with the number of the name and of the record; no other number is a verdict
+-- The verdict in the requirements' numbers: 0; 20 and 21 with the numbers of name and record. No other number is a verdict.
 abbrev pub Verdict-numbers : Type 0
 Verdict-numbers =
     (book : List CaaRecord) (ns : List Name) (d : List ℕ) (v : Judgement) → Verdict-on book ns d v →
@@ -68,13 +68,13 @@ Verdict-numbers =
     ↔ ((n : Name) × LowestNot (λ m. PermittedTo book m d) ns k n × GovernedFrom book n r))
     × ((judgementCode v .number ≡ 0) ⊎ (judgementCode v .number ≡ 20) ⊎ (judgementCode v .number ≡ 21))
 
--- an accepted request, issuer name and book are judged by their names and records
+-- An accepted request, issuer domain name and book are judged by their names and records.
 abbrev pub Judge-accepted : Type 0
 Judge-accepted =
     (request issuer book : List ℕ) → requestRefusal request ≡ none → issuerRefusal issuer ≡ none → bookRefusal book ≡ none →
     Verdict-on (caaRecords (records book)) (requestedNames request) issuer (judge request issuer book)
 
--- The requirements' table, row by row: when each refusal is due. Rows 4 and 8 are not every call's.
+-- The requirements' table: the condition of each refusal. Row 4 belongs to the judging call only, row 8 to the listing call only.
 abbrev pub Row : List ℕ → List ℕ → Type 0 → (ℕ → Type 0) → Refusal → Type 0
 Row request book four eight RequestTooLong = Row-1 request
 Row request book four eight (BadName k) = Row-2 request (k .0)
@@ -88,7 +88,7 @@ Row request book four eight BadLine = ⊥
 Row request book four eight LineTooLong = ⊥
 Row request book four eight BadData = ⊥
 
--- the output needs n octets, and the buffer has fewer
+-- The output needs n octets, and the buffer has fewer.
 abbrev pub Row-8 : List ℕ → List ℕ → List ℕ → ℕ → Type 0
 Row-8 request book buffer n =
     (ns : List (List ℕ)) × (issuers (authorizations request book) ≡ listed ns) × (length (entries ns) ≡ n) × (length buffer < n)
@@ -99,31 +99,31 @@ JudgeRow request issuer book r = Row request book (Row-4 issuer) (λ n. ⊥) r
 abbrev pub ListRow : List ℕ → List ℕ → List ℕ → Refusal → Type 0
 ListRow request book buffer r = Row request book ⊥ (Row-8 request book buffer) r
 
--- the order of checks is that of the numbers: the row holds, and no row of a lower number does
+-- The checks are ordered by number: row r holds, and no row with a lower number.
 abbrev pub FirstRow : (Refusal → Type 0) → Refusal → Type 0
 FirstRow rows r = rows r × ((q : Refusal) → number q < number r → rows q → ⊥)
 
--- each refusal is given exactly when the table says
+-- Each refusal is returned exactly when the table says so.
 abbrev pub Judge-refusals : Type 0
 Judge-refusals =
     (request issuer book : List ℕ) → Octets request → Octets book → (r : Refusal) →
     (judge request issuer book ≡ Refused r) ↔ FirstRow (JudgeRow request issuer book) r
 
--- and the lent buffer stays as it was
+-- The same for the listing call; and a refusal leaves the buffer unchanged.
 abbrev pub List-refusals : Type 0
 List-refusals =
     (request book buffer : List ℕ) → Octets request → Octets book → (r : Refusal) →
     ((listIssuers request book buffer .answer ≡ ListRefused r) ↔ FirstRow (ListRow request book buffer) r)
     × (listIssuers request book buffer .answer ≡ ListRefused r → listIssuers request book buffer .buffer ≡ buffer)
 
--- Demand 3, over the rule's own verdict: what the issuers are, for an accepted request and book.
+-- The requirements' demand 3, stated over the verdict: what the permitted issuers are, for an accepted request and book.
 pub record PermittedIssuersAre (request book : List ℕ) (answer : Issuers) : Type 0 where
   pub anyone-exactly : (answer ≡ anyone) ↔ All (Unrestricted (caaRecords (records book))) (requestedNames request)
   pub permitted-exactly : (d : List ℕ) → WellFormed d →
       (judge request d book ≡ Permitted) ↔ ((answer ≡ anyone) ⊎ ((ns : List (List ℕ)) × (answer ≡ listed ns) × List·Memᴰ (lowered d) ns))
   pub well-formed : (ns : List (List ℕ)) → answer ≡ listed ns → All (λ n. WellFormed n × (lowered n ≡ n)) ns
   pub none-twice : (ns : List (List ℕ)) → answer ≡ listed ns → Distinct ns
-  -- the order is that of the records that govern the restricted name with the lowest number
+  -- The order is that of the records that govern the restricted name with the lowest number.
   pub in-order : (ns : List (List ℕ)) → answer ≡ listed ns → (k : ℕ) (n : Name) (gs : List CaaRecord) →
       LowestNot (Unrestricted (caaRecords (records book))) (requestedNames request) k n →
       GoverningRecords (caaRecords (records book)) n gs → (a b : List ℕ) → List·Memᴰ a ns → List·Memᴰ b ns →
@@ -134,12 +134,12 @@ Permitted-issuers =
     (request book : List ℕ) → requestRefusal request ≡ none → bookRefusal book ≡ none →
     PermittedIssuersAre request book (issuers (authorizations request book))
 
--- the count is that of the list, and the octets are its lengths together and one more for each
+-- The octets of a list: the lengths of its names, and one more for each.
 abbrev pub total : List (List ℕ) → ℕ
 total [] = 0
 total (n ∷ ns) = length n + 1 + total ns
 
--- the list stands at the front and what is behind it stays; for anyone all of the buffer does
+-- The list is at the start of the buffer, and the octets after it are unchanged. For anyone the whole buffer is unchanged.
 abbrev pub List-in-the-buffer : Type 0
 List-in-the-buffer =
     (request book buffer : List ℕ) → requestRefusal request ≡ none → bookRefusal book ≡ none →
@@ -149,7 +149,7 @@ List-in-the-buffer =
     listIssuers request book buffer
     ≡ record { answer = Listed (length ns) (total ns); buffer = entries ns ++ drop (total ns) buffer })
 
--- an unknown critical record in the relevant set of any requested name gives an empty list, in any buffer
+-- A critical record with an unknown tag in the relevant set of any requested name gives an empty list, in any buffer.
 abbrev pub Unknown-critical-lists-nobody : Type 0
 Unknown-critical-lists-nobody =
     (request book buffer : List ℕ) → requestRefusal request ≡ none → bookRefusal book ≡ none →
@@ -158,37 +158,37 @@ Unknown-critical-lists-nobody =
     (requestedNames request) →
     listIssuers request book buffer ≡ record { answer = Listed 0 0; buffer = buffer }
 
--- a buffer as long as the book is always enough
+-- The list never needs more octets than the book has.
 abbrev pub Room-of-the-book : Type 0
 Room-of-the-book =
     (request book : List ℕ) → Octets book → bookRefusal book ≡ none → (ns : List (List ℕ)) →
     issuers (authorizations request book) ≡ listed ns → total ns ≤ length book
 
--- the names of a list are read back from its octets
+-- The names of a list can be read back from its octets.
 abbrev pub Entries-read-back : Type 0
 Entries-read-back = (ns : List (List ℕ)) → items readEntry (length ns) (entries ns) ≡ whole ns
 
--- the front of the buffer, so many octets, is so many entries and nothing else: those of ns
+-- The first `octets` octets of the buffer are exactly `count` entries: those of ns.
 abbrev pub ReadsBack : ℕ → ℕ → List ℕ → List (List ℕ) → Type 0
 ReadsBack count octets buffer ns =
     (octets ≤ length buffer) × (length ns ≡ count) × (items readEntry count (take octets buffer) ≡ whole ns)
 
--- the answer is a list, and ns are the names that a caller reads from the buffer
+-- The answer is a list, and ns are the names that a caller reads from the buffer.
 abbrev pub ListsNames : Listing → List (List ℕ) → Type 0
 ListsNames l ns = (count octets : ℕ) × (l .answer ≡ Listed count octets) × ReadsBack count octets (l .buffer) ns
 
--- Demand 3, of the call itself: what a caller learns from the answer and the buffer's octets, the buffer having been lent as given.
+-- The requirements' demand 3, stated over the call: what a caller learns from the answer and the octets of the buffer.
 pub record ListingTells (request book buffer : List ℕ) (l : Listing) : Type 0 where
   pub anyone-exactly : (l .answer ≡ Anyone) ↔ All (Unrestricted (caaRecords (records book))) (requestedNames request)
   pub permitted-exactly : (d : List ℕ) → WellFormed d →
       (judge request d book ≡ Permitted) ↔ ((l .answer ≡ Anyone) ⊎ ((ns : List (List ℕ)) × ListsNames l ns × List·Memᴰ (lowered d) ns))
   pub answered : (l .answer ≡ Anyone) ⊎ ((count octets : ℕ) × (l .answer ≡ Listed count octets))
-  -- whatever count and octets are told, that list is there to be read
+  -- Whatever count and octets are returned, that list can be read.
   pub readable : (count octets : ℕ) → l .answer ≡ Listed count octets → (ns : List (List ℕ)) × ReadsBack count octets (l .buffer) ns
   pub counted : (ns : List (List ℕ)) → ListsNames l ns → l .answer ≡ Listed (length ns) (total ns)
   pub well-formed : (ns : List (List ℕ)) → ListsNames l ns → All (λ n. WellFormed n × (lowered n ≡ n)) ns
   pub none-twice : (ns : List (List ℕ)) → ListsNames l ns → Distinct ns
-  -- the order is that of the records that govern the restricted name with the lowest number
+  -- The order is that of the records that govern the restricted name with the lowest number.
   pub in-order : (ns : List (List ℕ)) → ListsNames l ns → (k : ℕ) (n : Name) (gs : List CaaRecord) →
       LowestNot (Unrestricted (caaRecords (records book))) (requestedNames request) k n →
       GoverningRecords (caaRecords (records book)) n gs → (a b : List ℕ) → List·Memᴰ a ns → List·Memᴰ b ns →
@@ -197,20 +197,20 @@ pub record ListingTells (request book buffer : List ℕ) (l : Listing) : Type 0 
   pub rest-stays : (count octets : ℕ) → l .answer ≡ Listed count octets → drop octets (l .buffer) ≡ drop octets buffer
   pub nothing-written : l .answer ≡ Anyone → l .buffer ≡ buffer
 
--- in every buffer with room, whatever it held
+-- This holds for every buffer that is long enough, whatever its contents before.
 abbrev pub Call-lists-the-permitted : Type 0
 Call-lists-the-permitted =
     (request book buffer : List ℕ) → requestRefusal request ≡ none → bookRefusal book ≡ none →
     ((n : ℕ) → listIssuers request book buffer .answer ≢ ListRefused (NoRoom n)) →
     ListingTells request book buffer (listIssuers request book buffer)
 
--- a buffer as long as the book is room enough
+-- A buffer as long as the book is always long enough.
 abbrev pub Book-length-is-room : Type 0
 Book-length-is-room =
     (request book buffer : List ℕ) → Octets book → requestRefusal request ≡ none → bookRefusal book ≡ none →
     length book ≤ length buffer → (r : Refusal) → listIssuers request book buffer .answer ≢ ListRefused r
 
--- Room is enough when the buffer has the octets of the list, whatever buffer these were told for; anyone needs none.
+-- A buffer is long enough exactly when it has the octets of the list, as answered for any other buffer; for anyone every buffer is.
 abbrev pub Room-needed : Type 0
 Room-needed =
     (request book buffer other : List ℕ) → requestRefusal request ≡ none → bookRefusal book ≡ none →
@@ -219,7 +219,7 @@ Room-needed =
     (octets ≤ length buffer → listIssuers request book buffer .answer ≡ Listed count octets)
     × (length buffer < octets → listIssuers request book buffer ≡ record { answer = ListRefused (NoRoom octets); buffer = buffer }))
 
--- Deciding never computes with record numbers: other numbers change those in the answer and nothing else.
+-- Record numbers don't influence the decision: with other numbers only the numbers in the answer change.
 abbrev pub renumbered : (ℕ → ℕ) → CaaRecord → CaaRecord
 renumbered f r = record { number = f (r .number); owner = r .owner; property = r .property }
 

@@ -1,4 +1,4 @@
--- The verdict on a request: step 5 of the rule of issue, with the requirements' numbers and places.
+-- The verdict on a request: step 5 of the requirements' rule of issue, with their numbers for name and record.
 use Prim.Native.Nat.{ℕ, suc}
 use mathlib.Core.Bool.{cond}
 use mathlib.Core.List.{List, [], _∷_}
@@ -10,13 +10,13 @@ use Rattle.spec_rule.specs.Authorizations.{Authorization, unrestricted, 
 abbrev pub denial : ℕ → ℕ → Denial
 denial k r = record { name = record { 0 = k }; rr = record { 0 = r } }
 
--- why the name of number k is not permitted
+-- Why name k is not permitted.
 abbrev pub denied : ℕ → Authorization → Judgement
 denied k unrestricted = Permitted
 denied k (forbidden r) = UnknownCritical (denial k r)
 denied k (granted r ns) = NotGranted (denial k r)
 
--- the first name that is not permitted decides; k is the number of the next one
+-- The first name that is not permitted decides. k is the number of the first name in the list.
 abbrev pub verdictFrom : ℕ → List ℕ → List Authorization → Judgement
 verdictFrom k d [] = Permitted
 verdictFrom k d (a ∷ rest) = cond (permits d a) (verdictFrom (suc k) d rest) (denied k a)

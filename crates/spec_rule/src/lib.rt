@@ -1,28 +1,28 @@
-// The answers of the two calls. The rule of issue stands in specs/.
+// The answers of the two calls. The rules for them are in specs/.
 use spec_refusal::NameNo;
 use spec_refusal::RecordNo;
 use spec_refusal::Refusal;
 
-// Why issuing is not permitted: the requested name, and the resource record that decides on it.
+// Why issuance is not permitted: the requested name, and the record that decides.
 pub struct Denial {
     pub name: NameNo,
     pub rr: RecordNo,
 }
 
-// May this issuer sign for this request?
+// May this issuer issue for this request?
 pub enum Judgement {
     Permitted,
-    // An unknown property tag is marked critical.
+    // A critical property has an unknown tag.
     UnknownCritical(Denial),
     // The name is restricted, and not granted to this issuer.
     NotGranted(Denial),
     Refused(Refusal),
 }
 
-// Who may sign for this request?
+// Who may issue for this request? (The requirements' "who may issue".)
 pub enum PermittedIssuers {
     Anyone,
-    // Names at the front of the lent buffer: how many, and their octets with the length octet of each.
+    // A list at the start of the buffer: how many names, and how many octets with the length octet of each.
     Listed { count: usize, octets: usize },
     Refused(Refusal),
 }

@@ -1,4 +1,4 @@
--- Trimming takes off blanks at both ends and nothing else.
+-- Trimming removes white space at both ends, and nothing else.
 use Prim.Native.Nat.{ℕ}
 use mathlib.Core.Path.{_≡_, refl, _∙_, ap}
 use mathlib.Core.Bool.{false}

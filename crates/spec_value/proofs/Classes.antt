@@ -1,4 +1,4 @@
--- Texts free of an octet.
+-- Texts without a given octet.
 use Prim.Native.Nat.{ℕ}
 use mathlib.Core.Logic.{_≢_}
 use mathlib.Core.List.{List}

@@ -1,4 +1,4 @@
--- The pieces of a text where its first piece is known.
+-- The pieces of a text whose first piece is known.
 use Prim.Native.Nat.{ℕ}
 use mathlib.Core.Path.{_≡_, refl, ap, _∙_, sym}
 use mathlib.Core.Logic.{_≢_}

@@ -1,4 +1,4 @@
--- An issuer domain name by its labels is what the production matches, and it holds no blank and no semicolon.
+-- An issuer domain name, tested label by label, is what the production matches. It contains no white space and no semicolon.
 use Prim.Native.Nat.{ℕ}
 use Prim.Native.Char.{code}
 use mathlib.Core.Path.{_≡_, refl, ap, sym}

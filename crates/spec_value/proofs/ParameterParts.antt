@@ -1,4 +1,4 @@
--- What stands behind the first semicolon: the test on its pieces and the production say the same.
+-- The octets after the first semicolon: the test on their pieces and the production agree.
 use Prim.Native.Nat.{ℕ}
 use Prim.Native.Char.{code}
 use mathlib.Core.Path.{_≡_, refl, sym, _∙_}

@@ -1,4 +1,4 @@
--- A parameter with blanks around it: the test and the production say the same.
+-- A parameter with white space around it: the test and the production agree.
 use Prim.Native.Nat.{ℕ}
 use Prim.Native.Char.{code}
 use native.Mathlib.Omega.{arith}

@@ -1,4 +1,4 @@
--- Values of issue and issuewild properties: the reading definition accepts exactly what the productions match.
+-- Values of issue and issuewild properties: issueValue accepts exactly what the productions match.
 use Prim.Native.Nat.{ℕ}
 use Prim.Native.Char.{code}
 use native.Mathlib.Omega.{arith}

@@ -1,4 +1,4 @@
--- Values of issue and issuewild properties (RFC 8659 section 4.2): which fit the grammar, and the issuer domain name they hold.
+-- Values of issue and issuewild properties (RFC 8659 section 4.2): which match the grammar, and the issuer domain name in them.
 use Prim.Native.Nat.{ℕ}
 use Prim.Native.Char.{code}
 use mathlib.Core.Bool.{Bool, false, cond, not, _&&_, _||_}
@@ -9,36 +9,36 @@ use Rattle.spec_octets.specs.Label.{isLabel}
 use Rattle.spec_octets.specs.Pieces.{split, join}
 
 pub data IssueValue : Type 0 where
-  -- the value doesn't fit the grammar
+  -- The value doesn't match the grammar.
   malformed : IssueValue
-  -- it fits and holds no name
+  -- It matches, without an issuer domain name.
   nameless : IssueValue
-  -- it fits and holds this issuer domain name
+  -- It matches, with this issuer domain name.
   named : List ℕ → IssueValue
 
--- a text without the blanks at both ends
+-- Removes white space at both ends.
 abbrev pub trim : List ℕ → List ℕ
 trim s = trimStart (trimEnd s)
 
--- issuer-domain-name: labels joined by single dots
+-- issuer-domain-name: labels joined by single dots.
 unfoldable pub isDomainName : List ℕ → Bool
 isDomainName s = all isLabel (split (code ".") s)
 
--- tag of a parameter: one or more letters and digits, as the requirements have it
+-- The tag of a parameter: one or more letters and digits. The requirements have no hyphens here; RFC 8659 allows inner hyphens.
 unfoldable pub isParameterTag : List ℕ → Bool
 isParameterTag t = not (isEmpty t) && all isLetterOrDigit t
 
--- tag, blanks, "=", blanks, value: what stands before the first "=" and all that stands behind it
+-- Tag, white space, "=", white space, value. The first "=" separates tag and value.
 abbrev pub isTagAndValue : List (List ℕ) → Bool
 isTagAndValue [] = false
 isTagAndValue (t ∷ []) = false
 isTagAndValue (t ∷ v ∷ vs) = isParameterTag (trimEnd t) && all isParameterOctet (trimStart (join (code "=") (v ∷ vs)))
 
--- a parameter, with blanks around it
+-- A parameter with optional white space around it.
 unfoldable pub isParameter : List ℕ → Bool
 isParameter s = isTagAndValue (split (code "=") (trim s))
 
--- what stands behind the first semicolon, cut at the others: nothing but blanks, or parameters; without a semicolon nothing
+-- The pieces after the first semicolon, split at the other semicolons: only white space, or parameters. No pieces without a semicolon.
 abbrev pub isBlankAlone : List (List ℕ) → Bool
 isBlankAlone [] = false
 isBlankAlone (p ∷ []) = all isBlank p
@@ -47,7 +47,7 @@ isBlankAlone (p ∷ q ∷ ps) = false
 unfoldable pub areParameters : List (List ℕ) → Bool
 areParameters ps = isBlankAlone ps || all isParameter ps
 
--- a name with blanks around it, or blanks alone
+-- A name with optional white space around it, or only white space.
 abbrev pub nameIn : List ℕ → IssueValue
 nameIn n = cond (isEmpty n) nameless (cond (isDomainName n) (named n) malformed)
 
@@ -55,6 +55,6 @@ abbrev pub fromPieces : List (List ℕ) → IssueValue
 fromPieces [] = malformed
 fromPieces (n ∷ ps) = cond (areParameters ps) (nameIn (trim n)) malformed
 
--- a name or none before the first semicolon, parameters or none behind it
+-- An optional name before the first semicolon, optional parameters after it.
 unfoldable pub issueValue : List ℕ → IssueValue
 issueValue s = fromPieces (split (code ";") s)

@@ -1,4 +1,4 @@
--- RFC 8659 section 4.2 as its productions, each behind those that it is made of; the parameter tag as the requirements have it.
+-- The productions of RFC 8659 section 4.2, each after those that it uses. One differs: `tag`, which is the requirements'.
 use Prim.Native.Nat.{ℕ}
 use Prim.Native.Char.{code}
 use mathlib.Core.Path.{_≡_}
@@ -14,7 +14,7 @@ blanks = many (one isBlank)
 abbrev pub issuerDomainName : Production
 issuerDomainName = label ⊕ many (lit (code ".") ⊕ label)
 
--- tag = 1*(ALPHA / DIGIT)
+-- tag = 1*(ALPHA / DIGIT). RFC 8659 also allows inner hyphens; the requirements don't.
 abbrev pub tag : Production
 tag = one isLetterOrDigit ⊕ many (one isLetterOrDigit)
 

@@ -7,7 +7,7 @@ use Rattle.spec_value.specs.IssueValues.{malformed, nameless, named, iss
 use Rattle.spec_value.specs.Productions.{valueWithoutName, valueWithName}
 use Rattle.spec_value.specs.ValueEdges.{valueEdges}
 
--- the reading definition accepts exactly what the productions match, and the name that it yields is the only one
+-- issueValue accepts exactly the values that the productions match. A value has at most one name.
 abbrev pub Value-is-the-grammar : Type 0
 Value-is-the-grammar =
     (s : List ℕ) →
@@ -15,6 +15,6 @@ Value-is-the-grammar =
     × ((issueValue s ≡ nameless) ↔ valueWithoutName s)
     × ((issueValue s ≡ malformed) ↔ (((n : List ℕ) → valueWithName n s → ⊥) × (valueWithoutName s → ⊥)))
 
--- each value of the table is read as the requirements say
+-- Each value of the table ValueEdges.antt is read as the requirements say.
 abbrev pub Value-edges : Type 0
 Value-edges = map (λ r. issueValue (r .0)) valueEdges ≡ map (λ r. r .1) valueEdges

@@ -1,11 +1,11 @@
--- Values beside what the requirements' "Value grammar" says of them, row by row and without the productions: a test and a production that
--- were changed together would still agree with each other, and not with these.
+-- Values, each with what the requirements' "Value grammar" says of it, written without the productions. If a test and its production
+-- changed together, they would still agree with each other, but not with this table.
 use Prim.Native.Nat.{ℕ}
 use mathlib.Core.List.{List, [], _∷_, _++_}
 use Rattle.spec_octets.specs.Octets.{text}
 use Rattle.spec_value.specs.IssueValues.{IssueValue, malformed, nameless, named}
 
--- a name of one label, and the customer's
+-- A name of one label, and one of three.
 abbrev pub n : IssueValue
 n = named (text "n")
 
@@ -14,13 +14,13 @@ ca1 = named (text "ca1.example.net")
 
 abbrev pub valueEdges : List (List ℕ × IssueValue)
 valueEdges =
-    -- nothing, blanks alone, and a semicolon with or without blanks hold no name
+    -- No name: an empty value, only white space, a semicolon with or without white space.
     (text "", nameless)
     ∷ (text " \t ", nameless)
     ∷ (text ";", nameless)
     ∷ (text "\t; ", nameless)
     ∷ (text " ;\t", nameless)
-    -- a name: labels joined by single dots, of letters, digits and inner hyphens, as it stands
+    -- A name: labels of letters, digits and inner hyphens, joined by single dots, in the case of the value.
     ∷ (text "n", n)
     ∷ (text "1", named (text "1"))
     ∷ (text "ca1.example.net", ca1)
@@ -39,11 +39,11 @@ valueEdges =
     ∷ (text "n..n", malformed)
     ∷ (text "n .n", malformed)
     ∷ (text "%%%%%", malformed)
-    -- one name and no more
+    -- At most one name.
     ∷ (text "n m", malformed)
     ∷ (text "n,m", malformed)
     ∷ (text "n;m", malformed)
-    -- blanks, which are spaces and tabs, around the name
+    -- White space around the name is space or tab.
     ∷ (text " n", n)
     ∷ (text "\tn", n)
     ∷ (text "n ", n)
@@ -52,14 +52,14 @@ valueEdges =
     ∷ (text "n\n", malformed)
     ∷ (text "\nn", malformed)
     ∷ (text "n;\n", malformed)
-    -- a semicolon with nothing but blanks behind it; no second one
+    -- A semicolon followed only by white space; no second semicolon.
     ∷ (text "n;", n)
     ∷ (text "n \t; \t", n)
     ∷ (text ";;", malformed)
     ∷ (text "; ;", malformed)
     ∷ (text "n;;", malformed)
     ∷ (text "n; ;", malformed)
-    -- parameters, with a name before them or without
+    -- Parameters, after a name or without one.
     ∷ (text "n;a=1", n)
     ∷ (text "; a=1", nameless)
     ∷ (text " ;a=1;b=2", nameless)
@@ -69,7 +69,7 @@ valueEdges =
     ∷ (text "n a=1; b=2", malformed)
     ∷ (text "n; a", malformed)
     ∷ (text "; a", malformed)
-    -- joined by semicolons, none behind the last and none before the first
+    -- Semicolons between the parameters, none after the last and none before the first.
     ∷ (text "n;a=1;b=2;c=3", n)
     ∷ (text "n;a=1;", malformed)
     ∷ (text "n; a=1 ; ", malformed)
@@ -78,7 +78,7 @@ valueEdges =
     ∷ (text "n;a=1; b", malformed)
     ∷ (text "n; a=1 b=2", malformed)
     ∷ (text "n; a=1,b=2", n)
-    -- blanks before and behind each part of two parameters, one place at a time and all together
+    -- White space around each part of two parameters, one position at a time and all together.
     ∷ (text "n;\ta=1;b=2", n)
     ∷ (text "n;a =1;b\t=2", n)
     ∷ (text "n;a= 1;b=\t2", n)
@@ -88,7 +88,7 @@ valueEdges =
     ∷ (text " n ; a = 1 ; b = 2 ", n)
     ∷ (text "\t \tca1.example.net\t \t;\t \taccount\t \t=\t \t230123\t \t;\t \tb\t \t=\t \t2\t \t", ca1)
     ∷ (text "n; a\n=1", malformed)
-    -- a parameter's tag: one or more letters and digits, as the requirements have it, and no hyphen
+    -- A parameter's tag: one or more letters and digits. The requirements have no hyphens here; RFC 8659 allows inner hyphens.
     ∷ (text "n; 0=1", n)
     ∷ (text "n; aZ9=1", n)
     ∷ (text "ca1.example.net; a-b=1", malformed)
@@ -100,7 +100,7 @@ valueEdges =
     ∷ (text "n; =1", malformed)
     ∷ (text "n; =", malformed)
     ∷ (text "n;a=1; =2", malformed)
-    -- its value: zero or more octets 33 to 126 but the semicolon, so the equals sign too; no blank inside
+    -- A parameter's value: zero or more octets 33 to 126 except the semicolon, so also the equals sign. No white space inside.
     ∷ (text "n; a=", n)
     ∷ (text "n;a=;b=", n)
     ∷ (text "n; a= ", n)

@@ -1,4 +1,4 @@
--- Each case of what writing and reading a line answer, packed.
+-- Each case of the answers of writing and reading a line, packed.
 use Prim.Native.Nat.{ℕ}
 use mathlib.Core.Path.{_≡_}
 use Rattle.spec_refusal.specs.declared.Refusal.{Refusal}

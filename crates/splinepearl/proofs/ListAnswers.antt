@@ -1,4 +1,4 @@
--- Each case of what the call that lists the permitted issuers answers, packed.
+-- Each case of the answers of the call that lists the permitted issuers, packed.
 use Prim.Native.Nat.{ℕ}
 use mathlib.Core.Path.{_≡_}
 use Rattle.spec_refusal.specs.declared.Refusal.{Refusal}

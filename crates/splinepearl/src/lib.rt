@@ -1,18 +1,15 @@
-// The calls for C and Rust. Each answers one number of 64 bits: the answer's number in bits 0 to 7, and fields behind it.
+// The calls for C and Rust. Each returns a word of 64 bits: the number of the answer in bits 0 to 7, and the fields a, b and c above.
 use spec_line::LineAnswer;
 use spec_rule::Judgement;
 use spec_rule::PermittedIssuers;
 ghost use mathlib.Core.Path.{_≡_};
-ghost use Rattle.spec_line.specs.Calls.{writeLine, parseLine};
-ghost use Rattle.spec_rule.specs.Calls.{judge, listIssuers};
-ghost use Rattle.spec_answers.specs.Answers.{packedJudgement};
-ghost use Rattle.spec_answers.specs.ListAnswers.{packedIssuers};
+ghost use Rattle.spec_answers.specs.Door.{caaJudge, caaPermittedIssuers, caaWriteLine, caaReadLine};
 ghost use Rattle.spec_answers.specs.LineAnswers.{packedLine};
 
-// May this issuer sign? 0 permitted; 20 and 21 with the name's number in a and the record's in b; a refusal with its place in a.
+// May this issuer issue? 0: permitted. 20 and 21: name number in a, record number in b. A refusal: place in a.
 #[no_mangle]
 pub extern "C" fn caa_judge(request: &[u8], issuer: &[u8], book: &[u8]) -> u64
-    ensures { λ r. ⌜ r ≡ packedJudgement (judge (now (request .entry)) (now (issuer .entry)) (now (book .entry))) ⌝ }
+    ensures { λ r. ⌜ r ≡ caaJudge (now (request .entry)) (now (issuer .entry)) (now (book .entry)) ⌝ }
 {
     match judge_call::judge(request, issuer, book) {
         Judgement::Permitted => 0,
@@ -30,12 +27,11 @@ pub extern "C" fn caa_judge(request: &[u8], issuer: &[u8], book: &[u8]) -> u64
     }
 }
 
-// Who may sign? 30 anyone; 31 a list at the front of the lent buffer, with its octets in a and its count in b; a refusal with its
-// place in a.
+// Who may issue? 30: anyone. 31: a list at the start of the buffer, with its octets in a and its count in b. A refusal: place in a.
 #[no_mangle]
 pub extern "C" fn caa_permitted_issuers(request: &[u8], book: &[u8], buffer: &mut [u8]) -> u64
-    ensures answer { λ r. ⌜ r ≡ packedIssuers (listIssuers (now (request .entry)) (now (book .entry)) (now (buffer .entry)) .answer) ⌝ }
-    ensures octets { λ r. ⌜ now (buffer .exit) ≡ listIssuers (now (request .entry)) (now (book .entry)) (now (buffer .entry)) .buffer ⌝ }
+    ensures answer { λ r. ⌜ r ≡ caaPermittedIssuers (now (request .entry)) (now (book .entry)) (now (buffer .entry)) .word ⌝ }
+    ensures octets { λ r. ⌜ now (buffer .exit) ≡ caaPermittedIssuers (now (request .entry)) (now (book .entry)) (now (buffer .entry)) .buffer ⌝ }
 {
     match list_call::permitted_issuers(request, book, buffer) {
         PermittedIssuers::Anyone => spec_packed::pack(30, 0, 0, 0),
@@ -49,7 +45,7 @@ pub extern "C" fn caa_permitted_issuers(request: &[u8], book: &[u8], buffer: &mu
     }
 }
 
-// What was made: 0 with its length in a, or a refusal with its place in a.
+// 0 with the length of the output in a, or a refusal with its place in a.
 fn pack_made(m: LineAnswer) -> u64
     ensures { λ r. ⌜ r ≡ packedLine m ⌝ }
 {
@@ -59,20 +55,20 @@ fn pack_made(m: LineAnswer) -> u64
     }
 }
 
-// CAA data to its line, at the front of the lent buffer.
+// Writes the line of CAA data at the start of the buffer.
 #[no_mangle]
 pub extern "C" fn caa_write_line(d: &[u8], buffer: &mut [u8]) -> u64
-    ensures answer { λ r. ⌜ r ≡ packedLine (writeLine (now (d .entry)) (now (buffer .entry)) .answer) ⌝ }
-    ensures octets { λ r. ⌜ now (buffer .exit) ≡ writeLine (now (d .entry)) (now (buffer .entry)) .buffer ⌝ }
+    ensures answer { λ r. ⌜ r ≡ caaWriteLine (now (d .entry)) (now (buffer .entry)) .word ⌝ }
+    ensures octets { λ r. ⌜ now (buffer .exit) ≡ caaWriteLine (now (d .entry)) (now (buffer .entry)) .buffer ⌝ }
 {
     pack_made(line_writer::write_line(d, buffer))
 }
 
-// A line to its CAA data, at the front of the lent buffer.
+// Writes the CAA data of a line at the start of the buffer.
 #[no_mangle]
 pub extern "C" fn caa_read_line(line: &[u8], buffer: &mut [u8]) -> u64
-    ensures answer { λ r. ⌜ r ≡ packedLine (parseLine (now (line .entry)) (now (buffer .entry)) .answer) ⌝ }
-    ensures octets { λ r. ⌜ now (buffer .exit) ≡ parseLine (now (line .entry)) (now (buffer .entry)) .buffer ⌝ }
+    ensures answer { λ r. ⌜ r ≡ caaReadLine (now (line .entry)) (now (buffer .entry)) .word ⌝ }
+    ensures octets { λ r. ⌜ now (buffer .exit) ≡ caaReadLine (now (line .entry)) (now (buffer .entry)) .buffer ⌝ }
 {
     pack_made(line_reader::read_line(line, buffer))
 }

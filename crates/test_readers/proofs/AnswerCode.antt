@@ -1,4 +1,4 @@
--- A reader tells the number of what it read: o is what the code read, d its definition, a the constructor matched.
+-- The number of what a reader read: o is what the code read, d its definition, a the constructor matched.
 use Prim.Native.Nat.{ℕ}
 use mathlib.Core.Bool.{Bool, cond}
 use mathlib.Core.List.{List}

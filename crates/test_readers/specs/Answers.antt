@@ -1,4 +1,4 @@
--- What the reader of a number answers, packed: `same` of s and t; those of a place read s at it, the others all of s.
+-- The packed answer of the reader with this number. Reader 1 compares s and t; 2, 3 and 6 read s from offset `at` on; the others read s.
 use Prim.Native.Nat.{ℕ}
 use mathlib.Core.Bool.{cond}
 use mathlib.Core.List.{List}

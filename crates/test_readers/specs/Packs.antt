@@ -1,4 +1,4 @@
--- The answers of the readers as numbers.
+-- The results of the readers, packed into numbers.
 use Prim.Native.Nat.{ℕ}
 use mathlib.Core.Bool.{Bool, true, false, cond}
 use Rattle.spec_packed.specs.Packed.{packed}
@@ -38,7 +38,7 @@ packedTag IssueWild = 2
 packedTag Iodef = 3
 
 abbrev pub packedRecord : RecordRead → ℕ
-packedRecord (RecordThere r) = packed 1 (r .next) (r .fixed) (r .rdata)
+packedRecord (RecordThere r) = packed 1 (r .next) (r .«owner_end») (r .rdata)
 packedRecord RecordFault = 0
 
 abbrev pub packedValue : ValueRead → ℕ

@@ -1,5 +1,5 @@
-// The readers, exported as one call so that a program in another language can hold its own against them. Places are told modulo
-// the width of their field: 2^24 in a, 2^16 in b and c.
+// The readers, exported as one call, so that the independent implementation can be compared with them. Offsets are returned modulo the
+// size of their field: 2^24 in a, 2^16 in b and c.
 use read_name::NameEnd;
 use read_property::PropertyRead;
 use read_record::RecordRead;
@@ -17,7 +17,7 @@ ghost use Rattle.read_value.specs.Places.{valueAt};
 ghost use Rattle.test_readers.specs.Packs.{packedBool, packedEnd, packedRequested, packedProperty, packedTag, packedRecord, packedValue};
 ghost use Rattle.test_readers.specs.Answers.{readerAnswer};
 
-// 1 where the two are the same.
+// 1 if the two texts are equal, ignoring case.
 fn same(s: &[u8], t: &[u8]) -> u64
     ensures { λ r. ⌜ r ≡ packedBool (equalIgnoringCase (now (s .entry)) (now (t .entry))) ⌝ }
 {
@@ -27,7 +27,7 @@ fn same(s: &[u8], t: &[u8]) -> u64
     0
 }
 
-// 0 for a fault; else 1, and in a where the name ends.
+// 0: rejected. 1: a has the offset after the name.
 fn name_end(s: &[u8], at: usize) -> u64
     ensures { λ r. ⌜ r ≡ packedEnd (nameEnd (now (s .entry)) at) ⌝ }
 {
@@ -37,7 +37,7 @@ fn name_end(s: &[u8], at: usize) -> u64
     spec_packed::pack(1, e as u64, 0, 0)
 }
 
-// 0 for a fault; else 1, or 2 for a wildcard, in a where the name ends, in b where its X begins.
+// 0: rejected. 1, or 2 for a wildcard: a has the offset after the name, b the offset of its X.
 fn requested_name(s: &[u8], at: usize) -> u64
     ensures { λ r. ⌜ r ≡ packedRequested (requestedAt (now (s .entry)) at) ⌝ }
 {
@@ -50,7 +50,7 @@ fn requested_name(s: &[u8], at: usize) -> u64
     spec_packed::pack(1, n.next as u64, n.base as u64, 0)
 }
 
-// 0 for a fault; else 1, in a where the value begins, in b the flags.
+// 0: rejected. 1: a has the offset of the value, b the flags.
 fn property(d: &[u8]) -> u64
     ensures { λ r. ⌜ r ≡ packedProperty (propertyAt (now (d .entry))) ⌝ }
 {
@@ -72,17 +72,17 @@ fn tag(t: &[u8]) -> u64
     }
 }
 
-// 0 for a fault; else 1, in a where the record ends, in b where its owner ends, in c where its data begins.
+// 0: rejected. 1: a has the offset after the record, b the offset after its owner, c the offset of its data.
 fn record(s: &[u8], at: usize) -> u64
     ensures { λ r. ⌜ r ≡ packedRecord (recordAt (now (s .entry)) at) ⌝ }
 {
     let RecordRead::Good(r) = read_record::read_record(s, at) else {
         return 0;
     };
-    spec_packed::pack(1, r.next as u64, r.fixed as u64, r.rdata as u64)
+    spec_packed::pack(1, r.next as u64, r.owner_end as u64, r.rdata as u64)
 }
 
-// 0 malformed; 1 with no name; 2 with a name, in a where it ends, in b where it begins.
+// 0: malformed. 1: no name. 2: a has the offset after the name, b the offset of its first octet.
 fn value(v: &[u8]) -> u64
     ensures { λ r. ⌜ r ≡ packedValue (valueAt (now (v .entry))) ⌝ }
 {
@@ -93,7 +93,7 @@ fn value(v: &[u8]) -> u64
     }
 }
 
-// What the reader of a number answers: `same` of s and t; those of a place read s at it, the others all of s.
+// The answer of the reader with this number. Reader 1 compares s and t; 2, 3 and 6 read s from offset `at` on; the others read s.
 #[no_mangle]
 pub extern "C" fn readers_answer(number: usize, s: &[u8], t: &[u8], at: usize) -> u64
     ensures { λ r. ⌜ r ≡ readerAnswer number (now (s .entry)) (now (t .entry)) at ⌝ }

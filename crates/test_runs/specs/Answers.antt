@@ -1,4 +1,4 @@
--- The call that a case names by its number, on the case's parts: 1 judges, 2 lists, 3 writes a line, any other reads one.
+-- The call with the number of a test case, on the inputs of the case: 1 judges, 2 lists, 3 writes a line, any other number reads one.
 use Prim.Native.Nat.{ℕ}
 use mathlib.Core.Bool.{cond}
 use mathlib.Core.List.{List}
@@ -9,7 +9,7 @@ use Rattle.spec_answers.specs.Answers.{packedJudgement}
 use Rattle.spec_answers.specs.ListAnswers.{packedIssuers}
 use Rattle.spec_answers.specs.LineAnswers.{packedLine}
 
--- what it answers, packed; a line or its data stands in the request's place
+-- The packed answer. For 3 and 4, `request` is the data or the line.
 unfoldable pub answerOf : ℕ → List ℕ → List ℕ → List ℕ → List ℕ → ℕ
 answerOf call request issuer book buffer =
     cond (eqb call 1) (packedJudgement (judge request issuer book))
@@ -17,7 +17,7 @@ answerOf call request issuer book buffer =
     (cond (eqb call 3) (packedLine (writeLine request buffer .answer))
     (packedLine (parseLine request buffer .answer))))
 
--- what the lent buffer then holds; judging is lent none
+-- The caller's buffer afterwards; judging takes no buffer.
 unfoldable pub bufferAfter : ℕ → List ℕ → List ℕ → List ℕ → List ℕ
 bufferAfter call request book buffer =
     cond (eqb call 1) buffer

@@ -1,9 +1,11 @@
-// The stored runs: tries the four calls on each case of cases.bin and writes a line for each; crates/test_runs/stdout holds what is wanted.
+// Stored test cases: runs the four calls on each case of cases.bin and prints a line for each. crates/test_runs/stdout is the expected
+// output.
 //
-// cases.bin is numbers of three octets, high octet first, and parts, each a number and that many octets: first the number of cases, then
-// for each its title, its call, request (or data, or line), issuer domain name, book, and the room of the lent buffer.
+// Numbers in cases.bin are three octets in network byte order. A part is a number and that many octets. The file has the number of cases,
+// and for each case its title, call, request (or data, or line), issuer domain name, book, and buffer length; call and buffer length are
+// numbers, the others parts.
 //
-// Proved: it is safe and ends, and `answer` is the call that its number names, on the parts in their order.
+// Proved: the program is memory-safe and terminates, and `answer` makes the call with the given number on its inputs in order.
 use libc::STDOUT_FILENO;
 ghost use Prim.Native.Nat.{_<_};
 ghost use mathlib.Core.Path.{_≡_};
@@ -17,13 +19,13 @@ const ROOM: usize = 33000;
 
 const ISSUER_ROOM: usize = 300;
 
-// How much of a buffer is shown.
+// How many octets of a buffer are printed.
 const SHOWN: usize = 64;
 
-// AnswerCode where the file ends too early: more than three octets can say, and than any room.
+// Stands for a number that could not be read, because the file ends: more than three octets can hold, and than any buffer has.
 const CUT_OFF: usize = 16777216;
 
-// A part as it was read: whether it is whole, and how many octets of it stand at the front of the buffer.
+// The result of reading a part: whether it is complete, and how many octets of it are at the start of the buffer.
 struct Part {
     pub whole: bool,
     pub length: usize,
@@ -61,7 +63,7 @@ fn read_part(fd: i32, out: &mut [u8]) -> Part
     }
 }
 
-// A sum that tells order too: it stands for what a buffer holds behind its shown front.
+// A checksum that depends on the order of the octets. It covers the octets of a buffer that are not printed.
 fn checksum(s: &[u8]) -> u64 {
     let mut sum: u64 = 0;
     let mut i: usize = 0;
@@ -72,7 +74,7 @@ fn checksum(s: &[u8]) -> u64 {
     sum
 }
 
-// Printable octets but `\` as they are, others as `\` and two hex digits.
+// Prints a printable octet except `\` as itself, and others as `\` and two hex digits.
 fn print_octet(b: u8) {
     if 32 <= b {
         if b <= 126 {
@@ -86,7 +88,7 @@ fn print_octet(b: u8) {
     io::print_hex(STDOUT_FILENO, wide(b) as u64, 2);
 }
 
-// The front of the buffer, and the checksum of all of it.
+// Prints the first octets of the buffer, and the checksum of all of it.
 fn print_buffer(s: &[u8]) {
     io::write_all(STDOUT_FILENO, b" [");
     let mut i: usize = 0;
@@ -102,7 +104,7 @@ fn print_buffer(s: &[u8]) {
     io::print_hex(STDOUT_FILENO, checksum(s), 8);
 }
 
-// The answer's number and its fields a and b; no call fills the field above b, which would be seen in b.
+// Prints the number and the fields a and b. No call sets field c; if one did, it would show in b.
 fn print_answer(packed: u64) {
     io::write_all(STDOUT_FILENO, b": ");
     io::print_decimal(STDOUT_FILENO, packed % 256);
@@ -112,7 +114,7 @@ fn print_answer(packed: u64) {
     io::print_decimal(STDOUT_FILENO, packed / 4294967296);
 }
 
-// The packed answer of the call that a number names: 1 judges, 2 lists, 3 writes a line, 4 reads one.
+// The packed answer of the call with this number: 1 judges, 2 lists, 3 writes a line, 4 reads one.
 fn answer(call: usize, request: &[u8], issuer: &[u8], book: &[u8], buffer: &mut [u8]) -> u64
     ensures packed { λ r. ⌜ r ≡ answerOf call (now (request .entry)) (now (issuer .entry)) (now (book .entry)) (now (buffer .entry)) ⌝ }
     ensures octets { λ r. ⌜ now (buffer .exit) ≡ bufferAfter call (now (request .entry)) (now (book .entry)) (now (buffer .entry)) ⌝ }
@@ -129,7 +131,7 @@ fn answer(call: usize, request: &[u8], issuer: &[u8], book: &[u8], buffer: &mut 
     splinepearl::caa_read_line(request, buffer)
 }
 
-// Runs a case and writes the rest of its line.
+// Runs a case and prints the rest of its line.
 fn run(call: usize, request: &[u8], issuer: &[u8], book: &[u8], buffer: &mut [u8]) {
     print_answer(answer(call, request, issuer, book, buffer));
     if call != 1 {
@@ -138,7 +140,7 @@ fn run(call: usize, request: &[u8], issuer: &[u8], book: &[u8], buffer: &mut [u8
     io::write_all(STDOUT_FILENO, b"\n");
 }
 
-// A case is read part by part, each function one part more, so that each stays small; whether it is whole.
+// These functions read a case, each one part of it, and return whether it is complete.
 fn run_with_room(fd: i32, call: usize, request: &[u8], issuer: &[u8], book: &[u8]) -> bool {
     let room = read_number(fd);
     if ROOM < room {
@@ -186,7 +188,7 @@ fn run_call(fd: i32) -> bool {
     run_with_issuer(fd, call, &request[..n])
 }
 
-// Reads the next case and runs it; its line begins with its title.
+// Reads the next case and runs it. Its line begins with its title.
 fn run_next(fd: i32) -> bool {
     let mut title = [0u8; TITLE_ROOM];
     let read = read_part(fd, &mut title);
@@ -208,7 +210,7 @@ fn main() {
         }
         k += 1;
     }
-    // the last case ends the file
+    // Nothing may follow the last case.
     let mut after = [0u8; 1];
     if k == cases {
         if io::read_full(fd, &mut after) == 0 {

@@ -42,7 +42,7 @@ pub fn is_blank(b: u8) -> bool
     b == b'\t'
 }
 
-// A to Z as a to z, every other octet as it is.
+// A to Z become a to z; every other octet is unchanged.
 pub fn to_lower(b: u8) -> u8
     ensures { λ r. ⌜ r ≡ lower b ⌝ }
 {

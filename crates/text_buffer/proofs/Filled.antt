@@ -1,4 +1,4 @@
--- What a total writer answers, with room and without.
+-- What a function returns that writes all its octets or none: if they fit, and if they don't.
 use Prim.Native.Nat.{ℕ, _≤_, _<_}
 use mathlib.Core.Path.{_≡_}
 use mathlib.Core.List.{List}

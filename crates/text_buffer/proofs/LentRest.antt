@@ -1,4 +1,4 @@
--- A buffer filled from its front: each next piece goes into its rest, which is lent on, or is one octet set at its place.
+-- A buffer filled from its start: each next piece is written to the rest of the buffer, or one octet at its offset.
 use Prim.Native.Nat.{ℕ, _+_, _-_, _≤_, _<_}
 use native.Mathlib.Numerals.{add-one}
 use native.Mathlib.Omega.{arith}

@@ -1,4 +1,4 @@
--- Loops that put one octet for each octet of a text: the octets before a place are put.
+-- Loops that write one octet for each octet of a text: the octets before the current offset are written.
 use Prim.Native.Nat.{ℕ, _+_, _≤_, _<_}
 use native.Mathlib.Numerals.{add-one}
 use native.Mathlib.Omega.{arith}

@@ -1,9 +1,9 @@
-// Octets put at the front of a lent buffer; where there is no room for all of them none is put, and the answer is 0.
+// Writes octets at the start of the caller's buffer and returns how many. If they don't all fit, nothing is written and 0 is returned.
 ghost use mathlib.Core.Path.{_≡_};
 ghost use Rattle.spec_octets.specs.Octets.{lowered};
 ghost use Rattle.spec_octets.specs.Buffer.{filled, filledLength};
 
-// Octets as they are.
+// Writes the octets unchanged.
 pub fn put_octets(s: &[u8], out: &mut [u8]) -> usize
     ensures answer { λ r. ⌜ r ≡ filledLength (now (s .entry)) (now (out .entry)) ⌝ }
     ensures octets { λ r. ⌜ now (out .exit) ≡ filled (now (s .entry)) (now (out .entry)) ⌝ }
@@ -19,7 +19,7 @@ pub fn put_octets(s: &[u8], out: &mut [u8]) -> usize
     i
 }
 
-// Octets with A to Z as a to z.
+// Writes the octets in lower case.
 pub fn put_lowered(text: &[u8], out: &mut [u8]) -> usize
     ensures answer { λ r. ⌜ r ≡ filledLength (lowered (now (text .entry))) (now (out .entry)) ⌝ }
     ensures octets { λ r. ⌜ now (out .exit) ≡ filled (lowered (now (text .entry))) (now (out .entry)) ⌝ }

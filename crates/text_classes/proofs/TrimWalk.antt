@@ -1,4 +1,4 @@
--- Steps of loops that take the blanks off a text one by one: what is left of it gives the same answer.
+-- Loops that remove white space octet by octet: trimming what is left gives the same as trimming the whole.
 use Prim.Native.Nat.{ℕ, suc, _-_, _≤_, _<_}
 use native.Mathlib.Omega.{arith}
 use mathlib.Core.Path.{_≡_, sym, ap, _∙_}

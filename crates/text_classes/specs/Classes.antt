@@ -1,4 +1,4 @@
--- The class of octets that each case of Class names.
+-- The class of octets that each case of the enum Class stands for.
 use Prim.Native.Nat.{ℕ}
 use mathlib.Core.Bool.{Bool}
 use Rattle.spec_octets.specs.Octets.{isBlank, isLetterOrDigit, isParameterOctet}

@@ -1,10 +1,10 @@
-// Texts by the class of their octets: whether all are of one, and without the blanks at either end.
+// Tests of all octets of a text against a class, and removal of white space at either end.
 ghost use mathlib.Core.Path.{_≡_};
 ghost use Rattle.spec_octets.specs.Lists.{all};
 ghost use Rattle.spec_octets.specs.Octets.{trimStart, trimEnd, isParameterOctet};
 ghost use Rattle.text_classes.specs.Classes.{inClass};
 
-// Classes of octets that a label, a tag, a value or the blanks around them are made of.
+// Classes of octets: of labels, tags and values, and white space (Blank: space or tab, RFC 5234 WSP).
 pub enum Class {
     Blank,
     LetterOrDigit,
@@ -12,7 +12,7 @@ pub enum Class {
     ParameterOctet,
 }
 
-// Octets of a parameter's value (RFC 8659 section 4.2): 33 to 126 except the semicolon.
+// The octets of a parameter's value (RFC 8659 section 4.2): 33 to 126 except the semicolon.
 fn is_parameter_octet(b: u8) -> bool
     ensures { λ r. ⌜ r ≡ isParameterOctet b ⌝ }
 {
@@ -25,7 +25,7 @@ fn is_parameter_octet(b: u8) -> bool
     b != b';'
 }
 
-// Whether an octet is of a class.
+// Whether an octet is in a class.
 fn is_in(b: u8, class: Class) -> bool
     ensures { λ r. ⌜ r ≡ inClass class b ⌝ }
 {
@@ -37,7 +37,7 @@ fn is_in(b: u8, class: Class) -> bool
     }
 }
 
-// Whether every octet is of a class.
+// Whether every octet is in a class.
 pub fn all_of(s: &[u8], class: Class) -> bool
     ensures { λ r. ⌜ r ≡ all (inClass class) (now (s .entry)) ⌝ }
 {
@@ -51,7 +51,7 @@ pub fn all_of(s: &[u8], class: Class) -> bool
     true
 }
 
-// Without the blanks at the front.
+// Removes leading white space.
 pub fn trim_start(s: &[u8]) -> &[u8]
     ensures { λ r. ⌜ now r ≡ trimStart (now (s .entry)) ⌝ }
 {
@@ -65,7 +65,7 @@ pub fn trim_start(s: &[u8]) -> &[u8]
     t
 }
 
-// Without the blanks at the end.
+// Removes trailing white space.
 pub fn trim_end(s: &[u8]) -> &[u8]
     ensures { λ r. ⌜ now r ≡ trimEnd (now (s .entry)) ⌝ }
 {

@@ -1,4 +1,4 @@
--- Two texts compared part by part: they are the same where each part is, and one octet that differs tells them apart.
+-- Two texts compared part by part. They are the same exactly when both parts are; one octet that differs is enough to tell them apart.
 use Prim.Native.Nat.{ℕ, suc, zero, _+_, _-_, _≤_, _<_}
 use native.Mathlib.Omega.{arith}
 use mathlib.Core.Path.{_≡_, refl, sym, ap, _∙_}
@@ -17,14 +17,14 @@ use Rattle.spec_octets.proofs.Walks.{drop-step, rest-whole}
 pub lengths-first : (a b : List ℕ) → (length a ≡ length b → ⊥) → false ≡ equalIgnoringCase a b
 lengths-first a b h = sym (lengths-differ lower equalIgnoringCase same-text a b h)
 
--- at whatever place
+-- The octets at some index differ.
 pub octet-differs : (a b : List ℕ) (i x y : ℕ) → x ≡ lower (getD a i 0) → y ≡ lower (getD b i 0) → (x ≡ y → ⊥) → false ≡ equalIgnoringCase a b
 octet-differs a b i x y xe ye ne =
     sym (not-passed (equalIgnoringCase a b) (λ e. ne (
     xe ∙ sym (List·getD-map lower a i 0) ∙ ap (λ s. getD s i (lower 0)) (same-text a b .0 e) ∙ List·getD-map lower b i 0 ∙ sym ye
     )))
 
--- a front and the rest of each, cut at one place
+-- Both texts are cut at the same index.
 same-parts : (k : ℕ) (a b : List ℕ) →
     equalIgnoringCase a b ≡ (equalIgnoringCase (take k a) (take k b) && equalIgnoringCase (drop k a) (drop k b))
 unfolding equalIgnoringCase
@@ -45,7 +45,7 @@ regroup false true u = refl
 regroup false false u = refl
 
 module _ (a b : List ℕ) (i : ℕ) where
-  -- a part of each, cut at the same two places
+  -- The parts between two indices, `&a[i..e]` and `&b[i..e]`.
   pub part-differs : (e : ℕ) (r : Bool) → r ≡ equalIgnoringCase (take (e - i) (drop i a)) (take (e - i) (drop i b)) → r ≡ false →
       false ≡ equalIgnoringCase a b
   part-differs e r part off =
@@ -58,7 +58,7 @@ module _ (a b : List ℕ) (i : ℕ) where
   back-end done h = let front : i ≡ 0 = omega arith in sym (rw front at done)
 
   module _ (long : length a ≡ length b) where
-    -- the octets at a place, and what follows them
+    -- The octets at an index, and the octets after them.
     octet-parts : (j : ℕ) → i < length a → j ≡ i + 1 →
         equalIgnoringCase (drop i a) (drop i b)
         ≡ (eqb (lower (getD a i 0)) (lower (getD b i 0)) && equalIgnoringCase (drop j a) (drop j b))
@@ -69,7 +69,7 @@ module _ (a b : List ℕ) (i : ℕ) where
     unfolding equalIgnoringCase
     nothing-left h = rw (drop-of-length-le a h, drop-of-length-le b {i = i} (omega arith))
 
-    -- from the back: what was compared is the same
+    -- From the last octet to the first: the octets compared so far are the same.
     pub back-turn : (j x y : ℕ) → equalIgnoringCase (drop j a) (drop j b) ≡ true → j ≤ length a → i ≡ j - 1 → x ≡ lower (getD a i 0) →
         y ≡ lower (getD b i 0) → x ≡ y → equalIgnoringCase (drop i a) (drop i b) ≡ true
     back-turn zero x y done within next xe ye e = rw next done
@@ -80,7 +80,7 @@ module _ (a b : List ℕ) (i : ℕ) where
         equalIgnoringCase (drop i a) (drop i b) ≡ true
     back-octet j done within next e = back-turn j (lower (getD a i 0)) (lower (getD b i 0)) done within next refl refl (ap lower e)
 
-    -- without a way out: what was found of the octets passed, and what is left, give the answer
+    -- Without stopping at a difference: s says whether the octets so far are the same.
     module _ (s : Bool) (left : equalIgnoringCase a b ≡ (s && equalIgnoringCase (drop i a) (drop i b))) where
       pub once-turn : (r : Bool) (j x y : ℕ) → i < length a → x ≡ lower (getD a i 0) → y ≡ lower (getD b i 0) → r ≡ (eqb x y && s) →
           j ≡ i + 1 → equalIgnoringCase a b ≡ (r && equalIgnoringCase (drop j a) (drop j b))
@@ -90,7 +90,7 @@ module _ (a b : List ℕ) (i : ℕ) where
       pub once-end : length a ≤ i → s ≡ equalIgnoringCase a b
       once-end h = sym (left ∙ rw (nothing-left h, and-true))
 
-    -- block by block from the front, where the texts are the same from t on
+    -- Block by block: the texts are the same exactly when the remaining octets are. The octets from t on are known to be the same.
     module _ (left : equalIgnoringCase a b ≡ equalIgnoringCase (drop i a) (drop i b)) where
       pub block-turn : (e j : ℕ) (r : Bool) → r ≡ equalIgnoringCase (take (e - i) (drop i a)) (take (e - i) (drop i b)) → r ≡ true →
           e ≡ i + 16 → j ≡ i + 16 → equalIgnoringCase a b ≡ equalIgnoringCase (drop j a) (drop j b)

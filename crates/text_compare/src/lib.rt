@@ -9,11 +9,11 @@ ghost use Rattle.spec_octets.specs.Octets.{equalIgnoringCase};
 ghost use Rattle.spec_octets.specs.Label.{isLabel};
 ghost use Rattle.text_compare.specs.Places.{pieceEnd};
 
-// How many octets of long texts are compared at once.
+// How many octets of a long text are compared at once.
 const BLOCK: usize = 16;
 
-// The one comparison of names and of tags: whole, octet for octet, A to Z as a to z. The lengths are tried first, then the last
-// octets, then the rest.
+// The one comparison of names and of tags: whole texts, octet by octet, letter case ignored. The lengths are compared first, then
+// the last octets, then the rest.
 pub fn same_ignoring_case(a: &[u8], b: &[u8]) -> bool
     ensures { λ r. ⌜ r ≡ equalIgnoringCase (now (a .entry)) (now (b .entry)) ⌝ }
 {
@@ -24,12 +24,12 @@ pub fn same_ignoring_case(a: &[u8], b: &[u8]) -> bool
     if n < BLOCK {
         return same_short(a, b);
     }
-    // The octet before the last: of a name in wire form the last letter, since a zero closes it.
+    // The octet before the last is the last letter of a name in wire form, which ends with a zero octet.
     let last = n - 2;
     let p = a[last];
     let q = b[last];
-    // The long comparison is called at two places: one that is called once is put in place by the compiler, and this function is
-    // then too long to be put in place where it is called, mostly on short texts.
+    // `same_blocks` is called in two places so that the compiler doesn't inline it here. This function stays short enough to be
+    // inlined itself, and most calls are for short texts.
     if p == q {
         return same_blocks(a, b);
     }
@@ -39,7 +39,7 @@ pub fn same_ignoring_case(a: &[u8], b: &[u8]) -> bool
     same_blocks(a, b)
 }
 
-// Texts of one length, octet by octet, the last one first.
+// Compares texts of equal length octet by octet, from the last to the first.
 fn same_short(a: &[u8], b: &[u8]) -> bool
     requires { ⌜ length (now a) ≡ length (now b) ⌝ }
     ensures { λ r. ⌜ r ≡ equalIgnoringCase (now (a .entry)) (now (b .entry)) ⌝ }
@@ -60,7 +60,8 @@ fn same_short(a: &[u8], b: &[u8]) -> bool
     true
 }
 
-// Texts of one length, a block or longer: the last block, then block by block from the front, until the last block is reached.
+// Compares texts of equal length, at least a block long: the last block first, then block by block from the first octet on, until
+// the last block is reached.
 fn same_blocks(a: &[u8], b: &[u8]) -> bool
     requires { ⌜ (length (now a) ≡ length (now b)) × (16 ≤ length (now a)) ⌝ }
     ensures { λ r. ⌜ r ≡ equalIgnoringCase (now (a .entry)) (now (b .entry)) ⌝ }
@@ -81,7 +82,7 @@ fn same_blocks(a: &[u8], b: &[u8]) -> bool
     true
 }
 
-// Texts of one length, with no way out before the last octet: so a block is compared with a few machine instructions.
+// Compares texts of equal length and does not stop at a difference, so that the compiler can use vector instructions for a block.
 fn same_at_once(a: &[u8], b: &[u8]) -> bool
     requires { ⌜ length (now a) ≡ length (now b) ⌝ }
     ensures { λ r. ⌜ r ≡ equalIgnoringCase (now (a .entry)) (now (b .entry)) ⌝ }
@@ -95,6 +96,7 @@ fn same_at_once(a: &[u8], b: &[u8]) -> bool
     same
 }
 
+// Whether two octets are equal and all before them were the same.
 fn still_same(same: bool, x: u8, y: u8) -> bool
     ensures { λ r. ⌜ r ≡ (eqb x y && same) ⌝ }
 {

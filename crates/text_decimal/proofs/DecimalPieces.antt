@@ -1,4 +1,4 @@
--- The digits of a number counted, and put at the front of a buffer.
+-- Counting the digits of a number, and writing them at the start of a buffer.
 use Prim.Native.Nat.{ℕ, _+_, _/_, _%_, _^_, _≤_, _<_}
 use native.Mathlib.Omega.{arith}
 use mathlib.Core.Path.{_≡_}

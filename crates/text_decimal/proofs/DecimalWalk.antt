@@ -1,4 +1,4 @@
--- A number in decimal, read digit by digit: what is left of it gives the answer.
+-- Reading a decimal number digit by digit: the value so far and the remaining digits give the result.
 use Prim.Native.Nat.{ℕ, _+_, _-_, _*_, _≤_, _<_}
 use native.Mathlib.Omega.{arith}
 use mathlib.Core.Path.{_≡_, refl, sym, _∙_}

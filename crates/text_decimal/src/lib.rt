@@ -6,13 +6,13 @@ ghost use Rattle.spec_octets.specs.WrittenDecimal.{decimal, threeDigits};
 ghost use Rattle.spec_octets.specs.Buffer.{Put, filled, filledLength};
 ghost use Rattle.text_decimal.specs.Places.{decimalIn};
 
-// A number read, if there is one.
+// The number read, or a fault.
 pub enum OctetRead {
     Good(u8),
     Fault,
 }
 
-// An octet in decimal: 1 to 3 digits, not above 255.
+// Reads an octet in decimal: 1 to 3 digits, at most 255.
 pub fn decimal_octet(s: &[u8]) -> OctetRead
     ensures { λ r. ⌜ r ≡ decimalIn (now (s .entry)) ⌝ }
 {
@@ -38,7 +38,7 @@ pub fn decimal_octet(s: &[u8]) -> OctetRead
     OctetRead::Good(n as u8)
 }
 
-// An octet in three digits, at the front of the lent buffer; where there is no room nothing is put, and the answer is 0.
+// Writes an octet as three digits at the start of the buffer, and returns 3. If they don't fit, nothing is written and 0 is returned.
 pub fn put_three_digits(b: u8, out: &mut [u8]) -> usize
     ensures answer { λ r. ⌜ r ≡ filledLength (threeDigits b) (now (out .entry)) ⌝ }
     ensures octets { λ r. ⌜ now (out .exit) ≡ filled (threeDigits b) (now (out .entry)) ⌝ }
@@ -52,7 +52,7 @@ pub fn put_three_digits(b: u8, out: &mut [u8]) -> usize
     3
 }
 
-// How many octets a number takes in decimal.
+// How many digits a number has in decimal.
 pub fn decimal_length(n: u64) -> usize
     ensures { λ r. ⌜ r ≡ length (decimal n) ⌝ }
 {
@@ -65,7 +65,7 @@ pub fn decimal_length(n: u64) -> usize
     count
 }
 
-// The digits of a number, its tens first.
+// Writes the digits of a number, the most significant first.
 fn put_digits(n: u64, out: &mut [u8]) -> usize
     requires { ⌜ length (decimal n) ≤ length (now out) ⌝ }
     ensures { λ r. ⌜ Put (decimal n) (now (out .entry)) (now (out .exit)) r ⌝ }
@@ -79,7 +79,8 @@ fn put_digits(n: u64, out: &mut [u8]) -> usize
     w + 1
 }
 
-// A number in as few digits as it takes, at the front of the lent buffer; where there is no room nothing is put, and the answer is 0.
+// Writes a number without leading zeros at the start of the buffer, and returns how many digits. If they don't fit, nothing is written
+// and 0 is returned.
 pub fn put_decimal(n: u64, out: &mut [u8]) -> usize
     ensures answer { λ r. ⌜ r ≡ filledLength (decimal n) (now (out .entry)) ⌝ }
     ensures octets { λ r. ⌜ now (out .exit) ≡ filled (decimal n) (now (out .entry)) ⌝ }

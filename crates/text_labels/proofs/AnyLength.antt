@@ -1,4 +1,4 @@
--- No label of a text is longer than the text, which as a limit is none.
+-- No label of a text is longer than the text. So the length of the text as the limit is no limit.
 use Prim.Native.Nat.{ℕ, suc, _≤_}
 use Prim.Native.Char.{code}
 use native.Mathlib.Omega.{arith}

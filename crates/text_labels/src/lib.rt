@@ -1,8 +1,8 @@
-// Labels joined by dots: issuer domain names, and the names in values.
+// Labels joined by dots: issuer domain names, and the names in issue values.
 ghost use mathlib.Core.Path.{_≡_};
 ghost use Rattle.text_labels.specs.DottedLabels.{isLabelWithin, areLabels};
 
-// A label of at most so many octets.
+// Whether l is a label of at most `longest` octets.
 fn is_label_within(l: &[u8], longest: usize) -> bool
     ensures { λ r. ⌜ r ≡ isLabelWithin longest (now (l .entry)) ⌝ }
 {
@@ -12,7 +12,7 @@ fn is_label_within(l: &[u8], longest: usize) -> bool
     text_compare::is_label(l)
 }
 
-// Whether a text is labels of at most so many octets each, joined by single dots.
+// Whether a text is labels of at most `longest` octets each, joined by single dots.
 pub fn are_labels(s: &[u8], longest: usize) -> bool
     ensures { λ r. ⌜ r ≡ areLabels longest (now (s .entry)) ⌝ }
 {

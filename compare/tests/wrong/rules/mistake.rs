@@ -28,6 +28,10 @@ mistakes! {
         StarIsLookedAt,
         ParentsAreNotLookedAt,
         AllParentsCount,
+        ClimbEndsAfter3Names,
+        ClimbEndsAfter40Names,
+        ClimbEndsAfter100Names,
+        ClimbEndsAfter126Names,
         SetsWithoutGrantsArePassed;
     IN_THE_SET:
         CriticalIsTheBitWorthOne,
@@ -41,8 +45,14 @@ mistakes! {
         IssuewildGovernsAll,
         StarsNeedIssuewild,
         BadValuesAreAbsent,
+        BadValuesOfIssueAreAbsent,
+        BadValuesOfIssuewildAreAbsent,
         ValuesWithoutNameAreAbsent,
         BadValuesGrantTheirFront,
+        NamesWithLongLabelsAreAbsent,
+        LongNamesAreAbsent,
+        NamesWithLongLabelsGrantTheirFront,
+        LongNamesGrantTheirFront,
         ParameterTagsHoldHyphens;
     IN_THE_VERDICT:
         IssuersAreComparedByTail,
@@ -55,7 +65,8 @@ mistakes! {
         LastNameIsTold,
         UnknownCriticalIsToldFirst;
     IN_THE_LIST:
-        NamesBeyondTheLimitsAreListed,
+        NamesWithLongLabelsAreListed,
+        LongNamesAreListed,
         LargeLettersAreKept,
         RepeatsAreKept,
         RepeatsAreFoundByLetterCase,

@@ -1,6 +1,7 @@
 //! The rule of issue once more, with room for mistakes. Names are in wire form.
 
 use compare::book::{read_property, read_raw_record, Property};
+use compare::limits::{ISSUER_OCTETS, LABEL_OCTETS};
 use compare::request::read_requested_name;
 use compare::value::IssueValue;
 use compare::{read_issuer, read_value};
@@ -67,9 +68,9 @@ fn caa_records(book: &[u8]) -> Vec<Record<'_>> {
 fn relevant_set<'r, 'a>(records: &'r [Record<'a>], name: &[u8]) -> Vec<&'r Record<'a>> {
     let mut set = Vec::new();
     let mut place = name;
-    loop {
+    for looked_at in 0.. {
         let at_root = place == [0];
-        if at_root && !Mistake::RootIsLookedAt.is_made() {
+        if at_root && !Mistake::RootIsLookedAt.is_made() || is_given_up(looked_at) {
             return set;
         }
         let found = || records.iter().filter(|record| is_same(record.owner, place));
@@ -84,6 +85,19 @@ fn relevant_set<'r, 'a>(records: &'r [Record<'a>], name: &[u8]) -> Vec<&'r Recor
         }
         place = &place[1 + usize::from(place[0])..];
     }
+    set
+}
+
+/// Whether the climb ends after so many names.
+fn is_given_up(looked_at: usize) -> bool {
+    [
+        (Mistake::ClimbEndsAfter3Names, 3),
+        (Mistake::ClimbEndsAfter40Names, 40),
+        (Mistake::ClimbEndsAfter100Names, 100),
+        (Mistake::ClimbEndsAfter126Names, 126),
+    ]
+    .iter()
+    .any(|&(mistake, names)| mistake.is_made() && looked_at == names)
 }
 
 fn is_same(owner: &[u8], name: &[u8]) -> bool {
@@ -107,7 +121,7 @@ pub fn same_up_to_128_octets(one: &[u8], other: &[u8]) -> bool {
     one.len() == other.len() && one[..front].eq_ignore_ascii_case(&other[..front])
 }
 
-/// Labels in small letters, each with a dot behind it.
+/// Labels in lower case, each with a dot behind it.
 fn as_text(name: &[u8]) -> Vec<u8> {
     let mut text = Vec::new();
     let mut rest = name;
@@ -153,9 +167,8 @@ fn standing<'a>(set: &[&Record<'a>], wildcard: bool) -> Standing<'a> {
 
 fn governing_records<'r, 'a>(set: &[&'r Record<'a>], wildcard: bool) -> Vec<&'r Record<'a>> {
     let with_tag = |tags: &[&str]| -> Vec<&'r Record<'a>> {
-        let governs = |record: &&&Record| {
-            tags.iter().any(|tag| record.has_tag(tag)) && !is_absent(record.property.value)
-        };
+        let governs =
+            |record: &&&Record| tags.iter().any(|tag| record.has_tag(tag)) && !record.is_absent();
         set.iter().filter(governs).copied().collect()
     };
     let issuewild = with_tag(&["issuewild"]);
@@ -199,11 +212,38 @@ impl Record<'_> {
     }
 }
 
-fn is_absent(value: &[u8]) -> bool {
-    match read_value(value) {
-        IssueValue::Malformed => Mistake::BadValuesAreAbsent.is_made(),
-        IssueValue::NoName => Mistake::ValuesWithoutNameAreAbsent.is_made(),
-        IssueValue::Name(_) => false,
+impl Record<'_> {
+    /// Whether the record is taken as if it weren't there.
+    fn is_absent(&self) -> bool {
+        match read_value(self.property.value) {
+            IssueValue::Malformed => {
+                Mistake::BadValuesAreAbsent.is_made()
+                    || Mistake::BadValuesOfIssueAreAbsent.is_made() && self.has_tag("issue")
+                    || Mistake::BadValuesOfIssuewildAreAbsent.is_made() && self.has_tag("issuewild")
+            }
+            IssueValue::NoName => Mistake::ValuesWithoutNameAreAbsent.is_made(),
+            IssueValue::Name(name) => match Beyond::of(name) {
+                None => false,
+                Some(Beyond::Label) => Mistake::NamesWithLongLabelsAreAbsent.is_made(),
+                Some(Beyond::Whole) => Mistake::LongNamesAreAbsent.is_made(),
+            },
+        }
+    }
+}
+
+/// Which limit of issuer names a name of the grammar breaks.
+enum Beyond {
+    Label,
+    Whole,
+}
+
+impl Beyond {
+    fn of(name: &[u8]) -> Option<Beyond> {
+        if name.len() > ISSUER_OCTETS {
+            Some(Beyond::Whole)
+        } else {
+            read_issuer(name).is_err().then_some(Beyond::Label)
+        }
     }
 }
 
@@ -226,6 +266,16 @@ fn grantee(value: &[u8]) -> Option<&[u8]> {
             }
         }
     };
-    let grants = read_issuer(name).is_ok() || Mistake::NamesBeyondTheLimitsAreListed.is_made();
-    grants.then_some(name)
+    match Beyond::of(name) {
+        None => Some(name),
+        Some(Beyond::Label) if Mistake::NamesWithLongLabelsAreListed.is_made() => Some(name),
+        Some(Beyond::Label) if Mistake::NamesWithLongLabelsGrantTheirFront.is_made() => {
+            Some(&name[..LABEL_OCTETS])
+        }
+        Some(Beyond::Whole) if Mistake::LongNamesAreListed.is_made() => Some(name),
+        Some(Beyond::Whole) if Mistake::LongNamesGrantTheirFront.is_made() => {
+            Some(&name[..ISSUER_OCTETS])
+        }
+        Some(_) => None,
+    }
 }

@@ -1,4 +1,4 @@
--- `main` is safe and ends: what it lends on is a front of each buffer.
+-- `main` is memory-safe and terminates: the slices that it passes on are prefixes of its buffers.
 use borrow.Author.Needs.{needs}
 use Rattle.desk.proofs.Taking.{line-within, line-front}
 use Rattle.desk.proofs.main.Statement.{statement}

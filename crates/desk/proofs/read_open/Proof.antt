@@ -1,4 +1,4 @@
--- `read_open` meets its contract. The loop's invariant: what was read is a front of the buffer.
+-- `read_open` meets its contract. The loop's invariant: the octets read are a prefix of the buffer.
 use Prim.Native.Nat.{_≤_, _-_}
 use mathlib.Core.Path.{_≡_}
 use lib.ListN.{length}

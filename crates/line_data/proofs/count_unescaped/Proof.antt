@@ -1,4 +1,4 @@
--- `count_unescaped` meets its contract. The loop's invariant: the count so far and the units left give the answer.
+-- `count_unescaped` meets its contract. The loop's invariant: the count so far and the remaining written octets give the result.
 use Prim.Native.Nat.{_-_}
 use lib.ListN.{length}
 use borrow.Author.Needs.{needs}

@@ -1,4 +1,4 @@
--- `put_unescaped` meets its contract. The loop's invariant: the octets put and those of the units left are the whole value.
+-- `put_unescaped` meets its contract. The loop's invariant: the octets written, and those of the remaining written octets, are the value.
 use Prim.Native.Nat.{_-_}
 use lib.ListN.{length}
 use borrow.Author.Needs.{needs}

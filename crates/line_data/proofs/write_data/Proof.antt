@@ -1,4 +1,4 @@
--- `write_data` meets its contract: a law of writeData for each way out.
+-- `write_data` meets its contract: a law of writeData for each return.
 use borrow.Author.Needs.{needs}
 use Rattle.spec_refusal.specs.declared.Refusal.the-variants.{NoRoom, BadLine, LineTooLong}
 use Rattle.spec_line.specs.declared.LineAnswer.the-variants.{Length}

@@ -1,4 +1,4 @@
--- `field_end` meets its contract. The loop's invariant: the field ends where what is left of it ends.
+-- `field_end` meets its contract. The loop's invariant: the field ends where the rest of it, from offset e on, ends.
 use Prim.Native.Nat.{_-_}
 use mathlib.Core.Path.{_≡_}
 use lib.ListN.{length}

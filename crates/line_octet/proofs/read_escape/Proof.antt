@@ -1,4 +1,4 @@
--- `read_escape` meets its contract: a law of escapeAt for each way out.
+-- `read_escape` meets its contract: a law of escapeAt for each return.
 use borrow.Author.Needs.{needs}
 use Rattle.line_octet.proofs.UnitPlaces.{escape-cut-off, three-cut-off, no-number, number-there, below-32, above-126, quoted-there}
 use Rattle.line_octet.proofs.read_escape.Statement.{statement}

@@ -1,4 +1,4 @@
--- `read_written_octet` meets its contract: a law of writtenOctetAt for each way out.
+-- `read_written_octet` meets its contract: a law of writtenOctetAt for each return.
 use borrow.Author.Needs.{needs}
 use borrow.Author.Tests.{not-true, not-false}
 use Rattle.line_octet.proofs.UnitPlaces.{unit-cut-off, escape-there, wrong-octet, octet-itself}

@@ -1,4 +1,4 @@
--- `stands_for_itself` meets its contract: each arm knows the style.
+-- `stands_for_itself` meets its contract, case by case of the style.
 use borrow.Author.Needs.{needs}
 use Rattle.line_octet.proofs.stands_for_itself.Statement.{statement}
 use Rattle.line_octet.proofs.stands_for_itself.Tie as tie

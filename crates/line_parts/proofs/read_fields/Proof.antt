@@ -1,4 +1,4 @@
--- `read_fields` meets its contract: a law of lineAt for each way out.
+-- `read_fields` meets its contract: a law of lineAt for each return.
 use mathlib.Core.Path.{sym}
 use lib.Seq.{length-take-le}
 use borrow.Author.Needs.{needs}

@@ -1,4 +1,4 @@
--- `read_line_value` meets its contract: a law of lineValueAt for each way out.
+-- `read_line_value` meets its contract: a law of lineValueAt for each return.
 use borrow.Author.Needs.{needs}
 use Rattle.line_parts.proofs.ValuePlaces.{no-value, bare-value, one-quote, open-quote, quoted-value}
 use Rattle.line_parts.proofs.read_line_value.Statement.{statement}

@@ -1,4 +1,4 @@
--- `put_value` meets its contract. The loop's invariant: the octets before the place are put, and there is room for those that are left.
+-- `put_value` meets its contract. The loop's invariant: the octets before offset i are written, and the remaining ones fit.
 use Prim.Native.Nat.{_+_, _≤_, _-_}
 use mathlib.Core.Path.{_≡_}
 use lib.ListN.{drop, length, take}

@@ -1,4 +1,4 @@
--- `value_length` meets its contract. The loop's invariant: the count so far and the length of what is left are the whole length.
+-- `value_length` meets its contract. The loop's invariant: the count so far and the length of the remaining octets are the whole length.
 use Prim.Native.Nat.{_+_, _-_}
 use mathlib.Core.Path.{_≡_}
 use lib.ListN.{length, drop}

@@ -1,4 +1,4 @@
--- `write_property` meets its contract: a law of writeProperty for each way out.
+-- `write_property` meets its contract: a law of writeProperty for each return.
 use borrow.Author.Needs.{needs}
 use Rattle.spec_refusal.specs.declared.Refusal.the-variants.{NoRoom, LineTooLong}
 use Rattle.spec_line.specs.declared.LineAnswer.the-variants.{Length}

@@ -1,4 +1,4 @@
--- `read_line` meets its contract: a law of parseLine for each way out.
+-- `read_line` meets its contract: a law of parseLine for each return.
 use borrow.Author.Needs.{needs}
 use Rattle.spec_refusal.specs.declared.Refusal.the-variants.{BadLine, LineTooLong}
 use Rattle.spec_line.specs.Calls.{refused, parseLine}

@@ -1,4 +1,4 @@
--- `write_line` meets its contract: a law of writeLine for each way out.
+-- `write_line` meets its contract: a law of writeLine for each return.
 use borrow.Author.Needs.{needs}
 use borrow.Author.Tests.{not-true, not-false}
 use Rattle.spec_refusal.specs.declared.Refusal.the-variants.{LineTooLong, BadData}

@@ -1,4 +1,4 @@
--- `name_end` meets its contract. The loop's invariant: what is left from p on gives the answer asked at `at`.
+-- `name_end` meets its contract. The loop's invariant: reading on from offset p gives the result for the name at `at`.
 use Prim.Native.Nat.{_-_}
 use native.Mathlib.Omega.{arith}
 use borrow.Author.Needs.{needs}

@@ -1,4 +1,4 @@
--- `value_parameters::are_parameters` meets its contract. The loop's invariant: the pieces are parameters where those that are left are.
+-- `are_parameters` meets its contract. The loop's invariant: all pieces are parameters exactly when the remaining ones are.
 use Prim.Native.Nat.{_≤_, _-_}
 use Prim.Native.Char.{code}
 use mathlib.Core.Path.{_≡_}

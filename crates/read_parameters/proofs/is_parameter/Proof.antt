@@ -1,4 +1,4 @@
--- `value_parameters::is_parameter` meets its contract.
+-- `is_parameter` meets its contract.
 use mathlib.Core.Path.{sym}
 use lib.Seq.{length-take-le}
 use borrow.Author.Needs.{needs}

@@ -1,4 +1,4 @@
--- `read_property` meets its contract: a law of propertyAt for each way out.
+-- `read_property` meets its contract: a law of propertyAt for each return.
 use native.Mathlib.Omega.{arith}
 use borrow.Author.Needs.{needs}
 use Rattle.read_property.proofs.PropertyPlaces.{data-cut-off, tag-empty, tag-cut-off, property-stands}

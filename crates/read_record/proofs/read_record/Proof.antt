@@ -1,4 +1,4 @@
--- `read_record` meets its contract: a law of recordAt for each way out.
+-- `read_record` meets its contract: a law of recordAt for each return.
 use borrow.Author.Needs.{needs}
 use Rattle.read_name.proofs.PlaceLaws.{end-inside}
 use Rattle.read_record.proofs.RecordWays.{owner-fault, fields-cut-off, data-cut-off, wrong-data, record-read}

@@ -1,4 +1,4 @@
--- `are_host_labels` meets its contract. The loop's invariant: the labels left give the answer of the whole name.
+-- `are_host_labels` meets its contract. The loop's invariant: the remaining labels give the result for the whole name.
 use Prim.Native.Nat.{_-_}
 use mathlib.Core.Path.{_≡_}
 use lib.ListN.{length}

@@ -1,4 +1,4 @@
--- `check_request` meets its contract. The loop's invariant: with k names read, what is left from `at` on gives the answer.
+-- `check_request` meets its contract. The loop's invariant: with k names read, reading on from offset `at` gives the result.
 use Prim.Native.Nat.{_-_}
 use lib.ListN.{length}
 use borrow.Author.Needs.{needs}

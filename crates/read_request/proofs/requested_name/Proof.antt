@@ -1,4 +1,4 @@
--- `requested_name` meets its contract. Where X begins depends on the way the code came.
+-- `requested_name` meets its contract. The offset of X depends on whether the name is a wildcard.
 use native.Mathlib.Nat.{le-of-lt}
 use mathlib.Core.Path.{refl}
 use mathlib.Core.Logic.{⊎-elim}

@@ -1,4 +1,4 @@
--- `value_reader::read_name` meets its contract.
+-- `read_name` meets its contract.
 use borrow.Author.Needs.{needs}
 use Rattle.read_value.proofs.NamePlaces.{name-shorter, name-missing, name-bad, name-good}
 use Rattle.read_value.proofs.read_name.Statement.{statement}

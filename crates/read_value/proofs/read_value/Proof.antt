@@ -1,4 +1,4 @@
--- `value_reader::read_value` meets its contract: after the test of the parameters, control came by way of it or without a semicolon.
+-- `read_value` meets its contract, with a semicolon (the parameters were tested) and without one.
 use mathlib.Core.Path.{sym}
 use mathlib.Core.Logic.{⊎-elim}
 use lib.Seq.{length-take-le}

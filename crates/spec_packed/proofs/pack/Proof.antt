@@ -1,4 +1,4 @@
--- The sum is the definition, and it fits.
+-- `pack` meets its contract: the sum is that of the definition, and it fits 64 bits.
 use borrow.Author.Needs.{needs}
 use Rattle.spec_packed.specs.Packed.{packed}
 use Rattle.spec_packed.proofs.pack.Statement.{statement}

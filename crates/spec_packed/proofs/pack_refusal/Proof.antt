@@ -1,4 +1,4 @@
--- By the numbers and places of refusals.
+-- `pack_refusal` meets its contract, by the numbers and places of refusals.
 use borrow.Author.Needs.{needs}
 use Rattle.spec_packed.proofs.Packs.{refusal-packed}
 use Rattle.spec_packed.proofs.pack_refusal.Statement.{statement}

@@ -1,4 +1,4 @@
--- By cases of the judgement.
+-- `caa_judge` meets its contract, case by case of the judgement.
 use borrow.Author.Needs.{needs}
 use Rattle.splinepearl.proofs.PackedAnswers.{permitted-packed, critical-packed, not-granted-packed, refused-packed}
 use Rattle.splinepearl.proofs.caa_judge.Statement.{statement}

@@ -1,4 +1,4 @@
--- By cases of the answer.
+-- `caa_permitted_issuers` meets its contract, case by case of the answer.
 use borrow.Author.Needs.{needs}
 use Rattle.splinepearl.proofs.ListAnswers.{anyone-packed, list-packed, list-refusal-packed}
 use Rattle.splinepearl.proofs.caa_permitted_issuers.Statement.{statement}

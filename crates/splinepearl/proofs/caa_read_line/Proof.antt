@@ -1,4 +1,4 @@
--- The call's answer, packed.
+-- `caa_read_line` meets its contract: the answer of read_line, packed.
 use borrow.Author.Needs.{needs}
 use Rattle.splinepearl.proofs.LineAnswers.{made-told}
 use Rattle.splinepearl.proofs.caa_read_line.Statement.{statement}

@@ -1,4 +1,4 @@
--- The call's answer, packed.
+-- `caa_write_line` meets its contract: the answer of write_line, packed.
 use borrow.Author.Needs.{needs}
 use Rattle.splinepearl.proofs.LineAnswers.{made-told}
 use Rattle.splinepearl.proofs.caa_write_line.Statement.{statement}

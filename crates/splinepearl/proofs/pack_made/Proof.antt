@@ -1,4 +1,4 @@
--- By cases of what was made.
+-- `pack_made` meets its contract, case by case of the answer.
 use borrow.Author.Needs.{needs}
 use Rattle.splinepearl.proofs.LineAnswers.{length-packed, refusal-packed}
 use Rattle.splinepearl.proofs.pack_made.Statement.{statement}

@@ -1,4 +1,4 @@
--- By cases of the number.
+-- `readers_answer` meets its contract, case by case of the number.
 use borrow.Author.Needs.{needs}
 use Rattle.spec_octets.proofs.Tests.{tests}
 use Rattle.test_readers.specs.Answers.{readerAnswer}

@@ -1,4 +1,4 @@
--- By the tests of the call's number.
+-- `answer` meets its contract, by the tests on the call's number.
 use Rattle.test_runs.specs.Answers.{answerOf, bufferAfter}
 use Rattle.spec_octets.proofs.Tests.{tests}
 use borrow.Author.Needs.{needs}

@@ -1,4 +1,4 @@
--- `checksum` ends, and its sum stays below 2 to the 32.
+-- `checksum` terminates, and its sum stays below 2 ^ 32.
 use Prim.Native.Nat.{_-_, _<_}
 use lib.ListN.{length}
 use borrow.Author.Needs.{needs}

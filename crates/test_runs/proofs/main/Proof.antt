@@ -1,4 +1,4 @@
--- `main` is safe and ends.
+-- `main` is memory-safe and terminates.
 use Prim.Native.Nat.{_-_, _≤_}
 use borrow.Author.Needs.{needs}
 use Rattle.test_runs.proofs.main.Statement.{statement}

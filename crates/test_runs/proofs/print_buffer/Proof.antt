@@ -1,4 +1,4 @@
--- `print_buffer` ends.
+-- `print_buffer` terminates.
 use Prim.Native.Nat.{_-_, _≤_}
 use lib.ListN.{length}
 use borrow.Author.Needs.{needs}

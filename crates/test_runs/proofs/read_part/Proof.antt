@@ -1,4 +1,4 @@
--- What was read is a front of the buffer.
+-- The octets read are a prefix of the buffer.
 use Rattle.io.proofs.Counting.{front, counts}
 use borrow.Author.Needs.{needs}
 use Rattle.test_runs.proofs.read_part.Statement.{statement}

@@ -1,4 +1,4 @@
--- What `run_with_room` lends on is a front of its buffer.
+-- The slice that `run_with_room` passes on is a prefix of its buffer.
 use Rattle.io.proofs.Counting.{front}
 use borrow.Author.Needs.{needs}
 use Rattle.test_runs.proofs.run_with_room.Statement.{statement}

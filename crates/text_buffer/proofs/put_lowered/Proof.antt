@@ -1,4 +1,4 @@
--- `put_lowered` meets its contract. The loop's invariant: the octets before the place are put, in small letters.
+-- `put_lowered` meets its contract. The loop's invariant: the octets before offset i are written in lower case.
 use Prim.Native.Nat.{_≤_, _-_}
 use mathlib.Core.Path.{_≡_}
 use lib.ListN.{length, take}

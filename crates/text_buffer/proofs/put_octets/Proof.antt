@@ -1,4 +1,4 @@
--- `put_octets` meets its contract. The loop's invariant: the octets before the place are put.
+-- `put_octets` meets its contract. The loop's invariant: the octets before offset i are written.
 use Prim.Native.Nat.{_≤_, _-_}
 use mathlib.Core.Path.{_≡_}
 use lib.ListN.{length, take}

@@ -1,4 +1,4 @@
--- `text_classes::all_of` meets its contract. The loop's invariant: the octets left are all of the class where all are.
+-- `text_classes::all_of` meets its contract. The loop's invariant: all octets are in the class exactly when the remaining ones are.
 use Prim.Native.Nat.{_-_}
 use mathlib.Core.Path.{_≡_, sym}
 use lib.ListN.{length, drop}

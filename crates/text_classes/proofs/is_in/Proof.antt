@@ -1,4 +1,4 @@
--- `text_classes::is_in` meets its contract: each arm knows the class, and what it calls answers for that class.
+-- `text_classes::is_in` meets its contract, case by case of the class.
 use borrow.Author.Needs.{needs}
 use Rattle.text_classes.proofs.is_in.Statement.{statement}
 use Rattle.text_classes.proofs.is_in.Tie as tie

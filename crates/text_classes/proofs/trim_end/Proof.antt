@@ -1,4 +1,4 @@
--- `text_classes::trim_end` meets its contract. The loop's invariant: what is left is the same without the blanks at its end.
+-- `text_classes::trim_end` meets its contract. The loop's invariant: trimming what is left gives the same as trimming s.
 use native.Mathlib.Nat.{sub-le}
 use mathlib.Core.Path.{_≡_, sym}
 use lib.ListN.{length}

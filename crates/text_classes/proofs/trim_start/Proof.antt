@@ -1,4 +1,4 @@
--- `text_classes::trim_start` meets its contract. The loop's invariant: what is left is the same without the blanks at its front.
+-- `text_classes::trim_start` meets its contract. The loop's invariant: trimming what is left gives the same as trimming s.
 use mathlib.Core.Path.{_≡_}
 use lib.ListN.{length}
 use borrow.Author.Needs.{needs}

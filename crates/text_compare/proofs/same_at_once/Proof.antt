@@ -1,4 +1,5 @@
--- `same_at_once` meets its contract. The loop's invariant: what was found of the octets passed, and what is left of the texts, give the answer.
+-- `same_at_once` meets its contract. The loop's invariant: the texts are the same exactly when `same` is true and the remaining octets are
+-- the same.
 use Prim.Native.Nat.{_-_}
 use mathlib.Core.Bool.{_&&_}
 use mathlib.Core.Path.{_≡_}

@@ -1,4 +1,4 @@
--- `same_blocks` meets its contract. The loop's invariant: what is left of the texts is the same where they are.
+-- `same_blocks` meets its contract. The loop's invariant: the texts are the same exactly when the remaining octets are.
 use Prim.Native.Nat.{_-_}
 use mathlib.Core.Path.{_≡_}
 use lib.ListN.{length, drop}

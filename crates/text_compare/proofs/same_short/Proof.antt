@@ -1,4 +1,4 @@
--- `same_short` meets its contract. The loop's invariant: what was compared, from the place to the end, is the same.
+-- `same_short` meets its contract. The loop's invariant: the octets compared so far, from `left` to the end, are the same.
 use Prim.Native.Nat.{_≤_}
 use mathlib.Core.Path.{_≡_}
 use mathlib.Core.Bool.{true}

@@ -1,4 +1,4 @@
--- The proof of the cycle of calls {put_digits}: it meets its contract. The measure is the number, which its tens are less than.
+-- The proof for the recursive function put_digits: it meets its contract. The recursion ends because n / 10 is less than n.
 use borrow.Author.Needs.{needs}
 use Prim.Native.Nat.{ℕ, _<_}
 use borrow.Fn.Kinds.{In}

@@ -1,4 +1,4 @@
--- `decimal_length` meets its contract. The loop's invariant: the digits counted and those of what is left are one more than the number's.
+-- `decimal_length` meets its contract. The loop's invariant: `count` and the digits of `left` together are one more than the digits of n.
 use Prim.Native.Nat.{_+_}
 use mathlib.Core.Path.{_≡_}
 use borrow.Author.Needs.{needs}

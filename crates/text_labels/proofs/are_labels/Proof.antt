@@ -1,4 +1,4 @@
--- `are_labels` meets its contract. The loop's invariant: the labels are good where those that are left are.
+-- `are_labels` meets its contract. The loop's invariant: all labels are valid exactly when the remaining ones are.
 use Prim.Native.Nat.{_≤_, _-_}
 use Prim.Native.Char.{code}
 use mathlib.Core.Path.{_≡_, sym}

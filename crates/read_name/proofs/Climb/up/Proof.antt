@@ -1,4 +1,4 @@
--- `Climb::up` meets its contract: a law of parentPlace for each way out.
+-- `Climb::up` meets its contract: a law of parentPlace for each return.
 use native.Mathlib.Omega.{arith}
 use borrow.Author.Needs.{needs}
 use Rattle.read_name.proofs.Parents.{past-end, at-root, cut-off, one-off}

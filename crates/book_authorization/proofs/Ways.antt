@@ -1,0 +1,54 @@
+-- by_issue, by_tags and name_authorization: a law for each way out, from what the set was asked.
+use Prim.Native.Nat.{ℕ}
+use mathlib.Core.Path.{_≡_, _∙_}
+use mathlib.Core.Bool.{Bool, true, false}
+use mathlib.Core.List.{List}
+use Rattle.spec_refusal.specs.declared.RecordNo.{RecordNo}
+use Rattle.spec_record.specs.declared.PropertyTag.the-variants.{Issue, IssueWild}
+use Rattle.book_places.specs.declared.FirstRecord.{FirstRecord}
+use Rattle.book_places.specs.declared.FirstRecord.the-variants.{At, Nothing}
+use Rattle.book_places.specs.declared.NameAuthorization.{NameAuthorization}
+use Rattle.book_places.specs.declared.NameAuthorization.the-variants.{Unrestricted, Forbidden, Governed}
+use Rattle.book_places.specs.Sets.{nearestRecord, firstUnknownCritical, firstTagged}
+use Rattle.book_places.specs.NameAuthorizations.{byIssue, byTags, nameAuthorization}
+
+module _ (book table links : List ℕ) where
+  module _ (set : RecordNo) where
+    -- o is the first issue record
+    module _ (o : FirstRecord) (f : o ≡ firstTagged Issue book table links (set .0)) where
+      pub no-issue : o ≡ Nothing → Unrestricted ≡ byIssue book table links set
+      no-issue g = rw (← f, g)
+
+      pub issue-governs : (r : RecordNo) → o ≡ At r → Governed (record { set = set; first = r; tag = Issue }) ≡ byIssue book table links set
+      issue-governs r g = rw (← f, g)
+
+    -- a is what the issue records say
+    module _ (wildcard : Bool) (a : NameAuthorization) (h : a ≡ byIssue book table links set) where
+      pub plain-by-issue : wildcard ≡ false → a ≡ byTags book table links wildcard set
+      plain-by-issue w = h ∙ rw w
+
+      pub star-by-issue :
+          wildcard ≡ true → (o : FirstRecord) → o ≡ firstTagged IssueWild book table links (set .0) → o ≡ Nothing →
+          a ≡ byTags book table links wildcard set
+      star-by-issue w o f g = h ∙ rw (w, ← f, g)
+
+    pub issuewild-governs :
+        (wildcard : Bool) → wildcard ≡ true → (o : FirstRecord) → o ≡ firstTagged IssueWild book table links (set .0) → (r : RecordNo) → o ≡ At r →
+        Governed (record { set = set; first = r; tag = IssueWild }) ≡ byTags book table links wildcard set
+    issuewild-governs wildcard w o f r g = rw (w, ← f, g)
+
+  -- o is the first record of the relevant set
+  module _ (heads x : List ℕ) (wildcard : Bool) (o : FirstRecord) (f : o ≡ nearestRecord book table links heads x) where
+    pub nothing-relevant : o ≡ Nothing → Unrestricted ≡ nameAuthorization book table links heads x wildcard
+    unfolding nameAuthorization
+    nothing-relevant g = rw (← f, g)
+
+    module _ (set : RecordNo) (g : o ≡ At set) (u : FirstRecord) (e : u ≡ firstUnknownCritical book table links (set .0)) where
+      pub critical-forbids : (r : RecordNo) → u ≡ At r → Forbidden r ≡ nameAuthorization book table links heads x wildcard
+      unfolding nameAuthorization
+      critical-forbids r h = rw (← f, g, ← e, h)
+
+      pub tags-decide :
+          u ≡ Nothing → (a : NameAuthorization) → a ≡ byTags book table links wildcard set → a ≡ nameAuthorization book table links heads x wildcard
+      unfolding nameAuthorization
+      tags-decide h a k = k ∙ rw (← f, g, ← e, h)

@@ -1,0 +1,62 @@
+// What CAA says of one requested name: which records govern it, if any do.
+use book_places::FirstRecord;
+use book_places::Governing;
+use book_places::NameAuthorization;
+use spec_record::PropertyTag;
+use spec_refusal::RecordNo;
+ghost use mathlib.Core.Path.{_≡_};
+ghost use Rattle.book_places.specs.NameAuthorizations.{byIssue, byTags, nameAuthorization};
+
+// The issue records of a set govern, if there are any.
+fn by_issue(book: &[u8], table: &[u16], links: &[u16], set: RecordNo) -> NameAuthorization
+    ensures { λ r. ⌜ r ≡ byIssue (now (book .entry)) (now (table .entry)) (now (links .entry)) set ⌝ }
+{
+    let from = set.0;
+    let tag = PropertyTag::Issue;
+    let FirstRecord::At(r) = book_set::first_with_tag(book, table, links, from, tag) else {
+        return NameAuthorization::Unrestricted;
+    };
+    NameAuthorization::Governed(Governing { set, first: r, tag })
+}
+
+// For *.X the issuewild records govern if there are any, else the issue records.
+fn by_tags(
+    book: &[u8],
+    table: &[u16],
+    links: &[u16],
+    set: RecordNo,
+    wildcard: bool,
+) -> NameAuthorization
+    ensures { λ r. ⌜ r ≡ byTags (now (book .entry)) (now (table .entry)) (now (links .entry)) wildcard set ⌝ }
+{
+    if !wildcard {
+        return by_issue(book, table, links, set);
+    }
+    let from = set.0;
+    let tag = PropertyTag::IssueWild;
+    let FirstRecord::At(first) = book_set::first_with_tag(book, table, links, from, tag) else {
+        return by_issue(book, table, links, set);
+    };
+    NameAuthorization::Governed(Governing { set, first, tag })
+}
+
+// Of the name X, in wire form, or of *.X: an unknown critical record of its relevant set comes before all else.
+pub fn name_authorization(
+    book: &[u8],
+    table: &[u16],
+    links: &[u16],
+    heads: &[u16],
+    name: &[u8],
+    wildcard: bool,
+) -> NameAuthorization
+    ensures { λ r. ⌜ r ≡ nameAuthorization (now (book .entry)) (now (table .entry)) (now (links .entry)) (now (heads .entry)) (now (name .entry)) wildcard ⌝ }
+{
+    let FirstRecord::At(set) = book_climb::nearest_record(book, table, links, heads, name) else {
+        return NameAuthorization::Unrestricted;
+    };
+    let from = set.0;
+    if let FirstRecord::At(r) = book_set::first_unknown_critical(book, table, links, from) {
+        return NameAuthorization::Forbidden(r);
+    }
+    by_tags(book, table, links, set, wildcard)
+}

@@ -1,0 +1,23 @@
+-- `put_number` meets its contract.
+use borrow.Author.Needs.{needs}
+use Rattle.book_chains.proofs.Linking.{no-place}
+use Rattle.book_chains.proofs.put_number.Statement.{statement}
+use Rattle.book_chains.proofs.put_number.Tie as tie
+
+mul-xs : tie.Need-mul-xs
+mul-xs c = search needs
+
+slice-write-xs : tie.Need-slice-write-xs
+slice-write-xs c = search needs
+
+same-length : tie.Need-same-length
+same-length c = search needs
+
+returns : tie.Need-returns
+returns c = search needs
+
+returns-2 : tie.Need-returns-2
+returns-2 c = search (needs, no-place)
+
+pub put-number-spec : {M : Type 1} → statement M
+put-number-spec = tie.close (tie.spec mul-xs slice-write-xs same-length returns returns-2)

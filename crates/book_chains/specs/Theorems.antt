@@ -1,0 +1,16 @@
+-- What `link` makes of a book. The statement is proved under its name in proofs/.
+use Prim.Native.Nat.{ℕ}
+use mathlib.Core.Path.{_≡_}
+use mathlib.Core.List.{List}
+use lib.ListN.{length, replicate}
+use Rattle.spec_limits.specs.Limits.{maxRecords}
+use Rattle.book_places.specs.Table.{tabled, tableOf}
+use Rattle.book_places.specs.Chains.{atMost, linkedBelow, chainsOf}
+
+-- from a book's table and its number of rows, into arrays that hold the limit of records everywhere, it makes the chains of the book
+abbrev pub Book-linked : Type 0
+Book-linked =
+    (book : List ℕ) →
+    linkedBelow book (tableOf book) (atMost maxRecords (length (tabled book)))
+    (record { links = replicate maxRecords maxRecords; heads = replicate maxRecords maxRecords })
+    ≡ chainsOf book

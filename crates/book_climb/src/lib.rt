@@ -1,0 +1,31 @@
+// The climb: the nearest name, from a name up, that owns CAA records, told by the first of them.
+use book_places::FirstRecord;
+use read_name::Climb;
+ghost use mathlib.Core.Path.{_≡_};
+ghost use Rattle.book_places.specs.Sets.{nearestRecord};
+
+// A look at each name on the way from X up to the root, which is never looked at.
+pub fn nearest_record(
+    book: &[u8],
+    table: &[u16],
+    links: &[u16],
+    heads: &[u16],
+    name: &[u8],
+) -> FirstRecord
+    ensures { λ r. ⌜ r ≡ nearestRecord (now (book .entry)) (now (table .entry)) (now (links .entry)) (now (heads .entry)) (now (name .entry)) ⌝ }
+{
+    let mut c = Climb { at: 0 };
+    loop {
+        let at = c.at;
+        let up = c.up(name);
+        let parent = up.at;
+        if parent == at {
+            return FirstRecord::Nothing;
+        }
+        let x = &name[at..];
+        if let FirstRecord::At(r) = book_look::first_owned(book, table, links, heads, x) {
+            return FirstRecord::At(r);
+        }
+        c = up;
+    }
+}

@@ -1,2 +1,0 @@
-pub mod FirstCritical
-pub mod CriticalWalk

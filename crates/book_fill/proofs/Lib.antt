@@ -1,0 +1,3 @@
+pub mod RowStores
+pub mod RowLaws
+pub mod Filling

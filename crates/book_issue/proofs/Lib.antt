@@ -1,2 +1,0 @@
-pub mod FirstTagged
-pub mod GrantWalk

@@ -1,0 +1,46 @@
+// A look at a name: the CAA records with this owner, along the chain of its key.
+use book_places::FirstRecord;
+use spec_refusal::RecordNo;
+ghost use mathlib.Core.Path.{_≡_};
+ghost use Rattle.book_places.specs.Sets.{isOwned, ownedFrom, firstOf, firstOwned};
+
+// Whether record i is a CAA record with the owner x.
+fn is_owned(book: &[u8], table: &[u16], x: &[u8], i: usize) -> bool
+    ensures { λ r. ⌜ r ≡ isOwned (now (book .entry)) (now (table .entry)) (now (x .entry)) i ⌝ }
+{
+    if !book_table::is_caa_at(table, i) {
+        return false;
+    }
+    text_compare::same_ignoring_case(book_table::owner_at(book, table, i), x)
+}
+
+// The first CAA record with the owner x along a chain from a record on.
+pub fn next_owned(book: &[u8], table: &[u16], links: &[u16], x: &[u8], from: usize) -> FirstRecord
+    ensures { λ r. ⌜ r ≡ firstOf (ownedFrom (now (book .entry)) (now (table .entry)) (now (links .entry)) (now (x .entry)) from) ⌝ }
+{
+    let mut i: usize = from;
+    while i < links.len() {
+        if is_owned(book, table, x, i) {
+            return FirstRecord::At(RecordNo(i));
+        }
+        i = book_chains::behind(links, i);
+    }
+    FirstRecord::Nothing
+}
+
+// The first CAA record with the owner x. A key without a chain has none.
+pub fn first_owned(
+    book: &[u8],
+    table: &[u16],
+    links: &[u16],
+    heads: &[u16],
+    x: &[u8],
+) -> FirstRecord
+    ensures { λ r. ⌜ r ≡ firstOwned (now (book .entry)) (now (table .entry)) (now (links .entry)) (now (heads .entry)) (now (x .entry)) ⌝ }
+{
+    let key = book_keys::key_of(x);
+    if heads.len() <= key {
+        return FirstRecord::Nothing;
+    }
+    next_owned(book, table, links, x, heads[key] as usize)
+}

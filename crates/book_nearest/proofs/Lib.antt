@@ -1,2 +1,0 @@
-pub mod EndWalk
-pub mod ClimbLaws

@@ -1,0 +1,153 @@
+-- What CAA says of a name by a set that was found means what the rule says of it.
+use Prim.Native.Nat.{ℕ}
+use native.Mathlib.Omega.{arith}
+use mathlib.Core.Path.{_≡_, refl, ap, _∙_}
+use mathlib.Core.Bool.{Bool, true, false, _||_}
+use mathlib.Core.List.{List, [], _∷_}
+use mathlib.Core.Option.{Option, none, some}
+use Rattle.spec_refusal.specs.declared.RecordNo.{RecordNo}
+use Rattle.spec_octets.specs.Lists.{any, consIf, select, All, all-nil, all-cons}
+use Rattle.spec_octets.specs.Octets.{same, lowered}
+use Rattle.spec_octets.proofs.SelectLaws.{selected}
+use Rattle.spec_octets.proofs.SelectedLists.{selects-all}
+use Rattle.spec_record.specs.declared.PropertyTag.{PropertyTag}
+use Rattle.spec_record.specs.declared.PropertyTag.the-variants.{Issue, IssueWild}
+use Rattle.spec_record.specs.Property.{property}
+use Rattle.spec_rule.specs.RelevantSet.{CaaRecord, Lookup, empty, found, relevantSet}
+use Rattle.spec_rule.specs.Authorizations.{Authorization, unrestricted, granted, isUnknownCritical, isIssue, isIssueWild, isGrantee, consSome, orElse, governing, grantees, governedBy as ruleGovernedBy, unlessForbidden, authorizationFrom}
+use Rattle.read_grantee.specs.Places.{granteeOfData}
+use Rattle.read_grantee.proofs.Grantees.{grantee-of-data}
+use Rattle.book_places.specs.declared.FirstRecord.{FirstRecord}
+use Rattle.book_places.specs.declared.FirstRecord.the-variants.{At, Nothing}
+use Rattle.book_places.specs.declared.NameAuthorization.{NameAuthorization}
+use Rattle.book_places.specs.declared.NameAuthorization.the-variants.{Unrestricted}
+use Rattle.book_places.specs.Table.{tableOf, dataAt}
+use Rattle.book_places.specs.Chains.{chainsOf}
+use Rattle.book_places.specs.Sets.{setAt, dataHasTag, dataIsUnknownCritical, dataGrants, inSet, firstUnknownCritical, firstTagged, setGrants}
+use Rattle.book_places.specs.NameAuthorizations.{governedBy, byIssue, byTags, unlessCritical, bySet, nameAuthorization, granteesAt, setGrantees, meaning}
+use Rattle.book_places.specs.Theorems.{recordsIn, numbersOf, firstNumber, Finds, Authorization-by-offset, Set-grants}
+use Rattle.book_places.proofs.LookLaws.{Holds, first-numbers, caas, caas-hold}
+use Rattle.book_places.proofs.ClimbLaws.{climb-by-offset, relevant-have}
+
+-- the test q says of data what p says of a record that holds it
+abbrev Tells : (List ℕ → Bool) → (CaaRecord → Bool) → Type 0
+Tells q p = (d : List ℕ) (c : CaaRecord) → property d ≡ some (c .property) → q d ≡ p c
+
+tells-critical : Tells dataIsUnknownCritical isUnknownCritical
+unfolding dataIsUnknownCritical isUnknownCritical
+tells-critical d c e = rw e
+
+tells-issue : Tells (dataHasTag Issue) isIssue
+unfolding dataHasTag
+tells-issue d c e = rw e
+
+tells-issuewild : Tells (dataHasTag IssueWild) isIssueWild
+unfolding dataHasTag
+tells-issuewild d c e = rw e
+
+module _ (book table links : List ℕ) where
+  -- the records that pass, by their numbers and by the rule
+  select-numbers :
+      (q : List ℕ → Bool) (p : CaaRecord → Bool) → Tells q p → (cs : List CaaRecord) → All (Holds book table) cs →
+      select (λ i. q (dataAt book table i)) (numbersOf cs) ≡ numbersOf (select p cs)
+  select-numbers q p tells [] all-nil = refl
+  select-numbers q p tells (c ∷ cs) (all-cons h hs) =
+      rw (tells (dataAt book table (c .number)) c h, select-numbers q p tells cs hs) (kept (p c))
+    where
+      kept : (t : Bool) → consIf t (c .number) (numbersOf (select p cs)) ≡ numbersOf (consIf t c (select p cs))
+      kept true = refl
+      kept false = refl
+
+  grantees-told : (cs : List CaaRecord) → All (Holds book table) cs → granteesAt book table links (numbersOf cs) ≡ grantees cs
+  grantees-told [] all-nil = refl
+  grantees-told (c ∷ cs) (all-cons h hs) = rw (grantee-of-data (dataAt book table (c .number)) .0 c h, grantees-told cs hs)
+
+  -- the set cs that is named by its first record
+  module _ (first : RecordNo) (cs : List CaaRecord) (set : setAt book table links (first .0) ≡ numbersOf cs) (all : All (Holds book table) cs) where
+    in-set : (q : List ℕ → Bool) (p : CaaRecord → Bool) → Tells q p → inSet q book table links (first .0) ≡ numbersOf (select p cs)
+    in-set q p tells = rw set (select-numbers q p tells cs all)
+
+    selected-hold : (p : CaaRecord → Bool) → All (Holds book table) (select p cs)
+    selected-hold p = selects-all (selected p (λ c. (λ e. e, λ e. e)) cs) all
+
+    module _ (tag : PropertyTag) (p : CaaRecord → Bool) (tells : Tells (dataHasTag tag) p) where
+      first-tagged : firstTagged tag book table links (first .0) ≡ firstNumber (select p cs)
+      unfolding firstTagged
+      first-tagged = rw (in-set (dataHasTag tag) p tells) (first-numbers (select p cs))
+
+      tag-grantees : setGrantees book table links tag (first .0) ≡ grantees (select p cs)
+      unfolding setGrantees
+      tag-grantees = rw (in-set (dataHasTag tag) p tells) (grantees-told (select p cs) (selected-hold p))
+
+    first-critical : firstUnknownCritical book table links (first .0) ≡ firstNumber (select isUnknownCritical cs)
+    unfolding firstUnknownCritical
+    first-critical = rw (in-set dataIsUnknownCritical isUnknownCritical tells-critical) (first-numbers (select isUnknownCritical cs))
+
+    -- records with the tag govern if there are any
+    governs :
+        (tag : PropertyTag) (gs others : List CaaRecord) (otherwise : NameAuthorization) → setGrantees book table links tag (first .0) ≡ grantees gs →
+        meaning book table links otherwise ≡ ruleGovernedBy others →
+        meaning book table links (governedBy book table links first tag (firstNumber gs) otherwise) ≡ ruleGovernedBy (orElse gs others)
+    governs tag [] others otherwise e f = f
+    governs tag (g ∷ gs) others otherwise e f = ap (granted (g .number)) e
+
+    or-nothing : (gs : List CaaRecord) → orElse gs [] ≡ gs
+    or-nothing [] = refl
+    or-nothing (g ∷ gs) = refl
+
+    by-issue : meaning book table links (byIssue book table links first) ≡ ruleGovernedBy (select isIssue cs)
+    by-issue =
+        rw (first-tagged Issue isIssue tells-issue)
+        (governs Issue (select isIssue cs) [] Unrestricted (tag-grantees Issue isIssue tells-issue) refl ∙ ap ruleGovernedBy (or-nothing (select isIssue cs)))
+
+    by-tags : (wildcard : Bool) → meaning book table links (byTags book table links wildcard first) ≡ ruleGovernedBy (governing wildcard cs)
+    unfolding governing
+    by-tags false = by-issue
+    by-tags true =
+        rw (first-tagged IssueWild isIssueWild tells-issuewild)
+        (governs IssueWild (select isIssueWild cs) (select isIssue cs) (byIssue book table links first) (tag-grantees IssueWild isIssueWild tells-issuewild) by-issue)
+
+    unless-critical :
+        (us : List CaaRecord) (n : NameAuthorization) (a : Authorization) → meaning book table links n ≡ a →
+        meaning book table links (unlessCritical book table links (firstNumber us) n) ≡ unlessForbidden us a
+    unless-critical [] n a e = e
+    unless-critical (u ∷ us) n a e = refl
+
+    by-set : (wildcard : Bool) → meaning book table links (bySet book table links wildcard (At first)) ≡ authorizationFrom wildcard (found cs)
+    by-set wildcard = rw first-critical (unless-critical (select isUnknownCritical cs) _ _ (by-tags wildcard))
+
+  nothing-governs : (wildcard : Bool) → unrestricted ≡ authorizationFrom wildcard (found [])
+  unfolding governing
+  nothing-governs true = refl
+  nothing-governs false = refl
+
+  found-means :
+      (wildcard : Bool) (l : Lookup) (o : FirstRecord) → Finds book table links l o → All (Holds book table) (recordsIn l) →
+      meaning book table links (bySet book table links wildcard o) ≡ authorizationFrom wildcard l
+  found-means wildcard empty Nothing f all = refl
+  found-means wildcard empty (At r) f all = let e = f .first in let z : _≡_ {A = ℕ} 0 1 = cc in absurd (omega arith)
+  found-means wildcard (found []) Nothing f all = nothing-governs wildcard
+  found-means wildcard (found (c ∷ cs)) Nothing f all = let e = f .first in let z : _≡_ {A = ℕ} 0 1 = cc in absurd (omega arith)
+  found-means wildcard (found cs) (At r) f all = by-set r cs (f .whole r refl) all wildcard
+
+  -- whom records grant, one by one and together
+  any-grantees :
+      (d is : List ℕ) → any (λ i. isGrantee d (granteeOfData (dataAt book table i))) is ≡ any (same d) (granteesAt book table links is)
+  any-grantees d [] = refl
+  any-grantees d (i ∷ is) = one (granteeOfData (dataAt book table i)) (any-grantees d is)
+    where
+      one :
+          (o : Option (List ℕ)) → any (λ i. isGrantee d (granteeOfData (dataAt book table i))) is ≡ any (same d) (granteesAt book table links is) →
+          isGrantee d o || any (λ i. isGrantee d (granteeOfData (dataAt book table i))) is ≡ any (same d) (consSome o (granteesAt book table links is))
+      one none e = e
+      one (some n) e = ap (_||_ (same d n)) e
+
+pub authorization-by-offset : Authorization-by-offset
+unfolding nameAuthorization
+authorization-by-offset book x wildcard accepted good =
+    found-means book (tableOf book) (chainsOf book .links) wildcard (relevantSet (caas book accepted) x) _ (climb-by-offset book x accepted good)
+    (relevant-have (Holds book (tableOf book)) (caas book accepted) (caas-hold book accepted) x)
+
+pub set-grants : Set-grants
+unfolding setGrants setGrantees dataGrants
+set-grants book table links issuer tag first = any-grantees book table links (lowered issuer) (inSet (dataHasTag tag) book table links first)

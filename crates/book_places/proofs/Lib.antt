@@ -1,0 +1,13 @@
+pub mod AcceptedBook
+pub mod ChainLaws
+pub mod KeyLaws
+pub mod StandingRecords
+pub mod TableLaws
+pub mod ChainedRecords
+pub mod SetLaws
+pub mod OwnedWalk
+pub mod LookLaws
+pub mod ClimbLaws
+pub mod AuthorizationLaws
+pub mod Bounds
+pub mod DataTests

@@ -1,0 +1,7 @@
+pub mod Readable
+pub mod Table
+pub mod Keys
+pub mod Chains
+pub mod Sets
+pub mod NameAuthorizations
+pub mod Theorems

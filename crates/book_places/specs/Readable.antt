@@ -1,0 +1,14 @@
+-- The records at the front of some octets, as far as they can be read.
+use Prim.Native.Nat.{ℕ, zero, suc}
+use mathlib.Core.List.{List, [], _∷_}
+use mathlib.Core.Option.{Option, none, some}
+use Rattle.spec_record.specs.Records.{Record, resourceRecord}
+
+-- At most `room` records. Of an accepted book these are all its records.
+abbrev pub before : Option (Record × List ℕ) → (List ℕ → List Record) → List Record
+before none rest = []
+before (some r) rest = r .0 ∷ rest (r .1)
+
+abbrev pub readable : ℕ → List ℕ → List Record
+readable zero s = []
+readable (suc room) s = before (resourceRecord s) (λ rest. readable room rest)

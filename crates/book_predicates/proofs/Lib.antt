@@ -1,3 +1,0 @@
-pub mod DataTests
-pub mod GrantTests
-pub mod TestLaws

@@ -1,4 +1,0 @@
-pub mod Tells
-pub mod AcceptedBook
-pub mod DecidedLaws
-pub mod ByPlace

@@ -1,0 +1,81 @@
+// What the CAA records of a set are asked. A set is named by its first record, and walked along its chain.
+use book_places::FirstRecord;
+use spec_record::PropertyTag;
+ghost use mathlib.Core.Path.{_≡_};
+ghost use Rattle.book_places.specs.Sets.{firstUnknownCritical, firstTagged, setGrants};
+
+// The first record of a set that is critical and has an unknown tag.
+pub fn first_unknown_critical(
+    book: &[u8],
+    table: &[u16],
+    links: &[u16],
+    first: usize,
+) -> FirstRecord
+    ensures { λ r. ⌜ r ≡ firstUnknownCritical (now (book .entry)) (now (table .entry)) (now (links .entry)) first ⌝ }
+{
+    let owner = book_table::owner_at(book, table, first);
+    let mut at: usize = first;
+    let rr = loop {
+        let FirstRecord::At(r) = book_look::next_owned(book, table, links, owner, at) else {
+            return FirstRecord::Nothing;
+        };
+        let i = r.0;
+        at = book_chains::behind(links, i);
+        if book_tests::is_unknown_critical(book_table::data_at(book, table, i)) {
+            break r;
+        }
+    };
+    FirstRecord::At(rr)
+}
+
+// The first record of a set with this tag.
+pub fn first_with_tag(
+    book: &[u8],
+    table: &[u16],
+    links: &[u16],
+    first: usize,
+    tag: PropertyTag,
+) -> FirstRecord
+    ensures { λ r. ⌜ r ≡ firstTagged tag (now (book .entry)) (now (table .entry)) (now (links .entry)) first ⌝ }
+{
+    let owner = book_table::owner_at(book, table, first);
+    let mut at: usize = first;
+    loop {
+        let FirstRecord::At(r) = book_look::next_owned(book, table, links, owner, at) else {
+            return FirstRecord::Nothing;
+        };
+        let i = r.0;
+        at = book_chains::behind(links, i);
+        if book_tests::has_tag(book_table::data_at(book, table, i), tag) {
+            return FirstRecord::At(r);
+        }
+    }
+}
+
+// Whether any record of a set with this tag grants the issuer.
+pub fn any_grants(
+    book: &[u8],
+    table: &[u16],
+    links: &[u16],
+    first: usize,
+    tag: PropertyTag,
+    issuer: &[u8],
+) -> bool
+    ensures { λ r. ⌜ r ≡ setGrants tag (now (issuer .entry)) (now (book .entry)) (now (table .entry)) (now (links .entry)) first ⌝ }
+{
+    let owner = book_table::owner_at(book, table, first);
+    let mut from: usize = first;
+    loop {
+        let FirstRecord::At(r) = book_look::next_owned(book, table, links, owner, from) else {
+            return false;
+        };
+        let i = r.0;
+        from = book_chains::behind(links, i);
+        let d = book_table::data_at(book, table, i);
+        if book_tests::has_tag(d, tag) {
+            if book_tests::grants(d, issuer) {
+                return true;
+            }
+        }
+    }
+}

@@ -1,0 +1,2 @@
+pub mod DataTests
+pub mod GrantTests

@@ -1,2 +1,0 @@
-mod GoverningWays
-pub mod OneName

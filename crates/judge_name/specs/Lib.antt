@@ -1,2 +1,0 @@
-pub mod NameVerdicts
-pub mod Theorems
