@@ -7,7 +7,7 @@ use mathlib.Core.List.{List, [], _∷_}
 use lib.Dec.{eqb}
 use lib.ListN.{length, getD, take, drop, length-take, length-drop, drop-of-length-le, List·getD-map}
 use lib.Seq.{drop-drop}
-use borrow.Author.Tests.{eq-eqb}
+use borrow.Author.Tests.{eqb-false, eq-eqb}
 use Rattle.spec_octets.specs.Octets.{lower, equalIgnoringCase}
 use Rattle.spec_octets.proofs.ListLaws.{not-passed}
 use Rattle.spec_octets.proofs.Texts.{same-text}
@@ -23,6 +23,15 @@ octet-differs a b i x y xe ye ne =
     sym (not-passed (equalIgnoringCase a b) (λ e. ne (
     xe ∙ sym (List·getD-map lower a i 0) ∙ ap (λ s. getD s i (lower 0)) (same-text a b .0 e) ∙ List·getD-map lower b i 0 ∙ sym ye
     )))
+
+-- The octets at an index, whichever it is, and all octets.
+pub octet-and-all : (a b : List ℕ) (i : ℕ) →
+    equalIgnoringCase a b ≡ (eqb (lower (getD a i 0)) (lower (getD b i 0)) && equalIgnoringCase (drop 0 a) (drop 0 b))
+octet-and-all a b i = go (eqb (lower (getD a i 0)) (lower (getD b i 0))) refl
+  where
+    go : (t : Bool) → eqb (lower (getD a i 0)) (lower (getD b i 0)) ≡ t → equalIgnoringCase a b ≡ (t && equalIgnoringCase a b)
+    go true e = refl
+    go false e = sym (octet-differs a b i (lower (getD a i 0)) (lower (getD b i 0)) refl refl (eqb-false _ _ e))
 
 -- Both texts are cut at the same index.
 same-parts : (k : ℕ) (a b : List ℕ) →
@@ -54,9 +63,6 @@ module _ (a b : List ℕ) (i : ℕ) where
   pub part-lengths : (e : ℕ) → length a ≡ length b → length (take (e - i) (drop i a)) ≡ length (take (e - i) (drop i b))
   part-lengths e long = simp (length-take, length-drop) (omega arith)
 
-  pub back-end : equalIgnoringCase (drop i a) (drop i b) ≡ true → i ≤ 0 → true ≡ equalIgnoringCase a b
-  back-end done h = let front : i ≡ 0 = omega arith in sym (rw front at done)
-
   module _ (long : length a ≡ length b) where
     -- The octets at an index, and the octets after them.
     octet-parts : (j : ℕ) → i < length a → j ≡ i + 1 →
@@ -69,16 +75,19 @@ module _ (a b : List ℕ) (i : ℕ) where
     unfolding equalIgnoringCase
     nothing-left h = rw (drop-of-length-le a h, drop-of-length-le b {i = i} (omega arith))
 
-    -- From the last octet to the first: the octets compared so far are the same.
-    pub back-turn : (j x y : ℕ) → equalIgnoringCase (drop j a) (drop j b) ≡ true → j ≤ length a → i ≡ j - 1 → x ≡ lower (getD a i 0) →
-        y ≡ lower (getD b i 0) → x ≡ y → equalIgnoringCase (drop i a) (drop i b) ≡ true
-    back-turn zero x y done within next xe ye e = rw next done
-    back-turn (suc k) x y done within next xe ye e =
-        octet-parts (suc k) (omega arith) (omega arith) ∙ rw (eq-eqb (lower (getD a i 0)) (lower (getD b i 0)) (cc)) done
+    -- Octet by octet: r says whether the octets at k are the same, and those from i on remain to be compared.
+    module _ (k : ℕ) (r : Bool)
+        (left : equalIgnoringCase a b ≡ (eqb (lower (getD a k 0)) (lower (getD b k 0)) && equalIgnoringCase (drop i a) (drop i b)))
+        (told : r ≡ eqb (lower (getD a k 0)) (lower (getD b k 0))) where
+      pub short-stop : r ≡ false → false ≡ equalIgnoringCase a b
+      short-stop off = sym (left ∙ rw (← told, off))
 
-    pub back-octet : (j : ℕ) → equalIgnoringCase (drop j a) (drop j b) ≡ true → j ≤ length a → i ≡ j - 1 → getD a i 0 ≡ getD b i 0 →
-        equalIgnoringCase (drop i a) (drop i b) ≡ true
-    back-octet j done within next e = back-turn j (lower (getD a i 0)) (lower (getD b i 0)) done within next refl refl (ap lower e)
+      pub short-end : r ≡ true → i ≡ length a → true ≡ equalIgnoringCase a b
+      short-end good h = sym (left ∙ rw (← told, good) (nothing-left (omega arith)))
+
+      pub short-turn : (j : ℕ) → r ≡ true → i ≤ length a → (i ≡ length a → ⊥) → j ≡ i + 1 →
+          equalIgnoringCase a b ≡ (eqb (lower (getD a i 0)) (lower (getD b i 0)) && equalIgnoringCase (drop j a) (drop j b))
+      short-turn j good within more next = left ∙ rw (← told, good) (octet-parts j (omega arith) next)
 
     -- Without stopping at a difference: s says whether the octets so far are the same.
     module _ (s : Bool) (left : equalIgnoringCase a b ≡ (s && equalIgnoringCase (drop i a) (drop i b))) where
@@ -106,3 +115,9 @@ module _ (a b : List ℕ) (i : ℕ) where
           rw (← rest-whole a t, ← rest-whole b t, ← long) (sym part ∙ good) in
           let rest = rest-same (i - t) (drop t a) (drop t b) whole in
           sym (left ∙ rw (drop-drop (i - t) t a, drop-drop (i - t) t b, there) at rest)
+
+pub empty-same : (a b : List ℕ) → length a ≡ length b → length a ≡ 0 → true ≡ equalIgnoringCase a b
+empty-same a b long none = sym (nothing-left a b 0 long (omega arith))
+
+pub equal-octets : (x y : ℕ) → x ≡ y → true ≡ eqb (lower x) (lower y)
+equal-octets x y e = sym (eq-eqb (lower x) (lower y) (ap lower e))

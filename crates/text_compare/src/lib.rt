@@ -2,10 +2,10 @@
 use text_classes::Class;
 ghost use mathlib.Core.Path.{_≡_};
 ghost use mathlib.Core.Bool.{_&&_};
-ghost use Prim.Native.Nat.{_≤_};
+ghost use Prim.Native.Nat.{_≤_, _<_};
 ghost use lib.Dec.{eqb};
 ghost use lib.ListN.{length};
-ghost use Rattle.spec_octets.specs.Octets.{equalIgnoringCase};
+ghost use Rattle.spec_octets.specs.Octets.{lower, equalIgnoringCase};
 ghost use Rattle.spec_octets.specs.Label.{isLabel};
 ghost use Rattle.text_compare.specs.Places.{pieceEnd};
 
@@ -24,8 +24,7 @@ pub fn same_ignoring_case(a: &[u8], b: &[u8]) -> bool
     if n < BLOCK {
         return same_short(a, b);
     }
-    // The octet before the last is the last letter of a name in wire form, which ends with a zero octet.
-    let last = n - 2;
+    let last = before_last(n);
     let p = a[last];
     let q = b[last];
     // `same_blocks` is called in two places so that the compiler doesn't inline it here. This function stays short enough to be
@@ -39,25 +38,49 @@ pub fn same_ignoring_case(a: &[u8], b: &[u8]) -> bool
     same_blocks(a, b)
 }
 
-// Compares texts of equal length octet by octet, from the last to the first.
+// The index of the octet before the last, or of the only one. In a name in wire form, which ends with a zero octet, the last
+// letter is there.
+fn before_last(n: usize) -> usize
+    requires { ⌜ 0 < n ⌝ }
+    ensures { λ r. ⌜ r < n ⌝ }
+{
+    if n < 2 {
+        return 0;
+    }
+    n - 2
+}
+
+// Compares texts of equal length octet by octet: the octet before the last, then all from the first on.
 fn same_short(a: &[u8], b: &[u8]) -> bool
     requires { ⌜ length (now a) ≡ length (now b) ⌝ }
     ensures { λ r. ⌜ r ≡ equalIgnoringCase (now (a .entry)) (now (b .entry)) ⌝ }
 {
-    let mut left: usize = a.len();
-    while 0 < left {
-        left -= 1;
-        let x = a[left];
-        let y = b[left];
-        // Most equal octets are of one case.
-        if x == y {
-            continue;
-        }
-        if text_ascii::to_lower(x) != text_ascii::to_lower(y) {
+    let n = a.len();
+    if n == 0 {
+        return true;
+    }
+    let mut at: usize = before_last(n);
+    let mut next: usize = 0;
+    loop {
+        if !same_octet(a[at], b[at]) {
             return false;
         }
+        if next == n {
+            return true;
+        }
+        at = next;
+        next += 1;
     }
-    true
+}
+
+fn same_octet(x: u8, y: u8) -> bool
+    ensures { λ r. ⌜ r ≡ eqb (lower x) (lower y) ⌝ }
+{
+    // Most equal octets are of one case.
+    if x == y {
+        return true;
+    }
+    text_ascii::to_lower(x) == text_ascii::to_lower(y)
 }
 
 // Compares texts of equal length, at least a block long: the last block first, then block by block from the first octet on, until

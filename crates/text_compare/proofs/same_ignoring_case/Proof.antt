@@ -13,8 +13,8 @@ same-short-requires c κs = search needs
 returns-2 : tie.Need-returns-2
 returns-2 c = search needs
 
-sub-last : tie.Need-sub-last
-sub-last c = search needs
+before-last-requires : tie.Need-before-last-requires
+before-last-requires c κs = search needs
 
 shared-slice-read-p : tie.Need-shared-slice-read-p
 shared-slice-read-p c = search needs
@@ -50,7 +50,7 @@ same-ignoring-case-spec =
     returns
     same-short-requires
     returns-2
-    sub-last
+    before-last-requires
     shared-slice-read-p
     shared-slice-read-q
     same-blocks-requires
