@@ -21,6 +21,7 @@ nameEdges =
     ∷ (text "www" ∷ text "hotel" ∷ text "example" ∷ [], text "hotel" ∷ text "example" ∷ [], false)
     ∷ (text "www" ∷ text "hotel" ∷ [], text "www" ∷ text "hotel" ∷ text "example" ∷ [], false)
     ∷ (text "hotel" ∷ text "example" ∷ [], text "badhotel" ∷ text "example" ∷ [], false)
+    ∷ (text "badhotel" ∷ text "example" ∷ [], text "hotel" ∷ text "example" ∷ [], false)
     -- Names of 15, 16, 17, 31, 32 and 33 octets with the closing zero. Each: the same in upper case; another first octet, another last one.
     ∷ (text "abcdefghijklm" ∷ [], text "ABCDEFGHIJKLM" ∷ [], true)
     ∷ (text "abcdefghijklm" ∷ [], text "zbcdefghijklm" ∷ [], false)
