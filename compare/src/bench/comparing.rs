@@ -65,7 +65,8 @@ impl fmt::Display for Compared {
     }
 }
 
-/// What a comparison answers, as a type of its own for each side: so that its call is all that is timed.
+/// A comparison of two texts that answers as [`Readers::same`] does. Each side has a type of its own, so
+/// that its calls can be inlined where they are timed.
 pub trait Same: Fn(&[u8], &[u8]) -> Word {}
 impl<F: Fn(&[u8], &[u8]) -> Word> Same for F {}
 
