@@ -45,40 +45,62 @@ begin 'the root for a name'
 octets 0 > request.bin
 expect 'refused 2 at 0'
 
-# At most 100 names; what remains after 100 good ones is refusal 3, a bad name among them refusal 2.
+# At most 250 names; what remains after 250 good ones is refusal 3, a bad name among them refusal 2.
+begin '250 names'
+repeated 250 labels 1 > request.bin
+expect 'verdict 0'
+
+begin '251 names'
+repeated 251 labels 1 > request.bin
+expect 'refused 3 at 250'
+
+begin 'an octet after 250 names'
+{ repeated 250 labels 1; octets 64; } > request.bin
+expect 'refused 3 at 250'
+
+begin 'a bad 250th name'
+{ repeated 249 labels 1; octets 64; } > request.bin
+expect 'refused 2 at 249'
+
+# the limit before was 100
 begin '100 names'
 repeated 100 labels 1 > request.bin
 expect 'verdict 0'
 
 begin '101 names'
 repeated 101 labels 1 > request.bin
-expect 'refused 3 at 100'
+expect 'verdict 0'
 
-begin 'an octet after 100 names'
-{ repeated 100 labels 1; octets 64; } > request.bin
-expect 'refused 3 at 100'
+# At most 16,384 octets: 64 names of 255 take 16,320; a name of 64 is a label of 62, and one of 65 a label of 63.
+begin 'a request of 16,384'
+{ repeated 64 labels 63 63 63 61; labels 62; } > request.bin
+expect 'verdict 0'
 
-begin 'a bad 100th name'
-{ repeated 99 labels 1; octets 64; } > request.bin
-expect 'refused 2 at 99'
+begin 'a request of 16,385'
+{ repeated 64 labels 63 63 63 61; labels 63; } > request.bin
+expect 'refused 1 at 0'
 
-# At most 8,192 octets: 32 names of 255 take 8,160; a name of 32 is a label of 30, and one of 33 a label of 31.
+# refusal 1 comes before 2 and 3
+begin 'a request of 16,385 zeros'
+head -c 16385 /dev/zero > request.bin
+expect 'refused 1 at 0'
+
+begin 'a request of 16,384 zeros'
+head -c 16384 /dev/zero > request.bin
+expect 'refused 2 at 0'
+
+begin '251 names in 16,566 octets'
+repeated 251 labels 62 1 > request.bin
+expect 'refused 1 at 0'
+
+# the limit before was 8,192: 32 names of 255, and one of 32 or 33
 begin 'a request of 8,192'
 { repeated 32 labels 63 63 63 61; labels 30; } > request.bin
 expect 'verdict 0'
 
 begin 'a request of 8,193'
 { repeated 32 labels 63 63 63 61; labels 31; } > request.bin
-expect 'refused 1 at 0'
-
-# refusal 1 comes before 2
-begin 'a request of 8,193 zeros'
-head -c 8193 /dev/zero > request.bin
-expect 'refused 1 at 0'
-
-begin 'a request of 8,192 zeros'
-head -c 8192 /dev/zero > request.bin
-expect 'refused 2 at 0'
+expect 'verdict 0'
 
 begin 'a request of 100,000'
 head -c 100000 /dev/zero > request.bin
@@ -113,45 +135,73 @@ begin 'an issuer name with a closing dot'
 printf ca1.example.net. > issuer.txt
 expect 'refused 4 at 0'
 
-# Book: at most 256 records; what remains after 256 good ones is refusal 7, a bad one among them refusal 6.
+# Book: at most 1,024 records; what remains after 1,024 good ones is refusal 7, a bad one among them refusal 6.
+begin '1,024 records'
+repeated 1024 other > book.bin
+expect 'verdict 0'
+
+begin '1,025 records'
+repeated 1025 other > book.bin
+expect 'refused 7 at 1024'
+
+begin 'an octet after 1,024 records'
+{ repeated 1024 other; octets 64; } > book.bin
+expect 'refused 7 at 1024'
+
+begin 'a bad 1,024th record'
+{ repeated 1023 other; octets 64; } > book.bin
+expect 'refused 6 at 1023'
+
+# records are numbered over the whole book, CAA or not
+begin 'the 250th name and the 1,024th record'
+{ repeated 249 labels 1; name www.example.com; } > request.bin
+{ repeated 1023 other; caa example.com 0 issue ca2.example.org; } > book.bin
+expect 'verdict 21 name 249 record 1023'
+
+# the limit before was 256
 begin '256 records'
 repeated 256 other > book.bin
 expect 'verdict 0'
 
 begin '257 records'
-repeated 257 other > book.bin
-expect 'refused 7 at 256'
+{ repeated 256 other; caa example.com 0 issue ca2.example.org; } > book.bin
+expect 'verdict 21 name 0 record 256'
 
-begin 'an octet after 256 records'
-{ repeated 256 other; octets 64; } > book.bin
-expect 'refused 7 at 256'
+# At most 49,152 octets: a root owner and the fields take 11, and the data the rest.
+begin 'a book of 49,152'
+{ octets 0; fields 16 49141; letters 49141; } > book.bin
+expect 'verdict 0'
 
-begin 'a bad 256th record'
-{ repeated 255 other; octets 64; } > book.bin
-expect 'refused 6 at 255'
+begin 'a book of 49,153'
+{ octets 0; fields 16 49142; letters 49142; } > book.bin
+expect 'refused 5 at 0'
 
-# records are numbered over the whole book, CAA or not
-begin 'the 256th record governs'
-{ repeated 255 other; caa example.com 0 issue ca2.example.org; } > book.bin
-expect 'verdict 21 name 0 record 255'
+# refusal 5 comes before 6 and 7
+begin 'a book of 49,153 bad octets'
+head -c 49153 /dev/zero | tr '\0' '\377' > book.bin
+expect 'refused 5 at 0'
 
-# At most 32,768 octets: a root owner and the fields take 11, and the data the rest.
+begin 'a book of 49,152 bad octets'
+head -c 49152 /dev/zero | tr '\0' '\377' > book.bin
+expect 'refused 6 at 0'
+
+# 1,024 records of 48 octets fill both limits; one more is over both
+begin '1,024 records in 49,152 octets'
+repeated 1024 caa x 0 issue ca01.authorities.example.net > book.bin
+expect 'verdict 0'
+
+begin '1,025 records in 49,200 octets'
+repeated 1025 caa x 0 issue ca01.authorities.example.net > book.bin
+expect 'refused 5 at 0'
+
+# the limit before was 32,768
 begin 'a book of 32,768'
 { octets 0; fields 16 32757; letters 32757; } > book.bin
 expect 'verdict 0'
 
 begin 'a book of 32,769'
 { octets 0; fields 16 32758; letters 32758; } > book.bin
-expect 'refused 5 at 0'
-
-# refusal 5 comes before 6 and 7
-begin 'a book of 32,769 bad octets'
-head -c 32769 /dev/zero | tr '\0' '\377' > book.bin
-expect 'refused 5 at 0'
-
-begin 'a book of 32,768 bad octets'
-head -c 32768 /dev/zero | tr '\0' '\377' > book.bin
-expect 'refused 6 at 0'
+expect 'verdict 0'
 
 begin 'a book of 100,000'
 head -c 100000 /dev/zero > book.bin

@@ -41,13 +41,13 @@ enum caa_answer {
     CAA_MADE = 0,              /* write_line, read_line: written to the start of buffer; a = length */
 
     /* Refusals: an input breaks a rule, and nothing was decided. a is 0 unless it is named here. */
-    CAA_REQUEST_TOO_LONG = 1,  /* request over 8,192 octets */
+    CAA_REQUEST_TOO_LONG = 1,  /* request over 16,384 octets */
     CAA_BAD_NAME = 2,          /* request empty (a = 0), or a name breaks a rule; a = number of the name */
-    CAA_TOO_MANY_NAMES = 3,    /* octets are left after 100 valid names; a = 100 */
+    CAA_TOO_MANY_NAMES = 3,    /* octets are left after 250 valid names; a = 250 */
     CAA_BAD_ISSUER = 4,        /* issuer domain name breaks a rule */
-    CAA_BOOK_TOO_LONG = 5,     /* book over 32,768 octets */
+    CAA_BOOK_TOO_LONG = 5,     /* book over 49,152 octets */
     CAA_BAD_RECORD = 6,        /* a record or its CAA data is malformed; a = number of the record */
-    CAA_TOO_MANY_RECORDS = 7,  /* octets are left after 256 valid records; a = 256 */
+    CAA_TOO_MANY_RECORDS = 7,  /* octets are left after 1,024 valid records; a = 1,024 */
     CAA_NO_ROOM = 8,           /* buffer shorter than the output; a = octets needed */
     CAA_BAD_LINE = 9,          /* line breaks a rule */
     CAA_LINE_TOO_LONG = 10,    /* line over 16,384 octets, or data over 4,096 */
@@ -70,10 +70,10 @@ enum caa_answer {
  * May `issuer` issue for every name of `request`, by the records of `book`? Don't issue unless the
  * number is CAA_PERMITTED.
  *
- *   request   1 to 100 DNS names in wire form (RFC 1035), one after the other; not a CSR
+ *   request   1 to 250 DNS names in wire form (RFC 1035), one after the other; not a CSR
  *   issuer    one issuer domain name of the CA, as text: no trailing dot, no zero octet, no line end
- *   book      0 to 256 resource records in wire form without compression, one after the other. Their
- *             CAA records are the answers to the lookups; a failed lookup is not an empty answer
+ *   book      0 to 1,024 resource records in wire form without compression, one after the other.
+ *             Their CAA records are the answers to the lookups; a failed lookup is not an empty answer
  *
  * Answers 0, 20, 21, or a refusal 1 to 7.
  */

@@ -66,10 +66,10 @@ Exit status: 0 done; 1 something is wrong with a file or with the output, and ma
 MAX_LABEL = 63
 MAX_NAME = 255
 MAX_ISSUER = 253
-MAX_NAMES = 100
-MAX_REQUEST = 8_192
-MAX_RECORDS = 256
-MAX_BOOK = 32_768
+MAX_NAMES = 250
+MAX_REQUEST = 16_384
+MAX_RECORDS = 1_024
+MAX_BOOK = 49_152
 
 TYPE_CAA = 257
 CLASS_IN = 1

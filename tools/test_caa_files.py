@@ -175,7 +175,7 @@ class Faults(unittest.TestCase):
 
     def test_file_and_line_are_named(self):
         with self.assertRaisesRegex(caa.Fault, "^names.txt:4: .*hyphen"):
-            caa.items_of("names.txt", "a\n\n# c\n-b\n", caa.requested_name, "names", 100, 8192)
+            caa.items_of("names.txt", "a\n\n# c\n-b\n", caa.requested_name, "names", 250, 16384)
 
     def test_a_lookup_that_failed_is_no_comment(self):
         answered = ";; ->>HEADER<<- opcode: QUERY, status: {}, id: 1\n"
@@ -755,6 +755,42 @@ class Commands(unittest.TestCase):
         self.assertEqual((status, out), (1, ""))
         self.assertIn("records.txt:2: flags are a number from 0 to 255, not 256", error)
         self.assertEqual(sorted(os.listdir(self.folder)), ["names.txt", "records.txt"])
+
+    def test_both_sides_of_each_limit(self):
+        # Before, the limits were 100 names in 8,192 octets and 256 records in 32,768. A name of 255 octets in wire form, one of n + 2
+        # octets for n letters, and a record of n + 16 octets:
+        longest, short = ".".join(["a" * 63] * 3 + ["a" * 61]) + "\n", "{}\n".format
+        record = "b CAA 0 t {}\n".format
+        for names, records, sizes in [
+            ("a\n" * 100, "", (300, 0)),
+            ("a\n" * 101, "", (303, 0)),
+            ("a\n" * 250, "", (750, 0)),
+            (longest * 32 + short("a" * 30), "", (8192, 0)),
+            (longest * 32 + short("a" * 31), "", (8193, 0)),
+            (longest * 64 + short("a" * 62), "", (16384, 0)),
+            ("a\n", record("x") * 256, (3, 4352)),
+            ("a\n", record("x") * 257, (3, 4369)),
+            ("a\n", record("x") * 1024, (3, 17408)),
+            ("a\n", record("x" * 32752), (3, 32768)),
+            ("a\n", record("x" * 32753), (3, 32769)),
+            ("a\n", record("x" * 49136), (3, 49152)),
+        ]:
+            self.write("names.txt", names)
+            self.write("records.txt", records)
+            status, _, error = self.make("--force")
+            self.assertEqual((status, error), (0, ""))
+            self.assertEqual(tuple(len(octets_of(self.path(file))) for file in ["request.bin", "book.bin"]), sizes)
+        for names, records, reason in [
+            ("a\n" * 251, "", "names.txt:251: 250 names are allowed"),
+            (longest * 64 + short("a" * 63), "", "names.txt:65: 16384 octets of names are allowed, and this makes 16385"),
+            ("a\n", record("x") * 1025, "records.txt:1025: 1024 records are allowed"),
+            ("a\n", record("x" * 49137), "records.txt:1: 49152 octets of records are allowed, and this makes 49153"),
+        ]:
+            self.write("names.txt", names)
+            self.write("records.txt", records)
+            status, _, error = self.make("--force")
+            self.assertEqual(status, 1)
+            self.assertIn(reason, error)
 
     def test_other_faults_of_files(self):
         self.assertIn("names.txt: No such file", self.make()[2])

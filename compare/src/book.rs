@@ -198,12 +198,27 @@ mod tests {
     #[test]
     fn the_length_is_looked_at_before_the_records() {
         assert_eq!(
-            read_book(&[0xFF; 32_769]).unwrap_err(),
+            read_book(&[0xFF; 49_153]).unwrap_err(),
             Refusal::BookTooLong
         );
         assert_eq!(
-            read_book(&[0xFF; 32_768]).unwrap_err(),
+            read_book(&[0xFF; 49_152]).unwrap_err(),
             Refusal::BadRecord { record: 0 }
+        );
+    }
+
+    #[test]
+    fn anything_behind_1_024_records_is_too_much() {
+        let octets = record(16, 1, b"").repeat(1_023);
+        assert_eq!(
+            read_book(&[&octets[..], &[0xFF]].concat()).unwrap_err(),
+            Refusal::BadRecord { record: 1_023 }
+        );
+        let octets = record(16, 1, b"").repeat(1_024);
+        assert_eq!(read_book(&octets).unwrap().len(), 1_024);
+        assert_eq!(
+            read_book(&[&octets[..], &[0xFF]].concat()).unwrap_err(),
+            Refusal::TooManyRecords { read: 1_024 }
         );
     }
 

@@ -1,13 +1,13 @@
 //! The limits of the requirements, each under one name.
 
 /// Octets of a request.
-pub const REQUEST_OCTETS: usize = 8_192;
+pub const REQUEST_OCTETS: usize = 16_384;
 /// Names in a request.
-pub const REQUEST_NAMES: usize = 100;
+pub const REQUEST_NAMES: usize = 250;
 /// Octets of a book.
-pub const BOOK_OCTETS: usize = 32_768;
+pub const BOOK_OCTETS: usize = 49_152;
 /// Records in a book.
-pub const BOOK_RECORDS: usize = 256;
+pub const BOOK_RECORDS: usize = 1_024;
 /// Octets of a name in wire form, its closing zero octet included (RFC 1035 section 2.3.4).
 pub const NAME_OCTETS: usize = 255;
 /// Octets of a label (RFC 1035 section 2.3.4).

@@ -68,24 +68,55 @@ fn list_entry<'a>(issuer: &&'a IssuerName) -> impl Iterator<Item = u8> + 'a {
 mod tests {
     use super::*;
 
-    /// No stored case has as many names as a book has records.
-    #[test]
-    fn a_list_of_256_names() {
+    /// A book with an `issue` record of the owner `a` for each name, and the list that it gives.
+    fn book_and_list(issuers: impl Iterator<Item = String>) -> (Vec<u8>, Vec<u8>) {
         let mut book = Vec::new();
         let mut list = Vec::new();
-        for number in 0..256 {
-            let issuer = format!("ca{number:03}");
-            book.extend(b"\x01a\x00\x01\x01\x00\x01\x00\x00\x00\x00\x00\x0C\x00\x05issue");
+        for issuer in issuers {
+            book.extend(b"\x01a\x00\x01\x01\x00\x01\x00\x00\x00\x00");
+            book.extend((7 + issuer.len() as u16).to_be_bytes());
+            book.extend(b"\x00\x05issue");
             book.extend(issuer.as_bytes());
-            list.push(5);
+            list.push(issuer.len() as u8);
             list.extend(issuer.as_bytes());
         }
-        let mut buffer = vec![0xFF; 256 * 6];
+        (book, list)
+    }
+
+    /// No stored case has as many names as a book has records.
+    #[test]
+    fn a_list_of_1_024_names() {
+        let (book, list) = book_and_list((0..1_024).map(|number| format!("ca{number:04}")));
+        let mut buffer = vec![0xFF; 1_024 * 7];
         assert_eq!(
             permitted_issuers(b"\x01a\x00", &book, &mut buffer),
             Permitted::List {
-                count: 256,
-                octets: 1_536
+                count: 1_024,
+                octets: 7_168
+            }
+        );
+        assert_eq!(buffer, list);
+    }
+
+    /// No list is longer: a name of 253 octets takes 273 of the book, and 180 such have room there.
+    #[test]
+    fn a_list_of_180_names_of_253_octets() {
+        let label = "a".repeat(63);
+        let issuers = (0..180).map(|number| format!("{label}.{label}.{label}.{number:061}"));
+        let (book, list) = book_and_list(issuers);
+        assert_eq!(book.len(), 49_140);
+        let mut buffer = vec![0xFF; 45_719];
+        assert_eq!(
+            permitted_issuers(b"\x01a\x00", &book, &mut buffer),
+            Permitted::Refused(Refusal::BufferTooShort { needed: 45_720 })
+        );
+        assert_eq!(buffer, [0xFF; 45_719]);
+        buffer.push(0xFF);
+        assert_eq!(
+            permitted_issuers(b"\x01a\x00", &book, &mut buffer),
+            Permitted::List {
+                count: 180,
+                octets: 45_720
             }
         );
         assert_eq!(buffer, list);

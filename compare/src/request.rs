@@ -87,18 +87,25 @@ mod tests {
 
     #[test]
     fn the_length_is_looked_at_before_the_names() {
-        assert_eq!(refusal(&[0xFF; 8_193]), Refusal::RequestTooLong);
+        assert_eq!(refusal(&[0xFF; 16_385]), Refusal::RequestTooLong);
         assert_eq!(
-            refusal(&[0xFF; 8_192]),
+            refusal(&[0xFF; 16_384]),
             Refusal::BadRequestedName { name: 0 }
         );
     }
 
     #[test]
-    fn anything_behind_a_hundred_names_is_too_much() {
-        let mut octets = b"\x01a\x00".repeat(100);
-        assert_eq!(read_request(&octets).unwrap().len(), 100);
-        octets.push(0xFF);
-        assert_eq!(refusal(&octets), Refusal::TooManyNames { read: 100 });
+    fn anything_behind_250_names_is_too_much() {
+        let octets = b"\x01a\x00".repeat(249);
+        assert_eq!(
+            refusal(&[&octets[..], &[0xFF]].concat()),
+            Refusal::BadRequestedName { name: 249 }
+        );
+        let octets = b"\x01a\x00".repeat(250);
+        assert_eq!(read_request(&octets).unwrap().len(), 250);
+        assert_eq!(
+            refusal(&[&octets[..], &[0xFF]].concat()),
+            Refusal::TooManyNames { read: 250 }
+        );
     }
 }

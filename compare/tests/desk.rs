@@ -110,10 +110,36 @@ fn a_line_end_in_the_issuer_file_is_refused() {
 #[test]
 fn a_file_over_a_limit_gets_the_limits_refusal() {
     let folder = Folder::new("limit")
-        .with("request.bin", &[0; 8_193])
+        .with("request.bin", &[0; 16_385])
         .with("issuer.txt", b"x")
-        .with("book.bin", &[0; 32_769]);
+        .with("book.bin", &[0; 49_153]);
     assert_eq!(folder.line(), "refused 1 at 0");
     let folder = folder.with("request.bin", REQUEST);
     assert_eq!(folder.line(), "refused 5 at 0");
+}
+
+/// A zero octet is no name, and FF no length of a label.
+#[test]
+fn a_file_as_long_as_may_be_is_read() {
+    let folder = Folder::new("as-long-as-may-be")
+        .with("request.bin", &[0; 16_384])
+        .with("issuer.txt", b"x")
+        .with("book.bin", &[0xFF; 49_152]);
+    assert_eq!(folder.line(), "refused 2 at 0");
+    let folder = folder.with("request.bin", REQUEST);
+    assert_eq!(folder.line(), "refused 6 at 0");
+}
+
+#[test]
+fn names_and_records_over_their_limits_are_told() {
+    let record = b"\x00\x00\x10\x00\x01\x00\x00\x00\x00\x00\x00";
+    let folder = Folder::new("too-many")
+        .with("request.bin", &REQUEST.repeat(250))
+        .with("issuer.txt", b"x")
+        .with("book.bin", &record.repeat(1_024));
+    assert_eq!(folder.line(), "verdict 0");
+    let folder = folder.with("book.bin", &record.repeat(1_025));
+    assert_eq!(folder.line(), "refused 7 at 1024");
+    let folder = folder.with("request.bin", &REQUEST.repeat(251));
+    assert_eq!(folder.line(), "refused 3 at 250");
 }

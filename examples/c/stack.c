@@ -149,7 +149,7 @@ static void put_many(struct octets *to, const char *text, int times)
     }
 }
 
-/* `count` names over `labels` labels of one letter below example.com; every second one a wildcard. */
+/* `count` names over `labels` labels of one letter below d.example; every second one a wildcard. */
 static void make_request(int count, int labels)
 {
     int i, n;
@@ -162,12 +162,15 @@ static void make_request(int count, int labels)
         for (i = 0; i < labels; i++) {
             strcat(name, "a.");
         }
-        strcat(name, n % 3 == 0 ? "pay.example.com" : "example.com");
+        strcat(name, n % 3 == 0 ? "p.d.example" : "d.example");
         put_name(&request, name);
     }
 }
 
-/* `count` records in turn at the owners, each granting an issuer of its own, with parameters behind its name. */
+/*
+ * `count` records in turn at the owners, each pair granting an issuer of its own, with parameters behind its
+ * name. Short, so that 1,024 of them fit a book.
+ */
 static void make_book(int count, const char *first, const char *second, const char *tag)
 {
     int n;
@@ -176,7 +179,7 @@ static void make_book(int count, const char *first, const char *second, const ch
     for (n = 0; n < count; n++) {
         char value[64];
 
-        snprintf(value, sizeof value, " ca%d.example.net ; a=1 ; b = %d", n / 2, n);
+        snprintf(value, sizeof value, " ca%d.e;a=1;b=", n / 2);
         put_caa(&book, n % 2 == 0 ? first : second, 0, tag, value);
     }
 }
@@ -264,24 +267,24 @@ static void books(void)
     int tag;
 
     clear(&issuer);
-    put_text(&issuer, "ca1.example.net");
+    put_text(&issuer, "ca1.e");
 
     /* the longest that are accepted: many names and records, deep names, many issuers listed */
     for (tag = 0; tag < 2; tag++) {
-        make_request(100, 10);
-        make_book(256, "example.com", "pay.example.com", tags[tag]);
+        make_request(250, 24);
+        make_book(1024, "d.example", "p.d.example", tags[tag]);
         expect(call_judge, CAA_PERMITTED);
         expect(call_list, CAA_LIST);
         ask_book();
-        make_book(256, "com", "com", tags[tag]);
+        make_book(1024, "example", "example", tags[tag]);
         ask_book();
-        make_request(30, 110);
+        make_request(69, 110);
         expect(call_judge, CAA_PERMITTED);
         ask_book();
-        make_book(256, "com", "example.org", tags[tag]);
+        make_book(1024, "example", "example.org", tags[tag]);
         issuer.at[2] = '9';
         ask_book();
-        make_book(18, "com", "example.org", tags[tag]);
+        make_book(18, "example", "example.org", tags[tag]);
         expect(call_judge, CAA_NOT_GRANTED);
         ask_book();
         issuer.at[2] = '1';
@@ -290,7 +293,7 @@ static void books(void)
     expect(call_judge, CAA_PERMITTED);
     expect(call_list, CAA_ANYONE);
     ask_book();
-    put_caa(&book, "example.com", 128, "tbs", "Unknown");
+    put_caa(&book, "d.example", 128, "tbs", "Unknown");
     expect(call_judge, CAA_UNKNOWN_CRITICAL);
     ask_book();
 
@@ -298,10 +301,10 @@ static void books(void)
     request.at[0] = 64;
     expect(call_judge, CAA_BAD_NAME);
     ask_book();
-    make_request(101, 1);
+    make_request(251, 1);
     expect(call_judge, CAA_TOO_MANY_NAMES);
     ask_book();
-    request.length = 8193;
+    request.length = 16385;
     expect(call_judge, CAA_REQUEST_TOO_LONG);
     ask_book();
     make_request(3, 3);
@@ -309,18 +312,18 @@ static void books(void)
     expect(call_judge, CAA_BAD_ISSUER);
     ask_book();
     issuer.length--;
-    make_book(257, "example.com", "com", "issue");
+    make_book(1025, "d.example", "example", "issue");
     expect(call_judge, CAA_TOO_MANY_RECORDS);
     ask_book();
     book.length -= 100;
     expect(call_judge, CAA_BAD_RECORD);
     ask_book();
-    book.length = 32769;
+    book.length = 49153;
     expect(call_judge, CAA_BOOK_TOO_LONG);
     ask_book();
 
     make_request(4, 3);
-    make_book(8, "example.com", "pay.example.com", "issue");
+    make_book(8, "d.example", "p.d.example", "issue");
     ask_changed_book();
 }
 

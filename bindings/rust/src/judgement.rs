@@ -100,10 +100,10 @@ impl fmt::Display for Judgement {
 
 /// May `issuer` issue for every name of `request`, by the records of `book`?
 ///
-/// - `request`: 1 to 100 DNS names in wire form, one after the other, at most 8,192 octets.
+/// - `request`: 1 to 250 DNS names in wire form, one after the other, at most 16,384 octets.
 /// - `issuer`: one issuer domain name of the CA, as text: no trailing dot, no line end.
-/// - `book`: 0 to 256 resource records in wire form without compression, one after the other, at most
-///   32,768 octets. A failed lookup is not an empty answer: don't judge without it.
+/// - `book`: 0 to 1,024 resource records in wire form without compression, one after the other, at
+///   most 49,152 octets. A failed lookup is not an empty answer: don't judge without it.
 pub fn judge(request: &[u8], issuer: &[u8], book: &[u8]) -> Judgement {
     Judgement::of(Word::unpacked(foreign::judge(request, issuer, book)))
 }

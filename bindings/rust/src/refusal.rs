@@ -9,7 +9,7 @@ use std::fmt;
 #[derive(Clone, Copy, Debug, PartialEq, Eq, Hash)]
 #[non_exhaustive]
 pub enum Refusal {
-    /// 1: the request is over 8,192 octets.
+    /// 1: the request is over 16,384 octets.
     RequestTooLong,
     /// 2: the request is empty, or one of its names breaks a rule.
     BadName {
@@ -18,12 +18,12 @@ pub enum Refusal {
     },
     /// 3: octets are left after the most names allowed.
     TooManyNames {
-        /// How many names that is: 100.
+        /// How many names that is: 250.
         read: usize,
     },
     /// 4: the issuer domain name breaks a rule.
     BadIssuer,
-    /// 5: the book is over 32,768 octets.
+    /// 5: the book is over 49,152 octets.
     BookTooLong,
     /// 6: a record, or its CAA data, is malformed.
     BadRecord {
@@ -32,7 +32,7 @@ pub enum Refusal {
     },
     /// 7: octets are left after the most records allowed.
     TooManyRecords {
-        /// How many records that is: 256.
+        /// How many records that is: 1,024.
         read: usize,
     },
     /// 8: the buffer is shorter than the output.
@@ -111,11 +111,11 @@ impl Refusal {
     /// What is wrong, in words.
     pub fn reason(self) -> &'static str {
         match self {
-            Refusal::RequestTooLong => "the request is over 8,192 octets",
+            Refusal::RequestTooLong => "the request is over 16,384 octets",
             Refusal::BadName { .. } => "the request is empty, or this name breaks a rule",
             Refusal::TooManyNames { .. } => "octets are left after the most names allowed",
             Refusal::BadIssuer => "the issuer domain name breaks a rule",
-            Refusal::BookTooLong => "the book is over 32,768 octets",
+            Refusal::BookTooLong => "the book is over 49,152 octets",
             Refusal::BadRecord { .. } => "this record, or its CAA data, is malformed",
             Refusal::TooManyRecords { .. } => "octets are left after the most records allowed",
             Refusal::NoRoom { .. } => "the buffer is shorter than the octets needed",

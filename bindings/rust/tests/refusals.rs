@@ -29,19 +29,31 @@ fn judged(request: &[u8], book: &[u8]) {
 
 #[test]
 fn requests() {
-    refused(&[0; 8_193], &[], Refusal::RequestTooLong);
     refused(&[], &[], Refusal::BadName { name: 0 });
     refused(
         &[name("a"), name("-a")].concat(),
         &[],
         Refusal::BadName { name: 1 },
     );
-    judged(&name("a").repeat(100), &[]);
+    // 100 names were the limit before.
+    for names in [100, 101, 250] {
+        judged(&name("a").repeat(names), &[]);
+    }
     refused(
-        &name("a").repeat(101),
+        &name("a").repeat(251),
         &[],
-        Refusal::TooManyNames { read: 100 },
+        Refusal::TooManyNames { read: 250 },
     );
+    // Names of 128 octets, and the last of 128 or 129. 8,192 octets were the limit before.
+    let long = |octets: usize| name(&format!("{}.{}", "a".repeat(63), "a".repeat(octets - 66)));
+    let request = |names: usize, last| [long(128).repeat(names - 1), long(last)].concat();
+    for (names, last, octets) in [(64, 128, 8_192), (64, 129, 8_193), (128, 128, 16_384)] {
+        assert_eq!(request(names, last).len(), octets);
+        judged(&request(names, last), &[]);
+    }
+    refused(&request(128, 129), &[], Refusal::RequestTooLong);
+    refused(&[0; 16_384], &[], Refusal::BadName { name: 0 });
+    refused(&[0; 16_385], &[], Refusal::RequestTooLong);
 }
 
 #[test]
@@ -57,7 +69,6 @@ fn issuer_names() {
 #[test]
 fn books() {
     let (request, good) = (name("a"), record("b", 1, &[]));
-    refused(&request, &[0; 32_769], Refusal::BookTooLong);
     let cut = &good[..good.len() - 1];
     refused(
         &request,
@@ -66,12 +77,24 @@ fn books() {
     );
     let empty_tag = record("b", 257, &data(0, "", b"x"));
     refused(&request, &empty_tag, Refusal::BadRecord { record: 0 });
-    judged(&request, &good.repeat(256));
+    // 256 records were the limit before.
+    for records in [256, 257, 1_024] {
+        judged(&request, &good.repeat(records));
+    }
     refused(
         &request,
-        &good.repeat(257),
-        Refusal::TooManyRecords { read: 256 },
+        &good.repeat(1_025),
+        Refusal::TooManyRecords { read: 1_024 },
     );
+    // One record that fills the book. 32,768 octets were the limit before.
+    let filled = |octets: usize| record("b", 1, &vec![0; octets - 13]);
+    for octets in [32_768, 32_769, 49_152] {
+        assert_eq!(filled(octets).len(), octets);
+        judged(&request, &filled(octets));
+    }
+    refused(&request, &filled(49_153), Refusal::BookTooLong);
+    refused(&request, &[255; 49_152], Refusal::BadRecord { record: 0 });
+    refused(&request, &[255; 49_153], Refusal::BookTooLong);
 }
 
 #[test]

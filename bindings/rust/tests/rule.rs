@@ -54,6 +54,31 @@ fn unknown_critical() {
     assert!(judge(&request, b"x", &tbs(127)).is_permitted());
 }
 
+/// The last name of as many as a request may have, and the last record of as many as a book may have.
+#[test]
+fn the_largest_numbers() {
+    let request = [name("a").repeat(249), name("b")].concat();
+    let address = record("c", 1, &[192, 0, 2, 1]);
+    let book = [address.repeat(1_023), caa("b", "issue", "ca2.example.org")].concat();
+    assert_eq!(
+        judge(&request, b"ca1.example.net", &book),
+        Judgement::NotGranted {
+            name: 249,
+            record: 1_023
+        }
+    );
+    let issuers: Vec<String> = (0..1_024).map(|k| format!("ca{k}.example")).collect();
+    let book: Vec<u8> = issuers
+        .iter()
+        .flat_map(|issuer| caa("b", "issue", issuer))
+        .collect();
+    let mut buffer = vec![0; book.len()];
+    match permitted_issuers(&request, &book, &mut buffer) {
+        PermittedIssuers::List(list) => assert!(list.into_iter().eq(&issuers)),
+        other => panic!("{other}"),
+    }
+}
+
 #[test]
 fn wildcards() {
     let book = caa("example.com", "issuewild", "ca2.example.org");

@@ -1,6 +1,7 @@
 //! The judge against ours.
 
-use super::heights::{count_in_vain, count_of_name, OF_VERDICTS};
+use super::heights::{self, count_in_vain, count_of_name};
+use super::limits::{self, count_limits};
 use super::log::{Call, Differences, Tally};
 use super::Part;
 use crate::answer::Answer;
@@ -28,8 +29,9 @@ static JUDGE: Call = Call {
 pub struct JudgeComparison {
     theirs: Judge,
     tally: Tally,
-    /// Of the generated cases alone.
+    /// Of the generated cases alone, like the limits.
     heights: Tally,
+    limits: Tally,
 }
 
 impl JudgeComparison {
@@ -37,7 +39,8 @@ impl JudgeComparison {
         JudgeComparison {
             theirs,
             tally: Tally::new(&JUDGE),
-            heights: Tally::new(&OF_VERDICTS),
+            heights: Tally::new(&heights::OF_VERDICTS),
+            limits: Tally::new(&limits::OF_VERDICTS),
         }
     }
 
@@ -73,7 +76,11 @@ impl Part for JudgeComparison {
             book,
             ..
         } = inputs;
-        match self.compare(request, issuer, book, differences) {
+        let answer = self.compare(request, issuer, book, differences);
+        if !matches!(answer, Answer::Refused(_)) {
+            count_limits(&mut self.limits, request, book);
+        }
+        match answer {
             Answer::Permitted => count_in_vain(&mut self.heights, request, book),
             Answer::UnknownCritical { name, .. } | Answer::NotGranted { name, .. } => {
                 count_of_name(&mut self.heights, request, book, name);
@@ -83,7 +90,7 @@ impl Part for JudgeComparison {
     }
 
     fn into_tallies(self: Box<Self>) -> Vec<Tally> {
-        vec![self.tally, self.heights]
+        vec![self.tally, self.heights, self.limits]
     }
 }
 

@@ -1,7 +1,8 @@
 //! Who may issue against ours: the answer and every octet of the buffer.
 
 use super::buffer::{sizes_to_try, TwoBuffers};
-use super::heights::{count_in_vain, count_of_restricted, OF_LISTS};
+use super::heights::{self, count_in_vain, count_of_restricted};
+use super::limits::{self, count_limits};
 use super::log::{Call, Differences, Tally};
 use super::Part;
 use crate::answer::{Permitted, Refusal};
@@ -17,7 +18,8 @@ static LIST: Call = Call {
         (LIST_OF_NONE, "list of 0"),
         (LIST_OF_NONE + 1, "list of 1"),
         (LIST_OF_NONE + 2, "list of 2"),
-        (LIST_OF_NONE + MANY, "list of 3 or more"),
+        (LIST_OF_NONE + 3, "list of 3 to 255"),
+        (LIST_OF_NONE + 4, "list of 256 and more"),
         (1, "refused 1"),
         (2, "refused 2"),
         (3, "refused 3"),
@@ -29,15 +31,14 @@ static LIST: Call = Call {
 };
 const ANYONE: u8 = 30;
 const LIST_OF_NONE: u8 = 31;
-/// A list of so many names or more is one kind.
-const MANY: u8 = 3;
 
 pub struct ListComparison {
     theirs: PermittedIssuers,
     generator: Generator,
     tally: Tally,
-    /// Of the generated cases alone.
+    /// Of the generated cases alone, like the limits.
     heights: Tally,
+    limits: Tally,
 }
 
 impl ListComparison {
@@ -46,7 +47,8 @@ impl ListComparison {
             theirs,
             generator: Generator::new(!seed),
             tally: Tally::new(&LIST),
-            heights: Tally::new(&OF_LISTS),
+            heights: Tally::new(&heights::OF_LISTS),
+            limits: Tally::new(&limits::OF_LISTS),
         }
     }
 
@@ -105,7 +107,11 @@ impl Part for ListComparison {
             buffer,
             ..
         } = inputs;
-        match self.compare(request, book, buffer, differences) {
+        let answer = self.compare(request, book, buffer, differences);
+        if !matches!(answer, Permitted::Refused(_)) {
+            count_limits(&mut self.limits, request, book);
+        }
+        match answer {
             Permitted::Anyone => count_in_vain(&mut self.heights, request, book),
             Permitted::List { .. } => count_of_restricted(&mut self.heights, request, book),
             Permitted::Refused(_) => {}
@@ -113,7 +119,7 @@ impl Part for ListComparison {
     }
 
     fn into_tallies(self: Box<Self>) -> Vec<Tally> {
-        vec![self.tally, self.heights]
+        vec![self.tally, self.heights, self.limits]
     }
 }
 
@@ -129,7 +135,14 @@ fn needed(answer: Permitted) -> Option<usize> {
 fn kind(answer: Permitted) -> u8 {
     match answer {
         Permitted::Anyone => ANYONE,
-        Permitted::List { count, .. } => LIST_OF_NONE + count.min(usize::from(MANY)) as u8,
+        Permitted::List { count, .. } => {
+            LIST_OF_NONE
+                + match count {
+                    0..3 => count as u8,
+                    3..256 => 3,
+                    _ => 4,
+                }
+        }
         Permitted::Refused(refusal) => refusal.number(),
     }
 }

@@ -3,6 +3,7 @@
 mod buffer;
 mod heights;
 mod judge;
+mod limits;
 mod lines;
 mod list;
 mod log;

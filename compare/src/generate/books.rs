@@ -1,7 +1,8 @@
 //! Books: some records, as many or as long as may be, or many of one owner.
 
+use super::names::UNASKED_OWNER;
 use super::Generator;
-use crate::limits::{BOOK_OCTETS, BOOK_RECORDS};
+use crate::limits::{BOOK_OCTETS, BOOK_RECORDS, ISSUER_OCTETS, LABEL_OCTETS};
 
 pub(super) const KNOWN_TAGS: [&[u8]; 3] = [b"issue", b"issuewild", b"iodef"];
 pub(super) const UNKNOWN_TAGS: [&[u8]; 5] = [b"tbs", b"issu", b"issues", b"issuewil", b"tb_s"];
@@ -17,18 +18,28 @@ impl Generator {
         (0..records).flat_map(|_| self.record()).collect()
     }
 
-    /// Good records end to end, around the limit of a book's octets.
+    /// Good records end to end, around the limit of a book's octets. One is as long as that takes;
+    /// half of the time it is the first.
     pub(super) fn long_book(&mut self) -> Vec<u8> {
-        let mut octets = self.book();
-        let padding = BOOK_OCTETS - 1 + self.below(4) - octets.len() - 11;
-        octets.extend(self.record_of(vec![0], 16, 1, &vec![0xFF; padding]));
-        octets
+        let before = match self.once_in(2) {
+            true => Vec::new(),
+            false => self.book(),
+        };
+        let behind = self.book();
+        let padding = BOOK_OCTETS - 1 + self.below(4) - before.len() - behind.len() - 11;
+        let long = self.record_of(vec![0], 16, 1, &vec![0xFF; padding]);
+        [before, long, behind].concat()
     }
 
     /// Good records end to end, around the limit of their number. Most are short, so that so many have
-    /// room in a book.
+    /// room in a book. Half of the time only the last few can matter.
     pub(super) fn many_records(&mut self) -> Vec<u8> {
         let records = BOOK_RECORDS - 1 + self.below(3);
+        let unasked = match self.once_in(2) {
+            true => records - self.below(16),
+            false => 0,
+        };
+        let mut octets = self.unasked_records(unasked);
         let record = |_| {
             if self.once_in(16) {
                 return self.record();
@@ -38,15 +49,27 @@ impl Generator {
             let rdata = [&[0, tag.len() as u8], tag, &self.issuer()].concat();
             self.record_of(owner, 257, 1, &rdata)
         };
-        (0..records).flat_map(record).collect()
+        octets.extend((unasked..records).flat_map(record));
+        octets
     }
 
-    /// Many grants for one name, some of them twice and more.
+    /// So many records that no request asks for.
+    pub(super) fn unasked_records(&mut self, records: usize) -> Vec<u8> {
+        self.record_of(UNASKED_OWNER.to_vec(), 257, 1, b"\x00\x05issuex")
+            .repeat(records)
+    }
+
+    /// Many grants for one name, some of them twice and more. Half of the time there are as many as
+    /// may be.
     pub(super) fn crowded_book(&mut self) -> Vec<u8> {
-        let records = self.below(BOOK_RECORDS + 1);
+        let records = match self.once_in(2) {
+            true => BOOK_RECORDS,
+            false => self.below(BOOK_RECORDS + 1),
+        };
+        let issuers = self.one_of(&[200, 4 * BOOK_RECORDS]);
         let grant = |_| {
             let tag = self.near_front(&KNOWN_TAGS);
-            let issuer = format!("x{}", self.below(200));
+            let issuer = format!("x{}", self.below(issuers));
             let rdata = [
                 &[0, tag.len() as u8],
                 tag,
@@ -56,6 +79,24 @@ impl Generator {
             self.record_of(b"\x01c\x00".to_vec(), 257, 1, &rdata)
         };
         (0..records).flat_map(grant).collect()
+    }
+
+    /// Grants for one name, as many as have room, of issuer names as long as may be, some of them
+    /// twice and more. A list can hardly be longer.
+    pub(super) fn book_of_long_list(&mut self) -> Vec<u8> {
+        let label = "x".repeat(LABEL_OCTETS);
+        let digits = ISSUER_OCTETS - 3 * (LABEL_OCTETS + 1);
+        let mut book = Vec::new();
+        loop {
+            let number = self.below(BOOK_RECORDS);
+            let issuer = format!("{label}.{label}.{label}.{number:0digits$}");
+            let rdata = [b"\x00\x05issue", &self.any_case(issuer.as_bytes())[..]].concat();
+            let record = self.record_of(b"\x01c\x00".to_vec(), 257, 1, &rdata);
+            if book.len() + record.len() > BOOK_OCTETS {
+                return book;
+            }
+            book.extend(record);
+        }
     }
 
     /// A few records of the top labels, whose values hold names around the limits of issuer names.

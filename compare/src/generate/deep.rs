@@ -1,20 +1,31 @@
 //! Deep cases: names of many labels, and sets that stand many labels above them.
 
 use super::Generator;
-use crate::limits::NAME_OCTETS;
+use crate::limits::{BOOK_RECORDS, NAME_OCTETS, REQUEST_OCTETS};
 
 /// Labels of the deepest name: one octet each, behind a length octet, and the closing zero.
 const MOST_LABELS: usize = (NAME_OCTETS - 1) / 2;
+/// Names that have room in a request, however long they are.
+const MANY_NAMES: usize = REQUEST_OCTETS / NAME_OCTETS;
 /// Labels taken off, on both sides of where a climb could be given up.
 const HEIGHTS: [usize; 12] = [0, 1, 2, 3, 39, 40, 41, 99, 100, 101, 125, 126];
 
 impl Generator {
     /// A request of deep names that share a tail, and a book with a set at any height above them.
+    /// Now and then the request or the book is full.
     pub(super) fn deep_request_and_book(&mut self) -> (Vec<u8>, Vec<u8>) {
         let name = self.deep_name();
-        let names = 1 + self.near_front(&[0, 1, 2]);
+        let names = match self.once_in(16) {
+            true => MANY_NAMES,
+            false => 1 + self.near_front(&[0, 1, 2]),
+        };
         let request = (0..names).flat_map(|_| self.name_below(&name)).collect();
-        (request, self.book_above(&name))
+        let mut records = self.records_above(&name);
+        if self.once_in(16) {
+            let unasked = self.unasked_records(BOOK_RECORDS - records.len());
+            records.insert(0, unasked);
+        }
+        (request, records.concat())
     }
 
     /// Mostly as deep as may be, and its labels mostly of one octet.
@@ -51,7 +62,7 @@ impl Generator {
     /// A set at some height above the name, up to the root, which has no say; and in any order with
     /// its records some that must not count: of owners farther up, of owners that differ from an
     /// ancestor in one octet, and of the root.
-    fn book_above(&mut self, name: &[u8]) -> Vec<u8> {
+    fn records_above(&mut self, name: &[u8]) -> Vec<Vec<u8>> {
         let labels = labels(name);
         let height = match self.below(8) {
             0..=4 => self.one_of(&HEIGHTS).min(labels),
@@ -77,7 +88,7 @@ impl Generator {
         }
         owners
             .into_iter()
-            .flat_map(|owner| {
+            .map(|owner| {
                 let owner = self.any_case(&owner);
                 let rdata = self.caa_data();
                 self.record_of(owner, 257, 1, &rdata)

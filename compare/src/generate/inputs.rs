@@ -1,7 +1,7 @@
 //! Inputs for judging and listing: mostly good ones, and some that are damaged or beyond a limit, so
 //! that every answer comes.
 
-use super::names::name_of_octets;
+use super::names::{name_of_octets, OPEN_NAME};
 use super::Generator;
 use crate::limits::{LABEL_OCTETS, NAME_OCTETS, REQUEST_NAMES, REQUEST_OCTETS};
 
@@ -45,31 +45,32 @@ impl Generator {
 
     fn any_request(&mut self) -> Vec<u8> {
         match self.below(32) {
-            0 => self.long_request(),
-            1 | 2 => self.many_names(),
-            3..=5 => {
+            0 | 1 => self.long_request(),
+            2 | 3 => self.many_names(),
+            4..=6 => {
                 let request = self.request();
                 self.damaged(request)
             }
-            6 => [self.request(), self.name_around_limit()].concat(),
+            7 => [self.request(), self.name_around_limit()].concat(),
             _ => self.request(),
         }
     }
 
     fn any_book(&mut self) -> Vec<u8> {
         match self.below(32) {
-            0 => self.long_book(),
-            1 | 2 => self.many_records(),
-            3..=5 => {
+            0 | 1 => self.long_book(),
+            2 | 3 => self.many_records(),
+            4..=6 => {
                 let book = self.book();
                 self.damaged(book)
             }
-            6 => {
+            7 => {
                 let owner = self.name_around_limit();
                 let rdata = self.caa_data();
                 [self.book(), self.record_of(owner, 257, 1, &rdata)].concat()
             }
-            7 | 8 => self.crowded_book(),
+            8 | 9 => self.crowded_book(),
+            10 => self.book_of_long_list(),
             _ => self.book(),
         }
     }
@@ -91,21 +92,31 @@ impl Generator {
         (0..names).flat_map(|_| self.requested_name()).collect()
     }
 
-    /// Good names end to end, around the limit of a request's octets.
+    /// Good names end to end, around the limit of a request's octets. Those that are mostly
+    /// restricted stand last.
     fn long_request(&mut self) -> Vec<u8> {
-        let length = REQUEST_OCTETS - 1 + self.below(4);
+        let last = self.request();
+        let length = REQUEST_OCTETS - 1 + self.below(4) - last.len();
         let mut octets = Vec::new();
-        // What is left for the last name is then 61 to 255 octets.
+        // What is left for the last of these names is then 61 to 255 octets.
         while length - octets.len() > NAME_OCTETS {
             octets.extend(name_of_octets(195, LABEL_OCTETS));
         }
         octets.extend(name_of_octets(length - octets.len(), LABEL_OCTETS));
-        octets
+        [octets, last].concat()
     }
 
+    /// Good names end to end, around the limit of their number. Half of the time only the last few
+    /// can be restricted, so that the answer comes from them.
     fn many_names(&mut self) -> Vec<u8> {
         let names = REQUEST_NAMES - 1 + self.below(3);
-        (0..names).flat_map(|_| self.requested_name()).collect()
+        let open = match self.once_in(2) {
+            true => names - 1 - self.below(4),
+            false => 0,
+        };
+        let mut octets = OPEN_NAME.repeat(open);
+        octets.extend((open..names).flat_map(|_| self.requested_name()));
+        octets
     }
 }
 

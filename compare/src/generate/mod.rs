@@ -10,6 +10,7 @@ mod slices;
 
 pub use every::{every_short_data, every_short_line, every_slice};
 pub use inputs::Inputs;
+pub use names::name_of_octets;
 
 /// The xorshift64* generator: small, and the same on every machine.
 pub struct Generator {

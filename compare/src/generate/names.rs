@@ -8,6 +8,10 @@ const LABELS: [&[u8]; 6] = [b"a", b"b", b"ab", b"a-b", b"0", b"a0b"];
 const TOP_LABELS: [&[u8]; 2] = [b"c", b"d"];
 /// Labels that a careless comparison takes for one of the above: other fold, star, dot, length.
 const OWNER_LABELS: [&[u8]; 6] = [b"*", b"a\x0Db", b"\x10", b"a.b", b"\xE1", b"a\x01b"];
+/// A name that no generated record is for, so that it is never restricted.
+pub(super) const OPEN_NAME: &[u8] = b"\x01e\x00";
+/// An owner that no generated request asks for.
+pub(super) const UNASKED_OWNER: &[u8] = b"\x01f\x00";
 const ISSUERS: [&[u8]; 6] = [b"x", b"y", b"x.y", b"xx.y", b"y.x", b"x-y.x"];
 
 impl Generator {
@@ -102,7 +106,7 @@ impl Generator {
 
 /// A name of that many octets, 3 or more, in wire form, of labels up to `longest`, which is 2 or
 /// more or the octets odd.
-pub(super) fn name_of_octets(octets: usize, longest: usize) -> Vec<u8> {
+pub fn name_of_octets(octets: usize, longest: usize) -> Vec<u8> {
     let mut wire = Vec::new();
     let mut left = octets - 1;
     while left > 0 {

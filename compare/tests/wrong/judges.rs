@@ -5,6 +5,7 @@ use compare::calls::Judge;
 use compare::limits::{BOOK_OCTETS, ISSUER_OCTETS, REQUEST_OCTETS};
 use compare::{judge, Answer, Refusal, Word};
 
+use super::cut::{self, first_names, first_records, names_within, records_within};
 use super::found_at_random;
 
 const TOO_LONG_A_REQUEST: usize = REQUEST_OCTETS + 1;
@@ -53,12 +54,72 @@ fn wrong_judges_are_found_out() {
             ))
         },
     ];
-    for (number, judge) in wrong_ones.into_iter().enumerate() {
+    all_are_found_out(&wrong_ones);
+}
+
+#[test]
+fn judges_that_leave_out_what_stands_far_behind_are_found_out() {
+    all_are_found_out(&[
+        |request, issuer, book| {
+            unless_refused(judge(request, issuer, book), || {
+                judge(first_names(request, cut::NAMES), issuer, book)
+            })
+        },
+        |request, issuer, book| {
+            unless_refused(judge(request, issuer, book), || {
+                judge(names_within(request, cut::REQUEST_OCTETS), issuer, book)
+            })
+        },
+        |request, issuer, book| {
+            unless_refused(judge(request, issuer, book), || {
+                judge(request, issuer, first_records(book, cut::RECORDS))
+            })
+        },
+        |request, issuer, book| {
+            unless_refused(judge(request, issuer, book), || {
+                judge(request, issuer, records_within(book, cut::BOOK_OCTETS))
+            })
+        },
+        // Keeps a record number in one octet.
+        |request, issuer, book| match judge(request, issuer, book) {
+            Answer::NotGranted { name, record } => Ok(Answer::NotGranted {
+                name,
+                record: record % 256,
+            }),
+            other => Ok(other),
+        },
+        // Keeps the places of two refusals where they were.
+        |request, issuer, book| match judge(request, issuer, book) {
+            Answer::Refused(Refusal::TooManyNames { .. }) => {
+                Ok(Answer::Refused(Refusal::TooManyNames { read: cut::NAMES }))
+            }
+            other => Ok(other),
+        },
+        |request, issuer, book| match judge(request, issuer, book) {
+            Answer::Refused(Refusal::TooManyRecords { .. }) => {
+                let read = cut::RECORDS;
+                Ok(Answer::Refused(Refusal::TooManyRecords { read }))
+            }
+            other => Ok(other),
+        },
+    ]);
+}
+
+fn all_are_found_out(wrong_ones: &[Judge]) {
+    for (number, judge) in wrong_ones.iter().enumerate() {
         let other = Other {
-            judge: Some(judge),
+            judge: Some(*judge),
             ..Other::NOTHING
         };
         let found = found_at_random(other);
         assert!(!found.is_empty(), "wrong judge {number}");
+    }
+}
+
+/// Refuses rightly, and answers wrongly to what is accepted.
+fn unless_refused(right: Answer, wrong: impl FnOnce() -> Answer) -> Result<Answer, Word> {
+    match right {
+        Answer::Refused(_) => Ok(right),
+        _ => Ok(wrong()),
     }
 }

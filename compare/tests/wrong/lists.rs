@@ -2,8 +2,9 @@
 
 use compare::against::Other;
 use compare::calls::PermittedIssuers;
-use compare::{permitted_issuers, Permitted, Refusal, Word};
+use compare::{permitted_issuers, read_book, read_request, Permitted, Refusal, Word};
 
+use super::cut::{self, first_names, first_records, names_within, records_within};
 use super::found_at_random;
 
 #[test]
@@ -49,12 +50,71 @@ fn wrong_lists_are_found_out() {
             Ok(answer)
         },
     ];
-    for (number, permitted_issuers) in wrong_ones.into_iter().enumerate() {
+    all_are_found_out(&wrong_ones);
+}
+
+#[test]
+fn lists_that_leave_out_what_stands_far_behind_are_found_out() {
+    all_are_found_out(&[
+        |request, book, buffer| {
+            let request = match is_refused(request, book) {
+                true => request,
+                false => first_names(request, cut::NAMES),
+            };
+            Ok(permitted_issuers(request, book, buffer))
+        },
+        |request, book, buffer| {
+            let request = match is_refused(request, book) {
+                true => request,
+                false => names_within(request, cut::REQUEST_OCTETS),
+            };
+            Ok(permitted_issuers(request, book, buffer))
+        },
+        |request, book, buffer| {
+            let book = match is_refused(request, book) {
+                true => book,
+                false => first_records(book, cut::RECORDS),
+            };
+            Ok(permitted_issuers(request, book, buffer))
+        },
+        |request, book, buffer| {
+            let book = match is_refused(request, book) {
+                true => book,
+                false => records_within(book, cut::BOOK_OCTETS),
+            };
+            Ok(permitted_issuers(request, book, buffer))
+        },
+        // Keeps the count in one octet.
+        |request, book, buffer| match permitted_issuers(request, book, buffer) {
+            Permitted::List { count, octets } => Ok(Permitted::List {
+                count: count % 256,
+                octets,
+            }),
+            other => Ok(other),
+        },
+        // Keeps the octets in 15 bits.
+        |request, book, buffer| match permitted_issuers(request, book, buffer) {
+            Permitted::List { count, octets } => Ok(Permitted::List {
+                count,
+                octets: octets % 32_768,
+            }),
+            other => Ok(other),
+        },
+    ]);
+}
+
+fn all_are_found_out(wrong_ones: &[PermittedIssuers]) {
+    for (number, permitted_issuers) in wrong_ones.iter().enumerate() {
         let other = Other {
-            permitted_issuers: Some(permitted_issuers),
+            permitted_issuers: Some(*permitted_issuers),
             ..Other::NOTHING
         };
         let found = found_at_random(other);
         assert!(!found.is_empty(), "wrong list {number}");
     }
+}
+
+/// Whether the request or the book is, whatever the room.
+fn is_refused(request: &[u8], book: &[u8]) -> bool {
+    read_request(request).is_err() || read_book(book).is_err()
 }

@@ -1,5 +1,6 @@
 //! That comparing finds an implementation out that is wrong in one thing.
 
+mod cut;
 mod judges;
 mod lines;
 mod lists;

@@ -47,11 +47,11 @@ Packed-answers =
     (packedJudgement Permitted ≡ 0)
     × (packedJudgement (Refused RequestTooLong) ≡ 1)
     × (packedJudgement (Refused (BadName (record { 0 = 7 }))) ≡ 1794)
-    × (packedJudgement (Refused TooManyNames) ≡ 25603)
+    × (packedJudgement (Refused TooManyNames) ≡ 64003)
     × (packedJudgement (Refused BadIssuer) ≡ 4)
     × (packedJudgement (Refused BookTooLong) ≡ 5)
     × (packedJudgement (Refused (BadRecord (record { 0 = 4 }))) ≡ 1030)
-    × (packedJudgement (Refused TooManyRecords) ≡ 65543)
+    × (packedJudgement (Refused TooManyRecords) ≡ 262151)
     × (packedJudgement (UnknownCritical (denial 2 5)) ≡ 21474837012)
     × (packedJudgement (NotGranted (denial 1 3)) ≡ 12884902165)
     × (packedIssuers (ListRefused (BadName (record { 0 = 7 }))) ≡ 1794)
@@ -63,3 +63,22 @@ Packed-answers =
     × (packedLine (LineRefused BadLine) ≡ 9)
     × (packedLine (LineRefused LineTooLong) ≡ 10)
     × (packedLine (LineRefused BadData) ≡ 11)
+
+-- An answer is packed as the word x. Taken apart again, x gives the number n, a and b, and 0 in field c.
+abbrev pub PackedAs : ℕ → ℕ → ℕ → ℕ → ℕ → Type 0
+PackedAs answer x n a b = (answer ≡ x) × (numberIn x ≡ n) × (fieldA x ≡ a) × (fieldB x ≡ b) × (fieldC x ≡ 0)
+
+-- No field cuts off a number that the limits allow. The largest ones, worked out by hand: name 249, record 1,023, the places 250 and 1,024, a
+-- list of 1,024 names, 49,152 octets of a list, 16,384 octets of a line.
+abbrev pub Largest-answers : Type 0
+Largest-answers =
+    PackedAs (packedJudgement (UnknownCritical (denial 249 1023))) 4393751607572 20 249 1023
+    × PackedAs (packedJudgement (NotGranted (denial 249 1023))) 4393751607573 21 249 1023
+    × PackedAs (packedJudgement (Refused (BadName (record { 0 = 249 })))) 63746 2 249 0
+    × PackedAs (packedJudgement (Refused TooManyNames)) 64003 3 250 0
+    × PackedAs (packedJudgement (Refused (BadRecord (record { 0 = 1023 })))) 261894 6 1023 0
+    × PackedAs (packedJudgement (Refused TooManyRecords)) 262151 7 1024 0
+    × PackedAs (packedIssuers (Listed 1024 49152)) 4398059094047 31 49152 1024
+    × PackedAs (packedIssuers (ListRefused (NoRoom 49152))) 12582920 8 49152 0
+    × PackedAs (packedLine (Length 16384)) 4194304 0 16384 0
+    × PackedAs (packedLine (LineRefused (NoRoom 16384))) 4194312 8 16384 0

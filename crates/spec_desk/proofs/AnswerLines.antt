@@ -1,7 +1,7 @@
 -- By computing: the lines that the requirements print, and the line when there is a book.
 use mathlib.Core.Path.{refl}
 use mathlib.Core.List.{append-assoc}
-use Rattle.spec_limits.specs.Limits.{maxRecords}
+use Rattle.spec_limits.specs.Limits.{maxNames, maxRecords}
 use Rattle.spec_refusal.specs.Refusal.{number, place}
 use Rattle.spec_octets.specs.WrittenDecimal.{decimal}
 use Rattle.spec_desk.specs.Lines.{answerText, deskLine}
@@ -13,8 +13,8 @@ unfolding answerText
 line-words = (λ k r. simp append-assoc, λ k r. simp append-assoc, λ r. simp append-assoc)
 
 pub line-examples : Line-examples
-unfolding answerText decimal number place deskLine maxRecords
-line-examples = (refl, refl, refl, refl, refl, refl, refl, λ request issuer book. refl)
+unfolding answerText decimal number place deskLine maxNames maxRecords
+line-examples = (refl, refl, refl, refl, refl, refl, refl, refl, refl, λ request issuer book. refl)
 
 pub judged : Judged
 unfolding deskLine

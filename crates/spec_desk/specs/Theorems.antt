@@ -12,7 +12,7 @@ use Rattle.spec_octets.specs.Pieces.{split}
 use Rattle.spec_octets.specs.WrittenDecimal.{decimal}
 use Rattle.spec_refusal.specs.Refusal.{number, place}
 use Rattle.spec_refusal.specs.declared.Refusal.{Refusal}
-use Rattle.spec_refusal.specs.declared.Refusal.the-variants.{BadIssuer, BadRecord, TooManyRecords}
+use Rattle.spec_refusal.specs.declared.Refusal.the-variants.{TooManyNames, BadIssuer, BadRecord, TooManyRecords}
 use Rattle.spec_rule.specs.declared.Judgement.{Judgement}
 use Rattle.spec_rule.specs.declared.Judgement.the-variants.{Permitted, UnknownCritical, NotGranted, Refused}
 use Rattle.spec_rule.specs.Edges.{ca1, ca2, wholeBook}
@@ -51,9 +51,11 @@ Line-examples =
     × (judgementLine (NotGranted (denial 1 3)) ≡ text "verdict 21 name 1 record 3\n")
     × (judgementLine (UnknownCritical (denial 0 2)) ≡ text "verdict 20 name 0 record 2\n")
     × (judgementLine (UnknownCritical (denial 99 255)) ≡ text "verdict 20 name 99 record 255\n")
+    × (judgementLine (NotGranted (denial 249 1023)) ≡ text "verdict 21 name 249 record 1023\n")
     × (judgementLine (Refused (BadRecord (record { 0 = 4 }))) ≡ text "refused 6 at 4\n")
     × (judgementLine (Refused BadIssuer) ≡ text "refused 4 at 0\n")
-    × (judgementLine (Refused TooManyRecords) ≡ text "refused 7 at 256\n")
+    × (judgementLine (Refused TooManyNames) ≡ text "refused 3 at 250\n")
+    × (judgementLine (Refused TooManyRecords) ≡ text "refused 7 at 1024\n")
     × ((request issuer book : List ℕ) → deskLine false request issuer book ≡ text "no book\n")
 
 -- Lines from the contents of the files: the requirements' whole case, a permitted request, one refusal for each file, and no book.

@@ -14,17 +14,17 @@ maxIssuerOctets = 253
 
 -- A request: its octets, and how many names it holds.
 unfoldable pub maxRequestOctets : ℕ
-maxRequestOctets = 8192
+maxRequestOctets = 16384
 
 unfoldable pub maxNames : ℕ
-maxNames = 100
+maxNames = 250
 
 -- The records to decide by (the requirements' "book"): their octets, and how many there are.
 unfoldable pub maxBookOctets : ℕ
-maxBookOctets = 32768
+maxBookOctets = 49152
 
 unfoldable pub maxRecords : ℕ
-maxRecords = 256
+maxRecords = 1024
 
 -- CAA data when it is written as a line or read from one, and the line itself.
 unfoldable pub maxDataOctets : ℕ

@@ -4,5 +4,5 @@ use Rattle.spec_limits.specs.Limits.{maxLabelOctets, maxNameOctets, maxI
 
 abbrev pub Limits-printed : Type 0
 Limits-printed =
-    (maxLabelOctets ≡ 63) × (maxNameOctets ≡ 255) × (maxIssuerOctets ≡ 253) × (maxRequestOctets ≡ 8192) × (maxNames ≡ 100)
-    × (maxBookOctets ≡ 32768) × (maxRecords ≡ 256) × (maxDataOctets ≡ 4096) × (maxLineOctets ≡ 16384) × (maxTagOctets ≡ 255)
+    (maxLabelOctets ≡ 63) × (maxNameOctets ≡ 255) × (maxIssuerOctets ≡ 253) × (maxRequestOctets ≡ 16384) × (maxNames ≡ 250)
+    × (maxBookOctets ≡ 49152) × (maxRecords ≡ 1024) × (maxDataOctets ≡ 4096) × (maxLineOctets ≡ 16384) × (maxTagOctets ≡ 255)

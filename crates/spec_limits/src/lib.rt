@@ -5,13 +5,13 @@ pub const MAX_NAME_OCTETS: usize = 255;
 
 pub const MAX_ISSUER_OCTETS: usize = 253;
 
-pub const MAX_REQUEST_OCTETS: usize = 8192;
+pub const MAX_REQUEST_OCTETS: usize = 16384;
 
-pub const MAX_NAMES: usize = 100;
+pub const MAX_NAMES: usize = 250;
 
-pub const MAX_BOOK_OCTETS: usize = 32768;
+pub const MAX_BOOK_OCTETS: usize = 49152;
 
-pub const MAX_RECORDS: usize = 256;
+pub const MAX_RECORDS: usize = 1024;
 
 pub const MAX_DATA_OCTETS: usize = 4096;
 

@@ -64,13 +64,17 @@ bookEdges =
     ∷ (caaOctets (0 ∷ []) ++ (1 ∷ 97 ∷ []), badRecord 0)
     ∷ (caaOctets (0 ∷ 1 ∷ text "t") ++ caaOctets (0 ∷ []) ++ (1 ∷ 97 ∷ []), badRecord 1)
     ∷ (caaOctets (0 ∷ 1 ∷ text "t") ++ (1 ∷ 97 ∷ []), badRecord 1)
-    -- 256 records, and any octets after them.
+    -- 1,024 records, and any octets after them. A malformed 1,024th record. 256 and 257 records are within the limit.
+    ∷ (records 1024, none)
+    ∷ (records 1025, some TooManyRecords)
+    ∷ (records 1024 ++ (64 ∷ []), some TooManyRecords)
+    ∷ (records 1023 ++ (64 ∷ []), badRecord 1023)
     ∷ (records 256, none)
-    ∷ (records 257, some TooManyRecords)
-    ∷ (records 256 ++ (64 ∷ []), some TooManyRecords)
-    ∷ (records 255 ++ (64 ∷ []), badRecord 255)
-    -- 32,768 octets, and one more: one record of the root that fills the book.
+    ∷ (records 257, none)
+    -- 49,152 octets, and one more: one record of the root that fills the book. 32,768 and 32,769 octets are within the limit.
+    ∷ (ofOctets 49152, none)
+    ∷ (ofOctets 49153, some BookTooLong)
+    ∷ (replicate 49152 255, badRecord 0)
     ∷ (ofOctets 32768, none)
-    ∷ (ofOctets 32769, some BookTooLong)
-    ∷ (replicate 32768 255, badRecord 0)
+    ∷ (ofOctets 32769, none)
     ∷ []

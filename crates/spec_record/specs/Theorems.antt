@@ -55,8 +55,8 @@ Record-example =
 abbrev pub Record-is-its-fields : Type 0
 Record-is-its-fields = Reads resourceRecord wireRecord GoodRecord
 
--- A book is accepted with the records rs exactly when its octets are the wire forms of rs, one after the other, with at most 256 valid
--- records and at most 32,768 octets.
+-- A book is accepted with the records rs exactly when its octets are the wire forms of rs, one after the other, with at most 1,024 valid
+-- records and at most 49,152 octets.
 abbrev pub Book-is-its-records : Type 0
 Book-is-its-records =
     (b : List ℕ) → Octets b → (rs : List Record) →

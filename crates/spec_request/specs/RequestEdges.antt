@@ -19,9 +19,9 @@ letters n = n ∷ replicate n (code "a")
 abbrev pub names : ℕ → List ℕ
 names n = flatten (replicate n (1 ∷ 97 ∷ 0 ∷ []))
 
--- A request as long as it may be.
-abbrev pub longest : List ℕ
-longest = flatten (replicate 32 (letters 63 ++ letters 63 ++ letters 63 ++ letters 61 ++ (0 ∷ []))) ++ letters 30 ++ (0 ∷ [])
+-- So many names of 255 octets, and a name of one label of so many letters.
+abbrev pub longNames : ℕ → ℕ → List ℕ
+longNames n k = flatten (replicate n (letters 63 ++ letters 63 ++ letters 63 ++ letters 61 ++ (0 ∷ []))) ++ letters k ++ (0 ∷ [])
 
 abbrev pub requestEdges : List (List ℕ × Option Refusal)
 requestEdges =
@@ -53,11 +53,19 @@ requestEdges =
     ∷ (letters 63 ++ letters 63 ++ letters 63 ++ letters 62 ++ (0 ∷ []), badName 0)
     ∷ ((1 ∷ 42 ∷ []) ++ letters 63 ++ letters 63 ++ letters 63 ++ letters 59 ++ (0 ∷ []), none)
     ∷ ((1 ∷ 42 ∷ []) ++ letters 63 ++ letters 63 ++ letters 63 ++ letters 60 ++ (0 ∷ []), badName 0)
-    -- 100 names, and any octets after them.
+    -- 250 names, and any octets after them. A malformed 250th name. 100 and 101 names are within the limit.
+    ∷ (names 250, none)
+    ∷ (names 251, some TooManyNames)
+    ∷ (names 250 ++ (0 ∷ []), some TooManyNames)
+    ∷ (names 249 ++ (0 ∷ []), badName 249)
     ∷ (names 100, none)
-    ∷ (names 101, some TooManyNames)
-    ∷ (names 100 ++ (0 ∷ []), some TooManyNames)
-    -- 8,192 octets (32 names of 255 octets and one of 32), and one octet more.
-    ∷ (longest, none)
-    ∷ (longest ++ (0 ∷ []), some RequestTooLong)
+    ∷ (names 101, none)
+    -- 16,384 octets (64 names of 255 octets and one of 64), and one octet more, in the last name or after it.
+    ∷ (longNames 64 62, none)
+    ∷ (longNames 64 63, some RequestTooLong)
+    ∷ (longNames 64 62 ++ (0 ∷ []), some RequestTooLong)
+    ∷ (replicate 16384 0, badName 0)
+    -- 8,192 and 8,193 octets are within the limit.
+    ∷ (longNames 32 30, none)
+    ∷ (longNames 32 31, none)
     ∷ []

@@ -28,8 +28,8 @@ Wildcard-form =
 abbrev pub Requested-name-is-its-labels : Type 0
 Requested-name-is-its-labels = Reads requestedName wire GoodRequested
 
--- A request is accepted with the names ns exactly when its octets are the wire forms of ns, one after the other, with 1 to 100 valid names
--- and at most 8,192 octets.
+-- A request is accepted with the names ns exactly when its octets are the wire forms of ns, one after the other, with 1 to 250 valid names
+-- and at most 16,384 octets.
 abbrev pub Request-is-its-names : Type 0
 Request-is-its-names =
     (s : List ℕ) → Octets s → (ns : List Name) →

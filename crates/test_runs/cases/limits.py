@@ -1,5 +1,5 @@
 """Both sides of every limit of a request, an issuer name and a book, and every way to break their rules. Quoted: the requirements."""
-from .forms import ANYONE, PERMITTED, caa, issue, judge, labels, listed, name, not_granted, record, refused
+from .forms import ANYONE, PERMITTED, caa, critical, issue, judge, labels, listed, name, not_granted, record, refused
 
 CA1 = "ca1.example.net"
 X = name("x")
@@ -37,21 +37,31 @@ for title, octets, rr in ("a name of 255", at_most, 0), ("a star name of 255", s
     cases.append(judge(f"looked up: {title}", octets, "x.example", book, not_granted(0, rr)))
     cases.append(listed(f"looked up: {title}, list", octets, book, [CA1]))
 
-# "At most 100 names": "octets remain after 100 good names", place 100
+# "250 names"; octets that remain after 250 good ones are refusal 3 at 250
 book = issue("z", CA1)
+request("250 names", X * 250, PERMITTED)
+request("251 names", X * 251, refused(3, 250))
+request("an octet after 250 names", X * 250 + b"\x40", refused(3, 250))
+request("a bad 250th name", X * 249 + b"\0", refused(2, 249))
+request("a bad name after 250", X * 250 + b"\0", refused(3, 250))
+# 100 names were the limit before
 request("100 names", X * 100, PERMITTED)
-request("101 names", X * 101, refused(3, 100))
-request("an octet after 100 names", X * 100 + b"\x40", refused(3, 100))
-request("a bad 100th name", X * 99 + b"\0", refused(2, 99))
-request("a bad name after 100", X * 100 + b"\0", refused(3, 100))
-cases.append(judge("request: the 100th name decides", X * 99 + name("z"), "x.example", book, not_granted(99, 0)))
-cases.append(listed("request: the 100th name decides, list", X * 99 + name("z"), book, [CA1]))
+request("101 names", X * 101, PERMITTED)
+for count in 101, 250:
+    title, octets = f"request: name {count - 1} decides", X * (count - 1) + name("z")
+    cases.append(judge(title, octets, "x.example", book, not_granted(count - 1, 0)))
+    cases.append(listed(f"{title}, list", octets, book, [CA1]))
 
-# "8,192 octets": 32 names of 255 and one of 32, or of 33
+# "16,384 request octets": 64 names of 255 and one of 64, or of 65
+request("16,384 octets", at_most * 64 + labels(62), PERMITTED)
+request("16,385 octets", at_most * 64 + labels(63), refused(1, 0))
+cases.append(judge("request: 16,384 zeros", b"\0" * 16384, CA1, b"", refused(2, 0)))
+cases.append(listed("request: 16,385 zeros", b"\0" * 16385, b"", refused(1, 0)))
+# 8,192 octets were the limit before: 32 names of 255 and one of 32, or of 33
 request("8,192 octets", at_most * 32 + labels(30), PERMITTED)
-request("8,193 octets", at_most * 32 + labels(31), refused(1, 0))
-request("8,192 zeros", b"\0" * 8192, refused(2, 0))
-request("8,193 zeros", b"\0" * 8193, refused(1, 0))
+request("8,193 octets", at_most * 32 + labels(31), PERMITTED)
+# 251 names of 66 are over both limits
+cases.append(judge("request: 251 names in 16,566 octets", labels(62, 1) * 251, CA1, b"", refused(1, 0)))
 
 # "request empty, or a name breaks a rule": "name number (0 if empty)"
 request("empty", b"", refused(2, 0))
@@ -122,24 +132,44 @@ last = issue("x", CA1)
 
 book_of("empty", b"", PERMITTED)  # "An empty book is good."
 
-# "At most 256 records": "octets remain after 256 good records", place 256
+# "1,024 records"; octets that remain after 1,024 good ones are refusal 7 at 1,024
+least = record("", 1, 1, b"")  # 11 octets
+book_of("1,024 records", least * 1023 + last, not_granted(0, 1023))
+book_of("1,025 records", least * 1024 + last, refused(7, 1024))
+book_of("1,024 CAA records", caa("y", 0, "issue") * 1024, PERMITTED)
+cases.append(judge("book: 1,025 CAA records", X, CA1, caa("y", 0, "issue") * 1025, refused(7, 1024)))
+book_of("an octet after 1,024 records", least * 1024 + b"\0", refused(7, 1024))
+book_of("a bad 1,024th record", least * 1023 + b"\x40", refused(6, 1023))
+book_of("a bad record after 1,024", least * 1024 + b"\x40", refused(7, 1024))
+cases.append(judge("book: record 1,023 is critical", X, CA1, least * 1023 + caa("x", 128, "tbs"), critical(0, 1023)))
+cases.append(listed("book: record 1,023 is critical, list", X, last + least * 1022 + caa("x", 128, "tbs"), []))
+# 256 records were the limit before
 book_of("256 records", txt * 255 + last, not_granted(0, 255))
-book_of("257 records", txt * 256 + last, refused(7, 256))
-book_of("256 CAA records", caa("y", 0, "issue") * 256, PERMITTED)
-book_of("257 CAA records", caa("y", 0, "issue") * 257, refused(7, 256))
-book_of("an octet after 256 records", txt * 256 + b"\0", refused(7, 256))
-book_of("a bad 256th record", txt * 255 + b"\x40", refused(6, 255))
-book_of("a bad record after 256", txt * 256 + b"\x40", refused(7, 256))
+book_of("257 records", txt * 256 + last, not_granted(0, 256))
+book_of("257 CAA records", caa("y", 0, "issue") * 257, PERMITTED)
 
-# "32,768 octets": a record of the root that fills the book up to the last one
-filler = 32768 - len(last) - 11
-book_of("32,768 octets", record("", 16, 1, b"a" * filler) + last, not_granted(0, 1))
-book_of("32,769 octets", record("", 16, 1, b"a" * (filler + 1)) + last, refused(5, 0))
-book_of("32,768 octets, badly laid out", b"\xff" * 32768, refused(6, 0))
-book_of("32,769 octets, badly laid out", b"\xff" * 32769, refused(5, 0))
-# the largest request and the largest book at once
-cases.append(judge("the largest request and book", labels(63, 63, 63, 61) * 32 + labels(30), CA1,
-                   record("", 16, 1, b"a" * filler) + last, PERMITTED))
+
+def of_octets(n):
+    """A book of n octets: a record of the root that fills it up to the last one."""
+    return record("", 16, 1, b"a" * (n - len(last) - 11)) + last
+
+
+# "49,152 book octets"
+cases.append(judge("book: 49,152 octets", X, "x.example", of_octets(49152), not_granted(0, 1)))
+cases.append(judge("book: 49,153 octets", X, CA1, of_octets(49153), refused(5, 0)))
+cases.append(judge("book: 49,152 octets, badly laid out", X, CA1, b"\xff" * 49152, refused(6, 0)))
+cases.append(listed("book: 49,153 octets, badly laid out", X, b"\xff" * 49153, refused(5, 0)))
+# 32,768 octets were the limit before
+book_of("32,769 octets", of_octets(32769), not_granted(0, 1))
+
+# All four limits at once, and the last name is governed by the last record. 250 names of 65 octets take 16,250, and 134 of them have one
+# octet more; 1,024 records of 48 octets.
+full = labels(62, 1) * 133 + labels(63) * 116 + labels(62, 1, of="b")
+one, other = "ca01.authorities.example.net", "ca02.authorities.example.net"
+full_book = issue("y", one) * 1023 + issue("b", other)
+assert (len(full), len(full_book)) == (16384, 49152)
+cases.append(judge("the largest request and book", full, one, full_book, not_granted(249, 1023)))
+cases.append(listed("the largest request and book, list", full, full_book, [other]))
 
 # "Owner labels may hold any octets; a length octet above 63 is a fault; an owner is at most 255 octets and may be the root."
 book_of("an owner's label of 63", record(labels(63), 16, 1, b"") + last, not_granted(0, 1))
@@ -177,7 +207,7 @@ book_of("a tag that fills the data", record("y", 257, 1, b"\0\5issue") + last, n
 book_of("a tag of 255", caa("y", 128, "a" * 255) + last, not_granted(0, 1))
 book_of("data of CAA's least length", record("y", 257, 1, b"\0\1i") + last, not_granted(0, 1))
 # "Reading stops at the first fault."
-book_of("a fault before 257 records", b"\x40" + txt * 256, refused(6, 0))
+book_of("a fault before 1,025 records", b"\x40" + least * 1024, refused(6, 0))
 book_of("two faults", txt + record("y", 257, 1, b"") + record("y", 257, 1, b""), refused(6, 1))
 cut, wrong = txt[:5], record("y", 257, 1, b"\0")
 book_of("wrong CAA data, then a record cut off", wrong + cut, refused(6, 0))

@@ -43,17 +43,22 @@ who("room exactly", "x", book, [A, "bb.example"], room=21)
 who("room one less", "x", book, refused(8, 21), room=20)
 who("room for the first name", "x", book, refused(8, 21), room=10)
 who("room of 0", "x", book, refused(8, 21), room=0)
-who("much room", "x", book, [A, "bb.example"], room=33000)
+who("much room", "x", book, [A, "bb.example"], room=50000)
 who("anyone, room of 0", "y", book, ANYONE, room=0)
-who("anyone, much room", "y", book, ANYONE, room=33000)
+who("anyone, much room", "y", book, ANYONE, room=50000)
 who("an empty list, room of 0", "x", issues("x", ";"), [], room=0)
 
-# A full book, each record with a name of its own: 256 entries of 14 octets. "A buffer as long as the book is always enough."
-many = [f"ca{k:03}.example" for k in range(256)]
+# A full book, each record with a name of its own: 1,024 records of 48 octets, and as many entries of 29.
+many = [f"ca{k:04}.authority.example.net" for k in range(1024)]
 book = issues("x", *many)
-who("256 names, room exactly", "x", book, many, room=3584)
-who("256 names, room one less", "x", book, refused(8, 3584), room=3583)
-who("256 names, room of the book", "x", book, many, room=len(book))
+assert len(book) == 49152
+who("1,024 names, room exactly", "x", book, many, room=29696)
+who("1,024 names, room one less", "x", book, refused(8, 29696), room=29695)
+# As many as a book could hold before, and one more: entries of 14 octets. "A buffer as long as the book is always enough."
+many = [f"ca{k:03}.example" for k in range(257)]
+who("256 names, room exactly", "x", issues("x", *many[:256]), many[:256], room=3584)
+book = issues("x", *many)
+who("257 names, room of the book", "x", book, many, room=len(book))
 # the longest name fills its length octet: 253
 longest = ".".join(["a" * 63] * 3 + ["a" * 61])
 who("the longest name, room exactly", "x", issues("x", longest), [longest], room=254)

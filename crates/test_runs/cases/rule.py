@@ -173,9 +173,9 @@ cases += asked("the same name twice", names("a.example", "A.Example"), book, {CA
 bad_book = b"\x40"
 cases += [
     judge("order: request before issuer and book", b"\0", "", bad_book, refused(2, 0)),
-    judge("order: request's size first", b"\0" * 8193, "", bad_book, refused(1, 0)),
+    judge("order: request's size first", b"\0" * 16385, "", bad_book, refused(1, 0)),
     judge("order: issuer before book", WWW, "", bad_book, refused(4, 0)),
-    judge("order: issuer before the book's size", WWW, "", b"\0" * 32769, refused(4, 0)),
+    judge("order: issuer before the book's size", WWW, "", b"\0" * 49153, refused(4, 0)),
     judge("order: book", WWW, CA1, bad_book, refused(6, 0)),
     listed("order: list, request before book", b"\0", bad_book, refused(2, 0)),
     listed("order: list, book before room", WWW, issue("example.com", CA1) + bad_book, refused(6, 1), room=0),

@@ -15,7 +15,7 @@ ghost use Rattle.test_runs.specs.Answers.{answerOf, bufferAfter};
 const TITLE_ROOM: usize = 60;
 
 // More than any limit of a request, a book, a line or its data.
-const ROOM: usize = 33000;
+const ROOM: usize = 50000;
 
 const ISSUER_ROOM: usize = 300;
 
