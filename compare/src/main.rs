@@ -24,7 +24,10 @@ usage: compare cases          run the stored cases
        compare bench [TEXT]   measure the proved library's calls next to ours and to the
                               yardstick's, on every load or on those with TEXT in their
                               title; needs a build with --release, --features judge, list
-                              or lines and SPLINEPEARL_LIBS";
+                              or lines and SPLINEPEARL_LIBS
+       compare comparing      measure the proved library's comparison of two names next to
+                              Rust's; needs a build with --release, --features readers
+                              and SPLINEPEARL_LIBS";
 
 fn main() -> ExitCode {
     let arguments: Vec<OsString> = env::args_os().skip(1).collect();
@@ -43,6 +46,7 @@ fn main() -> ExitCode {
             Some(text) => run_bench(text),
             None => wrong_use(USAGE),
         },
+        [command] if command == "comparing" => run_comparing(),
         _ => wrong_use(USAGE),
     }
 }
@@ -124,6 +128,24 @@ fn run_bench(text: &str) -> ExitCode {
         0 => wrong_use(&format!("compare: no load has `{text}` in its title")),
         _ if good => ExitCode::SUCCESS,
         _ => ExitCode::FAILURE,
+    }
+}
+
+fn run_comparing() -> ExitCode {
+    let Some(readers) = library::LINKED.readers else {
+        return wrong_use("compare: built without --features readers");
+    };
+    if cfg!(debug_assertions) {
+        return wrong_use("compare: comparing needs a build with --release");
+    }
+    println!("{}", bench::comparing::heading());
+    let same = |one: &[u8], other: &[u8]| (readers.same)(one, other);
+    match bench::comparing::run(same, |compared| println!("{compared}")) {
+        Ok(()) => ExitCode::SUCCESS,
+        Err(difference) => {
+            println!("differ: {difference}");
+            ExitCode::FAILURE
+        }
     }
 }
 

@@ -36,7 +36,7 @@ pub struct Plan {
 
 /// Times of one call.
 #[derive(Clone, Copy, Debug, PartialEq)]
-struct Times {
+pub struct Times {
     median: Duration,
     least: Duration,
 }
@@ -82,7 +82,7 @@ impl fmt::Display for Measured {
 }
 
 impl Times {
-    fn of(mut times: Vec<Duration>, calls: usize) -> Times {
+    pub fn of(mut times: Vec<Duration>, calls: usize) -> Times {
         times.sort_unstable();
         let count = times.len();
         let median = (times[(count - 1) / 2] + times[count / 2]) / 2;
@@ -93,7 +93,7 @@ impl Times {
     }
 
     /// The ratio of the medians, and that of the least times.
-    fn over(&self, other: &Times) -> String {
+    pub fn over(&self, other: &Times) -> String {
         let ratio =
             |one: Duration, other: Duration| rounded(one.as_secs_f64() / other.as_secs_f64());
         let median = ratio(self.median, other.median);

@@ -3,6 +3,7 @@
 //! Nothing here says what is fast enough.
 
 mod books;
+pub mod comparing;
 mod judge;
 mod lines;
 mod list;

@@ -7,12 +7,12 @@ use mathlib.Core.List.{[], _∷_, map, map-append, nil≢cons, cons≢nil}
 use lib.ListN.{length, length-map}
 use Rattle.spec_limits.specs.Limits.{maxLabelOctets}
 use Rattle.spec_octets.specs.Lists.{All, all-nil, all-cons}
-use Rattle.spec_octets.specs.Octets.{lower, lowered, equalIgnoringCase}
+use Rattle.spec_octets.specs.Octets.{isUpper, lower, lowered, equalIgnoringCase}
 use Rattle.spec_octets.proofs.ListLaws.{alike}
 use Rattle.spec_octets.proofs.Classes.{letter-case}
 use Rattle.spec_octets.proofs.Texts.{whole-texts}
 use Rattle.spec_name.specs.Names.{Label, Name, wire, sameName, GoodName}
-use Rattle.spec_name.specs.Theorems.{Whole-names}
+use Rattle.spec_name.specs.Theorems.{Whole-names, Name-edges}
 use Rattle.spec_name.proofs.NameLaws.{GoodLabel, one-name}
 use Rattle.spec_octets.proofs.WholeLists.{not-a-tail, not-a-front}
 
@@ -69,3 +69,7 @@ whole-names = (
   not-a-tail lowered sameName same-labels,
   not-a-front lowered sameName same-labels,
 )
+
+pub name-edges : Name-edges
+unfolding equalIgnoringCase lower isUpper
+name-edges = (refl, refl)

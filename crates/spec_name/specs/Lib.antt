@@ -1,3 +1,4 @@
 pub mod Names
 pub mod Pinned
+pub mod NameEdges
 pub mod Theorems

@@ -8,6 +8,7 @@ use mathlib.Core.Option.{some}
 use lib.ListN.{length, drop, getD}
 use Rattle.spec_octets.specs.Octets.{text, lowered, equalIgnoringCase}
 use Rattle.spec_name.specs.Names.{Name, wire, name, sameName, ancestors, GoodName}
+use Rattle.spec_name.specs.NameEdges.{nameEdges}
 
 -- F.ISI.ARPA, the example of RFC 1035 section 4.1.4, octet by octet.
 abbrev pub Wire-example : Type 0
@@ -26,6 +27,12 @@ Whole-names =
     × ((m n : Name) → GoodName m → GoodName n → sameName m n ≡ equalIgnoringCase (wire m) (wire n))
     × ((p n : Name) → p ≢ [] → (sameName (p ++ n) n ≡ false) × (sameName n (p ++ n) ≡ false))
     × ((p n : Name) → p ≢ [] → (sameName (n ++ p) n ≡ false) × (sameName n (n ++ p) ≡ false))
+
+-- Each pair of the table is the same name or not, as the table says, and so is the pair of their wire forms.
+abbrev pub Name-edges : Type 0
+Name-edges =
+    (map (λ r. sameName (r .0) (r .1)) nameEdges ≡ map (λ r. r .2) nameEdges)
+    × (map (λ r. equalIgnoringCase (wire (r .0)) (wire (r .1))) nameEdges ≡ map (λ r. r .2) nameEdges)
 
 -- The search looks at X without its first 0, 1, 2, .. labels, as long as one label is left.
 abbrev pub Ancestors-by-labels-taken-off : Type 0

@@ -6,8 +6,8 @@ use mathlib.Core.Bool.{true, false≢true, and-eq-true-iff}
 use mathlib.Core.List.{List, [], _∷_, nil≢cons, cons≢nil}
 use lib.Dec.{eqb}
 use borrow.Author.Tests.{eqb-true, eq-eqb}
-use Rattle.spec_octets.specs.Octets.{same, lower, lowered, equalIgnoringCase}
-use Rattle.spec_octets.specs.Theorems.{Text-octets, Whole-texts}
+use Rattle.spec_octets.specs.Octets.{same, isUpper, lower, lowered, equalIgnoringCase}
+use Rattle.spec_octets.specs.Theorems.{Text-octets, Whole-texts, Text-edges}
 use Rattle.spec_octets.proofs.WholeLists.{not-a-tail, not-a-front}
 
 pub text-octets : Text-octets
@@ -29,3 +29,7 @@ same-text a b = same-equal (lowered a) (lowered b)
 
 pub whole-texts : Whole-texts
 whole-texts = (same-text, not-a-tail lower equalIgnoringCase same-text, not-a-front lower equalIgnoringCase same-text)
+
+pub text-edges : Text-edges
+unfolding equalIgnoringCase lower isUpper
+text-edges = refl

@@ -9,4 +9,5 @@ pub mod WrittenDecimal
 pub mod Grammar
 pub mod Buffer
 pub mod Pinned
+pub mod TextEdges
 pub mod Theorems

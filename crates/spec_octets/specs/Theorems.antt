@@ -12,6 +12,7 @@ use lib.Dec.{eqb}
 use lib.ListN.{length}
 use Rattle.spec_octets.specs.Lists.{any, all, select, isEmpty, begins, ends, flatten, All, Selects, Distinct}
 use Rattle.spec_octets.specs.Octets.{Octets, text, isDigit, isLetterOrDigit, isBlank, trimStart, trimEnd, isParameterOctet, lower, lowered, equalIgnoringCase}
+use Rattle.spec_octets.specs.TextEdges.{textEdges}
 use Rattle.spec_octets.specs.Label.{isLetterDigitHyphen, isLabel, isHostLabel, Host-label}
 use Rattle.spec_octets.specs.Pieces.{split, join}
 use Rattle.spec_octets.specs.Reader.{Reader, valueFrom, number, inOctets}
@@ -57,6 +58,10 @@ Whole-texts =
     ((a b : List ℕ) → (equalIgnoringCase a b ≡ true) ↔ (lowered a ≡ lowered b))
     × ((p a : List ℕ) → p ≢ [] → (equalIgnoringCase (p ++ a) a ≡ false) × (equalIgnoringCase a (p ++ a) ≡ false))
     × ((p a : List ℕ) → p ≢ [] → (equalIgnoringCase (a ++ p) a ≡ false) × (equalIgnoringCase a (a ++ p) ≡ false))
+
+-- Each pair of the table is the same text or not, as the table says.
+abbrev pub Text-edges : Type 0
+Text-edges = map (λ r. equalIgnoringCase (r .0) (r .1)) textEdges ≡ map (λ r. r .2) textEdges
 
 -- A label is what the production of RFC 8659 section 4.2 matches.
 abbrev pub Label-is-the-production : Type 0

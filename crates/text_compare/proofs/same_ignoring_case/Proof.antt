@@ -1,74 +1,62 @@
--- `same_ignoring_case` meets its contract. The loop's invariant: what is left of the texts is the same where they are.
-use Prim.Native.Nat.{_-_}
-use mathlib.Core.Path.{_≡_}
-use lib.ListN.{length, drop}
+-- `same_ignoring_case` meets its contract.
 use borrow.Author.Needs.{needs}
-use Rattle.spec_octets.specs.Octets.{equalIgnoringCase}
-use Rattle.text_compare.proofs.TextWalk.{lengths-first, same-turn, same-octet, same-stop, same-end}
+use Rattle.text_compare.proofs.TextWalk.{lengths-first, octet-differs}
 use Rattle.text_compare.proofs.same_ignoring_case.Statement.{statement}
 use Rattle.text_compare.proofs.same_ignoring_case.Tie as tie
 
-abbrev Inv-loop : tie.InvT-loop
-Inv-loop a b i₀ i = equalIgnoringCase a b ≡ equalIgnoringCase (drop i a) (drop i b)
-
-abbrev μ-loop : tie.MeasureT-loop
-μ-loop a b i₀ i = length a - i
-
-returns : tie.Need-returns Inv-loop μ-loop
+returns : tie.Need-returns
 returns c = search (needs, lengths-first)
 
-loop-holds : tie.Need-loop-holds Inv-loop μ-loop
-loop-holds c = search needs
+same-short-requires : tie.Need-same-short-requires
+same-short-requires c κs = search needs
 
-shared-slice-read-x : tie.Need-shared-slice-read-x Inv-loop μ-loop
-shared-slice-read-x c = search needs
+returns-2 : tie.Need-returns-2
+returns-2 c = search needs
 
-shared-slice-read-y : tie.Need-shared-slice-read-y Inv-loop μ-loop
-shared-slice-read-y c = search needs
+before-last-requires : tie.Need-before-last-requires
+before-last-requires c κs = search needs
 
-add-i : tie.Need-add-i Inv-loop μ-loop
-add-i c = search needs
+shared-slice-read-p : tie.Need-shared-slice-read-p
+shared-slice-read-p c = search needs
 
-loop-less : tie.Need-loop-less Inv-loop μ-loop
-loop-less c = search needs
+shared-slice-read-q : tie.Need-shared-slice-read-q
+shared-slice-read-q c = search needs
 
-loop-again : tie.Need-loop-again Inv-loop μ-loop
-loop-again c = search (needs, same-octet)
+same-blocks-requires : tie.Need-same-blocks-requires
+same-blocks-requires c κs = search needs
 
-to-lower-requires : tie.Need-to-lower-requires Inv-loop μ-loop
+returns-3 : tie.Need-returns-3
+returns-3 c = search needs
+
+to-lower-requires : tie.Need-to-lower-requires
 to-lower-requires c κs = search needs
 
-to-lower-requires-2 : tie.Need-to-lower-requires-2 Inv-loop μ-loop
+to-lower-requires-2 : tie.Need-to-lower-requires-2
 to-lower-requires-2 c κs = search needs
 
-returns-2 : tie.Need-returns-2 Inv-loop μ-loop
-returns-2 c = search (needs, same-stop)
+returns-4 : tie.Need-returns-4
+returns-4 c = search (needs, octet-differs)
 
-loop-less-2 : tie.Need-loop-less-2 Inv-loop μ-loop
-loop-less-2 c = search needs
+same-blocks-requires-2 : tie.Need-same-blocks-requires-2
+same-blocks-requires-2 c κs = search needs
 
-loop-again-2 : tie.Need-loop-again-2 Inv-loop μ-loop
-loop-again-2 c = search (needs, same-turn)
-
-returns-3 : tie.Need-returns-3 Inv-loop μ-loop
-returns-3 c = search (needs, same-end)
+returns-5 : tie.Need-returns-5
+returns-5 c = search needs
 
 pub same-ignoring-case-spec : {M : Type 1} → statement M
 same-ignoring-case-spec =
     tie.close
     (tie.spec
-    Inv-loop
-    μ-loop
     returns
-    loop-holds
-    shared-slice-read-x
-    shared-slice-read-y
-    add-i
-    loop-less
-    loop-again
+    same-short-requires
+    returns-2
+    before-last-requires
+    shared-slice-read-p
+    shared-slice-read-q
+    same-blocks-requires
+    returns-3
     to-lower-requires
     to-lower-requires-2
-    returns-2
-    loop-less-2
-    loop-again-2
-    returns-3)
+    returns-4
+    same-blocks-requires-2
+    returns-5)

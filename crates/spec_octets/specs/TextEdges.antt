@@ -1,0 +1,71 @@
+-- Pairs of texts, each with whether they are the same text when letter case is ignored. Worked out by hand.
+use Prim.Native.Nat.{ℕ}
+use mathlib.Core.Bool.{Bool, true, false}
+use mathlib.Core.List.{List, [], _∷_}
+use Rattle.spec_octets.specs.Octets.{text}
+
+abbrev pub textEdges : List (List ℕ × List ℕ × Bool)
+textEdges =
+    -- The same: two empty texts, and texts that differ only in letter case.
+    (text "", text "", true)
+    ∷ (text "issue", text "ISSUE", true)
+    ∷ (text "IsSuE", text "iSsUe", true)
+    ∷ (text "abcdefghijklmnopqrstuvwxyz", text "ABCDEFGHIJKLMNOPQRSTUVWXYZ", true)
+    ∷ (74 ∷ [], 106 ∷ [], true)
+    -- Octets that differ by 32, as A and a do, but are not the two cases of a letter: @ and `, [ and {, 13 and the hyphen.
+    ∷ (text "@", text "`", false)
+    ∷ (text "[", text "{", false)
+    ∷ (text "]", text "}", false)
+    ∷ (text "^", text "~", false)
+    ∷ (13 ∷ [], 45 ∷ [], false)
+    ∷ (92 ∷ [], 124 ∷ [], false)
+    ∷ (95 ∷ [], 127 ∷ [], false)
+    ∷ (10 ∷ [], 42 ∷ [], false)
+    ∷ (16 ∷ [], 48 ∷ [], false)
+    ∷ (0 ∷ [], 32 ∷ [], false)
+    ∷ (193 ∷ [], 225 ∷ [], false)
+    -- A text and its beginning or its end, in both orders.
+    ∷ (text "ca1.example.net", text "notca1.example.net", false)
+    ∷ (text "notca1.example.net", text "ca1.example.net", false)
+    ∷ (text "ca1.example.net", text "ca1.example.net0", false)
+    ∷ (text "ca1.example.net0", text "ca1.example.net", false)
+    ∷ (text "issue", text "issuewild", false)
+    ∷ (text "issuewild", text "issue", false)
+    ∷ (text "", text "a", false)
+    ∷ (text "a", text "", false)
+    -- Texts of 15, 16, 17, 31, 32 and 33 octets. Each: the same in upper case; another first octet, last octet and octet before the
+    -- last; another octet on each side of the sixteenth, counted from either end.
+    ∷ (text "abcdefghijklmno", text "ABCDEFGHIJKLMNO", true)
+    ∷ (text "abcdefghijklmno", text "-bcdefghijklmno", false)
+    ∷ (text "abcdefghijklmno", text "abcdefghijklm-O", false)
+    ∷ (text "abcdefghijklmno", text "ABCDEFGHIJKLMN-", false)
+    ∷ (text "abcdefghijklmnop", text "ABCDEFGHIJKLMNOP", true)
+    ∷ (text "abcdefghijklmnop", text "-bcdefghijklmnop", false)
+    ∷ (text "abcdefghijklmnop", text "ABCDEFGHIJKLMN-p", false)
+    ∷ (text "abcdefghijklmnop", text "abcdefghijklmno-", false)
+    ∷ (text "abcdefghijklmnopq", text "ABCDEFGHIJKLMNOPQ", true)
+    ∷ (text "abcdefghijklmnopq", text "-bcdefghijklmnopq", false)
+    ∷ (text "abcdefghijklmnopq", text "a-CDEFGHIJKLMNOPQ", false)
+    ∷ (text "abcdefghijklmnopq", text "abcdefghijklmno-Q", false)
+    ∷ (text "abcdefghijklmnopq", text "ABCDEFGHIJKLMNOP-", false)
+    ∷ (text "abcdefghijklmnopqrstuvwxyz01234", text "ABCDEFGHIJKLMNOPQRSTUVWXYZ01234", true)
+    ∷ (text "abcdefghijklmnopqrstuvwxyz01234", text "-bcdefghijklmnopqrstuvwxyz01234", false)
+    ∷ (text "abcdefghijklmnopqrstuvwxyz01234", text "ABCDEFGHIJKLMN-pqrstuvwxyz01234", false)
+    ∷ (text "abcdefghijklmnopqrstuvwxyz01234", text "abcdefghijklmno-QRSTUVWXYZ01234", false)
+    ∷ (text "abcdefghijklmnopqrstuvwxyz01234", text "ABCDEFGHIJKLMNOP-rstuvwxyz01234", false)
+    ∷ (text "abcdefghijklmnopqrstuvwxyz01234", text "abcdefghijklmnopqrstuvwxyz012-4", false)
+    ∷ (text "abcdefghijklmnopqrstuvwxyz01234", text "ABCDEFGHIJKLMNOPQRSTUVWXYZ0123-", false)
+    ∷ (text "abcdefghijklmnopqrstuvwxyz012345", text "ABCDEFGHIJKLMNOPQRSTUVWXYZ012345", true)
+    ∷ (text "abcdefghijklmnopqrstuvwxyz012345", text "-bcdefghijklmnopqrstuvwxyz012345", false)
+    ∷ (text "abcdefghijklmnopqrstuvwxyz012345", text "abcdefghijklmno-QRSTUVWXYZ012345", false)
+    ∷ (text "abcdefghijklmnopqrstuvwxyz012345", text "ABCDEFGHIJKLMNOP-rstuvwxyz012345", false)
+    ∷ (text "abcdefghijklmnopqrstuvwxyz012345", text "ABCDEFGHIJKLMNOPQRSTUVWXYZ0123-5", false)
+    ∷ (text "abcdefghijklmnopqrstuvwxyz012345", text "abcdefghijklmnopqrstuvwxyz01234-", false)
+    ∷ (text "abcdefghijklmnopqrstuvwxyz0123456", text "ABCDEFGHIJKLMNOPQRSTUVWXYZ0123456", true)
+    ∷ (text "abcdefghijklmnopqrstuvwxyz0123456", text "-bcdefghijklmnopqrstuvwxyz0123456", false)
+    ∷ (text "abcdefghijklmnopqrstuvwxyz0123456", text "abcdefghijklmno-QRSTUVWXYZ0123456", false)
+    ∷ (text "abcdefghijklmnopqrstuvwxyz0123456", text "ABCDEFGHIJKLMNOP-rstuvwxyz0123456", false)
+    ∷ (text "abcdefghijklmnopqrstuvwxyz0123456", text "abcdefghijklmnopq-STUVWXYZ0123456", false)
+    ∷ (text "abcdefghijklmnopqrstuvwxyz0123456", text "abcdefghijklmnopqrstuvwxyz01234-6", false)
+    ∷ (text "abcdefghijklmnopqrstuvwxyz0123456", text "ABCDEFGHIJKLMNOPQRSTUVWXYZ012345-", false)
+    ∷ []
