@@ -62,8 +62,14 @@ fn without_a_library_there_is_nothing_to_compare() {
 #[cfg(any(debug_assertions, not(any(feature = "judge", feature = "lines"))))]
 #[test]
 fn nothing_is_measured_without_a_library_or_in_a_slow_build() {
-    let output = run(&["bench"]);
-    assert_eq!(output.status.code(), Some(2));
-    assert!(output.stderr.starts_with(b"compare: b"));
-    assert!(output.stdout.is_empty());
+    for command in ["bench", "comparing"] {
+        let output = run(&[command]);
+        assert_eq!(output.status.code(), Some(2), "{command}");
+        let stderr = String::from_utf8_lossy(&output.stderr);
+        assert!(
+            stderr.starts_with("compare: built without ") || stderr.contains(" needs a build "),
+            "{command}: {stderr}"
+        );
+        assert!(output.stdout.is_empty(), "{command}");
+    }
 }

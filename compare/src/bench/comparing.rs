@@ -65,7 +65,8 @@ impl fmt::Display for Compared {
     }
 }
 
-/// What a comparison answers, as a type of its own for each side: so that its call is all that is timed.
+/// A comparison of two texts that answers as [`Readers::same`] does. Each side has a type of its own, so
+/// that its calls can be inlined where they are timed.
 pub trait Same: Fn(&[u8], &[u8]) -> Word {}
 impl<F: Fn(&[u8], &[u8]) -> Word> Same for F {}
 
@@ -74,15 +75,17 @@ impl<F: Fn(&[u8], &[u8]) -> Word> Same for F {}
 pub fn run(library: impl Same, mut tell: impl FnMut(Compared)) -> Result<(), String> {
     let rust = Readers::OWN.same;
     let mut chance = Generator::new(1);
-    for octets in LENGTHS {
-        let pairs = pairs(octets, &mut chance);
-        for Pair { title, names } in &pairs {
+    let of_lengths = LENGTHS.map(|octets| (octets, pairs(octets, &mut chance)));
+    for (octets, pairs) in &of_lengths {
+        for Pair { title, names } in pairs {
             let [one, other] = names;
             let answers = (library(one, other), rust(one, other));
             if answers.0 != answers.1 {
                 return Err(format!("{octets} octets, {title}: {answers:?}"));
             }
         }
+    }
+    for (octets, pairs) in of_lengths {
         for compared in measure(octets, &pairs, &library, &rust, &mut chance) {
             tell(compared);
         }
