@@ -21,7 +21,7 @@ fn cell(table: &[u16], i: usize, column: usize) -> usize
 }
 
 // So many octets from an offset on, as far as there are any.
-fn octets_at(s: &[u8], at: usize, n: usize) -> &[u8]
+pub fn octets_at(s: &[u8], at: usize, n: usize) -> &[u8]
     ensures { λ r. ⌜ now r ≡ octetsAt (now (s .entry)) at n ⌝ }
 {
     let end = s.len();
@@ -47,6 +47,13 @@ pub fn data_at<'a>(book: &'a [u8], table: &[u16], i: usize) -> &'a [u8]
     ensures { λ r. ⌜ now r ≡ dataAt (now (book .entry)) (now (table .entry)) i ⌝ }
 {
     octets_at(book, cell(table, i, 2), cell(table, i, 4))
+}
+
+// Where the data of record i begins in the book.
+pub fn data_offset(table: &[u16], i: usize) -> usize
+    ensures { λ r. ⌜ r ≡ cell (now (table .entry)) i 2 ⌝ }
+{
+    cell(table, i, 2)
 }
 
 // Whether record i is a CAA record, by its type and its class.

@@ -1,28 +1,36 @@
 -- permitted_issuers: a law for each way out.
-use Prim.Native.Nat.{ℕ, _≤_, _<_}
+use Prim.Native.Nat.{ℕ, _*_, _≤_, _<_}
 use native.Mathlib.Omega.{arith}
-use mathlib.Core.Path.{_≡_, sym, ap}
+use mathlib.Core.Path.{_≡_, refl, sym, ap}
+use mathlib.Core.Bool.{true, false, not}
 use mathlib.Core.List.{List, [], _∷_}
-use lib.ListN.{length}
-use borrow.Author.Tests.{lt-leb, le-leb}
-use Rattle.spec_limits.specs.Limits.{maxIssuerOctets}
+use mathlib.Core.Option.{Option, none, some}
+use lib.ListN.{length, replicate, length-replicate}
+use borrow.Author.Tests.{lt-leb, le-leb, not-true, not-false}
+use Rattle.spec_limits.specs.Limits.{maxIssuerOctets, maxRecords}
+use Rattle.spec_refusal.specs.declared.Check.{Check}
+use Rattle.spec_refusal.specs.declared.Check.the-variants.{Accepted, Refused as CheckRefused}
 use Rattle.spec_refusal.specs.declared.Refusal.{Refusal}
 use Rattle.spec_refusal.specs.declared.Refusal.the-variants.{NoRoom}
+use Rattle.spec_refusal.specs.Checks.{checked}
+use Rattle.spec_refusal.proofs.Checked as checks
 use Rattle.spec_octets.specs.Lists.{All}
 use Rattle.spec_octets.proofs.ListLaws.{All-imp}
 use Rattle.spec_octets.specs.Buffer.{filled}
+use Rattle.spec_request.specs.Request.{requestRefusal}
+use Rattle.spec_record.specs.Records.{bookRefusal}
 use Rattle.spec_rule.specs.declared.PermittedIssuers.{PermittedIssuers}
 use Rattle.spec_rule.specs.declared.PermittedIssuers.the-variants.{Anyone, Listed, Refused}
-use Rattle.spec_rule.specs.IssuerLists.{listed, issuers}
-use Rattle.spec_rule.specs.Calls.{authorizations, Listing, roomRefusal, listIssuers}
+use Rattle.spec_rule.specs.IssuerLists.{anyone, listed, issuers}
+use Rattle.spec_rule.specs.Calls.{authorizations, firstRefusal, Listing, listIssuers}
 use Rattle.spec_rule.proofs.PermittedLaws.{permitted-issuers}
-use Rattle.list_names.specs.Places.{namesIn}
-use Rattle.list_permitted.specs.declared.Answer.the-variants.{Refused as IsRefused, Anyone as IsAnyone, Listed as IsListed}
-use Rattle.list_permitted.specs.declared.Permitted.{Permitted}
-use Rattle.list_permitted.specs.Places.{permittedBy}
-use Rattle.list_permitted.proofs.FoundLaws.{Permits, found-refused, found-anyone, found-listed}
-use Rattle.list_entries.specs.Entries.{entriesIn}
-use Rattle.list_entries.proofs.ShortNames.{entries-short}
+use Rattle.list_places.specs.declared.Permitted.{Permitted}
+use Rattle.list_places.specs.Rounds.{keptNames}
+use Rattle.list_places.specs.PermittedBy.{permittedIn, issuersIn}
+use Rattle.list_places.proofs.ByOffset.{permitted-by-offset}
+use Rattle.list_entry.specs.declared.ListSize.{ListSize}
+use Rattle.list_entry.specs.Entries.{entriesOf, sizeOf}
+use Rattle.list_entry.proofs.ShortNames.{entries-short}
 
 -- the call's two ensures from one equation
 pub halves :
@@ -30,55 +38,84 @@ pub halves :
     (answer ≡ listIssuers request book buffer .answer) × (after ≡ listIssuers request book buffer .buffer)
 halves request book buffer e = (sym (ap (λ (l : Listing). l .answer) e), sym (ap (λ (l : Listing). l .buffer) e))
 
--- p is the answer of issuers_of
-module _ (request book buffer : List ℕ) (p : Permitted) (e : p ≡ permittedBy request book) where
-  pub call-refused : (r : Refusal) → p .answer ≡ IsRefused r → listIssuers request book buffer ≡ record { answer = Refused r; buffer = buffer }
+-- the first refusal of two is the first, whatever is checked behind them
+refused-first : (c d : Option Refusal) (more : List (Option Refusal)) (r : Refusal) → firstRefusal (c ∷ d ∷ []) ≡ some r → firstRefusal (c ∷ d ∷ more) ≡ some r
+refused-first none none more r e = let z : _≡_ {A = ℕ} 0 1 = cc in absurd (omega arith)
+refused-first none (some q) more r e = e
+refused-first (some q) d more r e = e
+
+both-good : (c d : Option Refusal) → firstRefusal (c ∷ d ∷ []) ≡ none → (c ≡ none) × (d ≡ none)
+both-good none none e = (refl, refl)
+both-good none (some q) e = let z : _≡_ {A = ℕ} 0 1 = cc in absurd (omega arith)
+both-good (some q) d e = let z : _≡_ {A = ℕ} 0 1 = cc in absurd (omega arith)
+
+-- c is what the checks of request and book say
+module _ (request book buffer : List ℕ) (c : Check) (f : c ≡ checked (firstRefusal (requestRefusal request ∷ bookRefusal book ∷ []))) where
+  pub call-refused : (r : Refusal) → c ≡ CheckRefused r → listIssuers request book buffer ≡ record { answer = Refused r; buffer = buffer }
   unfolding listIssuers
-  call-refused r g = rw (found-refused request book p e r g (roomRefusal (issuers (authorizations request book)) buffer ∷ []))
+  call-refused r g =
+      rw (refused-first (requestRefusal request) (bookRefusal book) _ r (checks.refused (firstRefusal (requestRefusal request ∷ bookRefusal book ∷ [])) f r g))
 
-  pub anyone-may : p .answer ≡ IsAnyone → listIssuers request book buffer ≡ record { answer = Anyone; buffer = buffer }
-  unfolding listIssuers
-  anyone-may g = let m = found-anyone request book p e g in rw (m .good-request, m .good-book, m .answer)
+  -- p, names and rounds are what find_permitted left, by the sizes of the arrays
+  module _ (g : c ≡ Accepted) (m k : ℕ) (room : m ≡ 2 * maxRecords) (places : k ≡ maxRecords) (p : Permitted) (names rounds : List ℕ)
+      (told : p ≡ permittedIn request book (replicate m 0) (replicate k 0) .answer)
+      (left : names ≡ permittedIn request book (replicate m 0) (replicate k 0) .names)
+      (last : rounds ≡ permittedIn request book (replicate m 0) (replicate k 0) .rounds) where
+    good : (requestRefusal request ≡ none) × (bookRefusal book ≡ none)
+    good = both-good (requestRefusal request) (bookRefusal book) (checks.accepted (firstRefusal (requestRefusal request ∷ bookRefusal book ∷ [])) f g)
 
-  module _ (g : p .answer ≡ IsListed) where
-    accepted : Permits request book (listed (namesIn book (p .names)))
-    accepted = found-listed request book p e g
+    found : issuersIn book (record { answer = p; names = names; rounds = rounds }) ≡ issuers (authorizations request book)
+    found =
+        rw (told, left, last, places)
+        (permitted-by-offset request book (replicate m 0) (good .0) (good .1) (rw (length-replicate {A = ℕ} m 0, room) (omega arith)))
 
-    names-short : All (λ n. length n < 256) (namesIn book (p .names))
-    unfolding maxIssuerOctets
-    names-short =
-        All-imp
-        (λ n w. omega (arith, w .0 .1))
-        (permitted-issuers request book (accepted .good-request) (accepted .good-book) .well-formed (namesIn book (p .names)) (accepted .answer))
+    pub anyone-may : not (p .restricted) ≡ true → listIssuers request book buffer ≡ record { answer = Anyone; buffer = buffer }
+    unfolding listIssuers
+    anyone-may e = let answer : issuers (authorizations request book) ≡ anyone = sym (rw (not-true (p .restricted) e) at found) in rw (good .0, good .1, answer)
 
-    -- o octets in all, and the buffer behind the call of put_entries
-    module _ (o : ℕ) (k : o ≡ length (entriesIn book (p .names))) (after : List ℕ) (f : after ≡ filled (entriesIn book (p .names)) buffer)
-        (same : length after ≡ length buffer) where
-      pub no-room : length after < o → listIssuers request book buffer ≡ record { answer = Refused (NoRoom o); buffer = after }
-      unfolding listIssuers filled
-      no-room short =
-          rw (
-            accepted .good-request,
-            accepted .good-book,
-            accepted .answer,
-            ← entries-short book (p .names) names-short,
-            f,
-            ← k,
-            lt-leb o (length buffer) (rw same at short),
-          )
+    module _ (e : not (p .restricted) ≡ false) where
+      abbrev kept : List (List ℕ)
+      kept = keptNames book names (p .count) rounds (p .round)
 
-      pub names-listed :
-          o ≤ length after → (count : ℕ) → count ≡ length (namesIn book (p .names)) →
-          listIssuers request book buffer ≡ record { answer = Listed count o; buffer = after }
-      unfolding listIssuers filled
-      names-listed room count m =
-          rw (
-            accepted .good-request,
-            accepted .good-book,
-            accepted .answer,
-            ← entries-short book (p .names) names-short,
-            f,
-            m,
-            ← k,
-            le-leb o (length buffer) (rw same at room),
-          )
+      may-sign : issuers (authorizations request book) ≡ listed kept
+      may-sign = sym (rw (not-false (p .restricted) e) at found)
+
+      names-short : All (λ n. length n < 256) kept
+      unfolding maxIssuerOctets
+      names-short = All-imp (λ n w. omega (arith, w .0 .1)) (permitted-issuers request book (good .0) (good .1) .well-formed kept may-sign)
+
+      -- s is the size of the list, and the buffer behind the call of put_entries is `after`
+      module _ (s : ListSize) (h : s ≡ sizeOf (keptNames book names (p .count) rounds (p .round))) (after : List ℕ)
+          (w : after ≡ filled (entriesOf (keptNames book names (p .count) rounds (p .round))) buffer) (same : length after ≡ length buffer) where
+        octets-told : s .octets ≡ length (entriesOf kept)
+        octets-told = ap (λ (z : ListSize). z .octets) h
+
+        count-told : s .count ≡ length kept
+        count-told = ap (λ (z : ListSize). z .count) h
+
+        pub no-room : length after < s .octets → listIssuers request book buffer ≡ record { answer = Refused (NoRoom (s .octets)); buffer = after }
+        unfolding listIssuers filled
+        no-room short =
+            rw (
+              good .0,
+              good .1,
+              may-sign,
+              ← entries-short kept names-short,
+              w,
+              octets-told,
+              lt-leb (length (entriesOf kept)) (length buffer) (omega (arith, octets-told)),
+            )
+
+        pub names-listed : s .octets ≤ length after → listIssuers request book buffer ≡ record { answer = Listed (s .count) (s .octets); buffer = after }
+        unfolding listIssuers filled
+        names-listed fits =
+            rw (
+              good .0,
+              good .1,
+              may-sign,
+              ← entries-short kept names-short,
+              w,
+              count-told,
+              octets-told,
+              le-leb (length (entriesOf kept)) (length buffer) (omega (arith, octets-told)),
+            )

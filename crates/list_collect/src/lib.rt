@@ -1,0 +1,50 @@
+// The issuers that the records of a tagged set grant: collected as candidates, or taken to narrow the candidates of another set.
+use list_places::NextGrant;
+use list_places::TaggedSet;
+ghost use mathlib.Core.Path.{_≡_};
+ghost use Rattle.list_places.specs.Candidates.{collected};
+ghost use Rattle.list_places.specs.Rounds.{narrowed};
+
+// The names that a tagged set grants, each once, in the order in which they are first granted. The answer is how many there are.
+pub fn collect(book: &[u8], table: &[u16], links: &[u16], by: TaggedSet, names: &mut [u16]) -> usize
+    ensures answer { λ r. ⌜ r ≡ collected (now (book .entry)) (now (table .entry)) (now (links .entry)) by (now (names .entry)) .count ⌝ }
+    ensures numbers { λ r. ⌜ now (names .exit) ≡ collected (now (book .entry)) (now (table .entry)) (now (links .entry)) by (now (names .entry)) .names ⌝ }
+{
+    let mut count: usize = 0;
+    let mut at: usize = by.set;
+    loop {
+        let NextGrant::At(g) = list_grants::next_grant(book, table, links, by, at) else {
+            return count;
+        };
+        at = book_chains::behind(links, g.rr);
+        let x = book_table::octets_at(book, g.at as usize, g.octets as usize);
+        if list_candidate::is_candidate(book, names, count, x) {
+            continue;
+        }
+        count = list_candidate::push_candidate(names, count, g);
+    }
+}
+
+// The candidates in round t that a tagged set grants go on to the next round.
+pub fn narrow(
+    book: &[u8],
+    table: &[u16],
+    links: &[u16],
+    by: TaggedSet,
+    names: &[u16],
+    count: usize,
+    rounds: &mut [u16],
+    t: usize,
+)
+    ensures { λ r. ⌜ now (rounds .exit) ≡ narrowed (now (book .entry)) (now (names .entry)) (now (table .entry)) (now (links .entry)) by count t (now (rounds .entry)) ⌝ }
+{
+    let mut at: usize = by.set;
+    loop {
+        let NextGrant::At(g) = list_grants::next_grant(book, table, links, by, at) else {
+            return;
+        };
+        at = book_chains::behind(links, g.rr);
+        let x = book_table::octets_at(book, g.at as usize, g.octets as usize);
+        list_rounds::mark(book, names, count, x, rounds, t);
+    }
+}

@@ -1,2 +1,0 @@
-pub mod ShortNames
-pub mod EntryLoops

@@ -1,0 +1,2 @@
+pub mod ShortNames
+mod EntryLoops

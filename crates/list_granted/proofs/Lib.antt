@@ -1,4 +1,0 @@
-pub mod Joining
-mod SeenGrants
-pub mod GrantedByPlace
-mod GrantedWalk

@@ -1,4 +1,0 @@
-pub mod KeptNames
-pub mod NestedParts
-pub mod NameLoops
-pub mod CommonNames

@@ -1,2 +1,0 @@
-mod NarrowWays
-pub mod ByPlace

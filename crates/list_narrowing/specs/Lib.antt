@@ -1,3 +1,0 @@
-pub mod Narrowing
-pub mod Places
-pub mod Theorems

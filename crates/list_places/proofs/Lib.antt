@@ -1,0 +1,13 @@
+pub mod Joining
+pub mod GrantNames
+pub mod CandidateLaws
+pub mod CollectedNames
+pub mod NarrowedNames
+pub mod RoundLaws
+pub mod GrantWalk
+pub mod SetIssuers
+pub mod OnceLaws
+pub mod KeptBySets
+pub mod NotedSets
+pub mod SaidNames
+pub mod ByOffset

@@ -1,0 +1,47 @@
+-- Candidates: names of issuers kept as places in the book, two numbers for each, its offset and its length. A number past the end reads as 0.
+use Prim.Native.Nat.{ℕ, zero, suc, _+_, _*_}
+use mathlib.Core.Bool.{Bool, cond}
+use mathlib.Core.List.{List, [], _∷_}
+use lib.Dec.{ltb}
+use lib.ListN.{length, getD, set}
+use Rattle.spec_octets.specs.Lists.{any}
+use Rattle.spec_octets.specs.Octets.{same, lowered}
+use Rattle.book_places.specs.Table.{octetsAt}
+use Rattle.list_places.specs.declared.TaggedSet.{TaggedSet}
+use Rattle.list_places.specs.declared.Grant.{Grant}
+use Rattle.list_places.specs.Grants.{grantsBy, grantOctets}
+
+-- the octets of candidate i as the book spells them
+unfoldable pub candidateAt : List ℕ → List ℕ → ℕ → List ℕ
+candidateAt book names i = octetsAt book (getD names (2 * i) 0) (getD names (2 * i + 1) 0)
+
+-- n candidates from the i-th on, in lower case
+abbrev pub candidatesFrom : List ℕ → List ℕ → ℕ → ℕ → List (List ℕ)
+candidatesFrom book names zero i = []
+candidatesFrom book names (suc n) i = lowered (candidateAt book names i) ∷ candidatesFrom book names n (suc i)
+
+unfoldable pub candidates : List ℕ → List ℕ → ℕ → List (List ℕ)
+candidates book names count = candidatesFrom book names count 0
+
+-- a text is one of them, letter case ignored
+unfoldable pub isCandidate : List ℕ → List ℕ → ℕ → List ℕ → Bool
+isCandidate book names count x = any (same (lowered x)) (candidates book names count)
+
+pub record Candidates : Type 0 where
+  pub count : ℕ
+  pub names : List ℕ
+
+-- one more, where there is room for its two numbers
+unfoldable pub pushed : Candidates → Grant → Candidates
+pushed c g =
+    cond (ltb (2 * c .count + 1) (length (c .names)))
+    (record { count = suc (c .count); names = set (set (c .names) (2 * c .count) (g .at)) (2 * c .count + 1) (g .octets) }) c
+
+-- each grant's name once, where it first stands
+abbrev pub pushedOnce : List ℕ → List Grant → Candidates → Candidates
+pushedOnce book [] c = c
+pushedOnce book (g ∷ gs) c = pushedOnce book gs (cond (isCandidate book (c .names) (c .count) (grantOctets book g)) c (pushed c g))
+
+-- the names that the records of a tagged set grant, in an array of such numbers
+unfoldable pub collected : List ℕ → List ℕ → List ℕ → TaggedSet → List ℕ → Candidates
+collected book table links s names = pushedOnce book (grantsBy book table links s) (record { count = 0; names = names })

@@ -1,0 +1,49 @@
+-- The grants of a set's records with one tag, in the book's order: each is the place of an issuer's name in the book.
+use Prim.Native.Nat.{ℕ, _+_, _-_, _%_}
+use mathlib.Core.Bool.{cond}
+use mathlib.Core.List.{List, [], _∷_, _++_}
+use Rattle.spec_record.specs.declared.PropertyTag.{PropertyTag}
+use Rattle.read_value.specs.declared.NameAt.{NameAt}
+use Rattle.read_grantee.specs.Places.{granteeAt}
+use Rattle.read_grantee.specs.declared.GranteeRead.{GranteeRead}
+use Rattle.read_grantee.specs.declared.GranteeRead.the-variants.{At as GranteeAt, Nobody}
+use Rattle.book_places.specs.Table.{cell, octetsAt, ownerAt, dataAt}
+use Rattle.book_places.specs.Sets.{ownedFrom, dataHasTag}
+use Rattle.list_places.specs.declared.TaggedSet.{TaggedSet}
+use Rattle.list_places.specs.declared.Grant.{Grant}
+use Rattle.list_places.specs.declared.NextGrant.{NextGrant}
+use Rattle.list_places.specs.declared.NextGrant.the-variants.{At, Nothing}
+
+-- the name n in data that begins at an offset of the book. 16 bits hold each offset and each length in a book within its limit
+abbrev pub grantIn : ℕ → ℕ → NameAt → Grant
+grantIn i offset n = record { rr = i; at = (offset % 65536 + n .from % 65536) % 65536; octets = (n .to - n .from) % 65536 }
+
+abbrev pub grantRead : ℕ → ℕ → GranteeRead → List Grant
+grantRead i offset Nobody = []
+grantRead i offset (GranteeAt n) = grantIn i offset n ∷ []
+
+module _ (book table : List ℕ) (tag : PropertyTag) where
+  -- the grant of record i; none if it has another tag
+  abbrev pub grantAt : ℕ → List Grant
+  grantAt i = cond (dataHasTag tag (dataAt book table i)) (grantRead i (cell table i 2) (granteeAt (dataAt book table i))) []
+
+  -- of some records
+  abbrev pub grantsOf : List ℕ → List Grant
+  grantsOf [] = []
+  grantsOf (i ∷ is) = grantAt i ++ grantsOf is
+
+-- of the records of a tagged set along its chain from record i on
+unfoldable pub grantsFrom : List ℕ → List ℕ → List ℕ → TaggedSet → ℕ → List Grant
+grantsFrom book table links s i = grantsOf book table (s .tag) (ownedFrom book table links (ownerAt book table (s .set)) i)
+
+-- of all its records
+abbrev pub grantsBy : List ℕ → List ℕ → List ℕ → TaggedSet → List Grant
+grantsBy book table links s = grantsFrom book table links s (s .set)
+
+abbrev pub firstGrant : List Grant → NextGrant
+firstGrant [] = Nothing
+firstGrant (g ∷ gs) = At g
+
+-- the octets of the name as the book spells it
+abbrev pub grantOctets : List ℕ → Grant → List ℕ
+grantOctets book g = octetsAt book (g .at) (g .octets)

@@ -1,4 +1,0 @@
-mod OwnerPart
-pub mod OneName
-pub mod ByPlace
-mod RestrictionWays

@@ -1,0 +1,2 @@
+mod SetNoting
+mod AskedOnce
