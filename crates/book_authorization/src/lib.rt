@@ -5,7 +5,7 @@ use book_places::NameAuthorization;
 use spec_record::PropertyTag;
 use spec_refusal::RecordNo;
 ghost use mathlib.Core.Path.{_≡_};
-ghost use Rattle.book_places.specs.NameAuthorizations.{questionNumber, byIssue, byTags, setAuthorization};
+ghost use Rattle.book_places.specs.NameAuthorizations.{questionNumber, byIssue, byTags, setAuthorization, answerTo};
 
 // The issue records of a set govern, if there are any.
 fn by_issue(book: &[u8], table: &[u16], links: &[u16], set: RecordNo) -> NameAuthorization
@@ -66,4 +66,17 @@ pub fn question_number(set: RecordNo, wildcard: bool) -> usize
         return twice + 1;
     }
     twice
+}
+
+// The answer to the question of a number.
+pub fn answer_to(book: &[u8], table: &[u16], links: &[u16], question: usize) -> NameAuthorization
+    ensures { λ r. ⌜ r ≡ answerTo (now (book .entry)) (now (table .entry)) (now (links .entry)) question ⌝ }
+{
+    set_authorization(
+        book,
+        table,
+        links,
+        RecordNo(question / 2),
+        question % 2 == 1,
+    )
 }

@@ -1,7 +1,7 @@
--- What is said of the names of an accepted request by offset is what the rule says of them.
+-- The questions of the names of an accepted request are answered by what the rule says of them.
 use Prim.Native.Nat.{ℕ, zero, suc, _+_, _≤_, _<_}
 use native.Mathlib.Omega.{arith}
-use mathlib.Core.Path.{_≡_, refl}
+use mathlib.Core.Path.{_≡_, refl, ap, _∙_}
 use mathlib.Core.Bool.{Bool, true, false, cond}
 use mathlib.Core.List.{List, [], map}
 use mathlib.Core.Option.{none}
@@ -9,7 +9,6 @@ use lib.Dec.{leb}
 use lib.ListN.{length}
 use borrow.Author.Tests.{leb-true, leb-false}
 use Rattle.spec_limits.specs.Limits.{maxNames, maxRecords}
-use Rattle.spec_octets.specs.Lists.{All, all-nil, all-cons}
 use Rattle.spec_name.specs.Names.{Name, wire, GoodName}
 use Rattle.spec_request.specs.Request.{isWildcard, base, requestedNames, requestRefusal}
 use Rattle.read_request.specs.Places.{requestedAt}
@@ -21,14 +20,29 @@ use Rattle.read_request.proofs.AcceptedNames.{NamesLeft, all-names, names-end, 
 use Rattle.spec_record.specs.Records.{records, bookRefusal}
 use Rattle.spec_rule.specs.RelevantSet.{caaRecords}
 use Rattle.spec_rule.specs.Authorizations.{Authorization, authorization}
-use Rattle.book_places.specs.declared.NameAuthorization.{NameAuthorization}
+use Rattle.book_places.specs.declared.FirstRecord.{FirstRecord}
+use Rattle.book_places.specs.declared.FirstRecord.the-variants.{At, Nothing}
 use Rattle.book_places.specs.Table.{tableOf}
 use Rattle.book_places.specs.Chains.{Chains, chainsOf}
-use Rattle.book_places.specs.NameAuthorizations.{nameAuthorization, meaning}
+use Rattle.book_places.specs.Sets.{nearestRecord}
+use Rattle.book_places.specs.NameAuthorizations.{bySet, nameAuthorization, answerTo, meaning}
+use Rattle.book_places.proofs.Bounds.{FirstBelow, nearest-below}
 use Rattle.book_places.proofs.ChainedRecords.{chains-fit}
 use Rattle.book_places.proofs.AuthorizationLaws.{authorization-by-offset}
-use Rattle.list_places.specs.SetCodes.{saidOf, saidFrom, said}
-use Rattle.list_places.proofs.NotedSets.{ToldByCode, name-told}
+use Rattle.book_places.proofs.Questions.{question-by-number}
+use Rattle.list_places.specs.Questions.{NameQuestion, questionBy, questionOf, questionsFrom, questions}
+use Rattle.list_places.proofs.NotedIssuers.{saidBy}
+
+-- the answer to a question of a name, in the rule's words
+abbrev pub answered : List ℕ → List ℕ → List ℕ → ℕ → Authorization
+answered book table links q = meaning book table links (answerTo book table links q)
+
+-- a set is told by the number of its question
+by-question :
+    (book table links : List ℕ) (wildcard : Bool) (o : FirstRecord) → FirstBelow links o → length links ≤ 32768 →
+    saidBy (answered book table links) (questionBy wildcard o) ≡ meaning book table links (bySet book table links wildcard o)
+by-question book table links wildcard Nothing h few = refl
+by-question book table links wildcard (At set) h few = ap (meaning book table links) (question-by-number book table links set wildcard (omega arith))
 
 module _ (request book : List ℕ) (good : bookRefusal book ≡ none) where
   abbrev table : List ℕ
@@ -41,29 +55,30 @@ module _ (request book : List ℕ) (good : bookRefusal book ≡ none) where
   abbrev says : Name → Authorization
   says n = authorization (caaRecords (records book)) n
 
+  abbrev said : NameQuestion → Authorization
+  said q = saidBy (answered book table (chains .links)) q
+
   said-of-name :
       (n : Name) → GoodName n → {x : List ℕ} {wildcard : Bool} → x ≡ wire (base n) → wildcard ≡ isWildcard n →
-      meaning book table (chains .links) (nameAuthorization book table (chains .links) (chains .heads) x wildcard) ≡ says n
-  unfolding authorization
-  said-of-name n g x w = rw (x, w) (authorization-by-offset book (base n) (isWildcard n) good (good-base n g))
-
-  few-links : length (chains .links) ≤ 32768
-  unfolding maxRecords
-  few-links = omega (arith, chains-fit book .0)
+      said (questionBy wildcard (nearestRecord book table (chains .links) (chains .heads) x)) ≡ says n
+  unfolding authorization nameAuthorization maxRecords
+  said-of-name n g {x} {wildcard} e w =
+      by-question book table (chains .links) wildcard (nearestRecord book table (chains .links) (chains .heads) x)
+      (nearest-below (chains .links) book table (chains .heads) x) (omega (arith, chains-fit book .0))
+      ∙ rw (e, w) (authorization-by-offset book (base n) (isWildcard n) good (good-base n g))
 
   -- of the names left, behind k of them
-  pub record SaidOf (k : ℕ) (names : List Name) (ss : List NameAuthorization) : Type 0 where
-    pub same : map (meaning book table (chains .links)) ss ≡ map says names
-    pub few : k + length ss ≤ maxNames
-    pub told : All ToldByCode ss
+  pub record SaidOf (k : ℕ) (names : List Name) (qs : List NameQuestion) : Type 0 where
+    pub same : map said qs ≡ map says names
+    pub few : k + length qs ≤ maxNames
 
   abbrev SaysOf : ℕ → Type 0
   SaysOf steps =
       (at k : ℕ) (names : List Name) → NamesLeft request at k names → length request ≤ steps + at →
-      SaidOf k names (saidFrom request book table (chains .links) (chains .heads) steps at)
+      SaidOf k names (questionsFrom request book table (chains .links) (chains .heads) steps at)
 
   none-left : (at k : ℕ) (names : List Name) → NamesLeft request at k names → length request ≤ at → SaidOf k names []
-  none-left at k names w h = record { same = rw (names-end request w h); few = omega (arith, w .within); told = all-nil }
+  none-left at k names w h = record { same = rw (names-end request w h); few = omega (arith, w .within) }
 
   said-from : (steps : ℕ) → SaysOf steps
   said-from zero at k names w h = none-left at k names w (omega arith)
@@ -71,7 +86,7 @@ module _ (request book : List ℕ) (good : bookRefusal book ≡ none) where
     where
       step :
           at < length request → SaysOf steps → (o : RequestedRead) → o ≡ requestedAt request at →
-          SaidOf k names (saidOf request book table (chains .links) (chains .heads) o (saidFrom request book table (chains .links) (chains .heads) steps))
+          SaidOf k names (questionOf request book table (chains .links) (chains .heads) o (questionsFrom request book table (chains .links) (chains .heads) steps))
       step l rest Fault f = absurd (names-good request w l Fault f refl)
       step l rest (Good r) f =
           let this = next-name request w l (Good r) f r refl in
@@ -79,15 +94,14 @@ module _ (request book : List ℕ) (good : bookRefusal book ≡ none) where
           record {
             same = rw (this .split, said-of-name (this .first) (this .good) (this .octets) (this .wild), later .same);
             few = omega (arith, later .few);
-            told = all-cons (name-told book table (chains .links) (chains .heads) _ (r .wildcard) few-links) (later .told);
           }
 
       go :
           (t : Bool) → leb (length request) at ≡ t → SaysOf steps →
-          SaidOf k names (cond t [] (saidOf request book table (chains .links) (chains .heads) (requestedAt request at) (saidFrom request book table (chains .links) (chains .heads) steps)))
+          SaidOf k names (cond t [] (questionOf request book table (chains .links) (chains .heads) (requestedAt request at) (questionsFrom request book table (chains .links) (chains .heads) steps)))
       go true e rest = none-left at k names w (leb-true (length request) at e)
       go false e rest = step (leb-false (length request) at e) rest (requestedAt request at) refl
 
-  pub said-names : requestRefusal request ≡ none → SaidOf 0 (requestedNames request) (said request book table (chains .links) (chains .heads))
-  unfolding said
+  pub said-names : requestRefusal request ≡ none → SaidOf 0 (requestedNames request) (questions request book table (chains .links) (chains .heads))
+  unfolding questions
   said-names r = said-from (length request) 0 0 (requestedNames request) (all-names request r) (omega arith)
