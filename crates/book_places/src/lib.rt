@@ -9,6 +9,9 @@ pub const ROW: usize = 6;
 // The numbers of a whole table.
 pub const TABLE: usize = 6 * MAX_RECORDS;
 
+// No record: the end of a chain.
+pub const END: u16 = MAX_RECORDS as u16;
+
 // The first record that was asked for, if there is one.
 pub enum FirstRecord {
     At(RecordNo),

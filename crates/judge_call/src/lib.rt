@@ -1,4 +1,5 @@
 // May this issuer sign? The call that judges.
+use book_places::END;
 use book_places::FirstRecord;
 use book_places::NameAuthorization;
 use book_places::TABLE;
@@ -17,9 +18,6 @@ ghost use Rattle.judge_call.specs.Asked.{Ready, verdictBySet};
 
 // Two notes for each record: that the set which begins there permits the issuer, asked for X and asked for *.X.
 const NOTES: usize = 2 * MAX_RECORDS;
-
-// Ends a chain: no record has this number.
-const END: u16 = MAX_RECORDS as u16;
 
 // Judges a name by its relevant set.
 fn judge_by_set(

@@ -1,4 +1,5 @@
 // Who may sign for all names of a request, found in the table of the book: the candidates, and the round that those on the list are in.
+use book_places::END;
 use book_places::TABLE;
 use list_places::Permitted;
 use list_places::RelevantSets;
@@ -6,9 +7,6 @@ use spec_limits::MAX_NAMES;
 use spec_limits::MAX_RECORDS;
 ghost use mathlib.Core.Path.{_≡_};
 ghost use Rattle.list_places.specs.PermittedBy.{permittedIn};
-
-// No record: the end of a chain.
-const END: u16 = MAX_RECORDS as u16;
 
 // The issuers for all names of a request. The names of the candidates and their rounds are left in two lent arrays.
 pub fn find_permitted(
