@@ -42,7 +42,7 @@ fn keep_granted(
     }
 }
 
-// The first n questions of a list of their numbers, one after the other. Of a set that does not restrict nothing is kept; where CAA forbids,
+// The first n questions of a list of their numbers, one after the other. A set that does not restrict changes nothing; where CAA forbids,
 // nobody may sign. The names of the candidates and their rounds are left in two lent arrays.
 pub fn ask_sets(
     book: &[u8],
