@@ -1,6 +1,7 @@
--- by_issue, by_tags and name_authorization: a law for each way out, from what the set was asked.
-use Prim.Native.Nat.{ℕ}
-use mathlib.Core.Path.{_≡_, _∙_}
+-- by_issue, by_tags, set_authorization and question_number: a law for each way out, from what the set was asked.
+use Prim.Native.Nat.{ℕ, _+_, _*_, _%_}
+use native.Mathlib.Nat.{add-zero}
+use mathlib.Core.Path.{_≡_, sym, _∙_}
 use mathlib.Core.Bool.{Bool, true, false}
 use mathlib.Core.List.{List}
 use Rattle.spec_refusal.specs.declared.RecordNo.{RecordNo}
@@ -9,8 +10,8 @@ use Rattle.book_places.specs.declared.FirstRecord.{FirstRecord}
 use Rattle.book_places.specs.declared.FirstRecord.the-variants.{At, Nothing}
 use Rattle.book_places.specs.declared.NameAuthorization.{NameAuthorization}
 use Rattle.book_places.specs.declared.NameAuthorization.the-variants.{Unrestricted, Forbidden, Governed}
-use Rattle.book_places.specs.Sets.{nearestRecord, firstUnknownCritical, firstTagged}
-use Rattle.book_places.specs.NameAuthorizations.{byIssue, byTags, nameAuthorization}
+use Rattle.book_places.specs.Sets.{firstUnknownCritical, firstTagged}
+use Rattle.book_places.specs.NameAuthorizations.{questionNumber, byIssue, byTags, setAuthorization}
 
 module _ (book table links : List ℕ) where
   module _ (set : RecordNo) where
@@ -37,18 +38,22 @@ module _ (book table links : List ℕ) where
         Governed (record { set = set; first = r; tag = IssueWild }) ≡ byTags book table links wildcard set
     issuewild-governs wildcard w o f r g = rw (w, ← f, g)
 
-  -- o is the first record of the relevant set
-  module _ (heads x : List ℕ) (wildcard : Bool) (o : FirstRecord) (f : o ≡ nearestRecord book table links heads x) where
-    pub nothing-relevant : o ≡ Nothing → Unrestricted ≡ nameAuthorization book table links heads x wildcard
-    unfolding nameAuthorization
-    nothing-relevant g = rw (← f, g)
-
-    module _ (set : RecordNo) (g : o ≡ At set) (u : FirstRecord) (e : u ≡ firstUnknownCritical book table links (set .0)) where
-      pub critical-forbids : (r : RecordNo) → u ≡ At r → Forbidden r ≡ nameAuthorization book table links heads x wildcard
-      unfolding nameAuthorization
-      critical-forbids r h = rw (← f, g, ← e, h)
+    -- u is the first unknown critical record
+    module _ (wildcard : Bool) (u : FirstRecord) (e : u ≡ firstUnknownCritical book table links (set .0)) where
+      pub critical-forbids : (r : RecordNo) → u ≡ At r → Forbidden r ≡ setAuthorization book table links wildcard set
+      unfolding setAuthorization
+      critical-forbids r h = rw (← e, h)
 
       pub tags-decide :
-          u ≡ Nothing → (a : NameAuthorization) → a ≡ byTags book table links wildcard set → a ≡ nameAuthorization book table links heads x wildcard
-      unfolding nameAuthorization
-      tags-decide h a k = k ∙ rw (← f, g, ← e, h)
+          u ≡ Nothing → (a : NameAuthorization) → a ≡ byTags book table links wildcard set → a ≡ setAuthorization book table links wildcard set
+      unfolding setAuthorization
+      tags-decide h a k = k ∙ rw (← e, h)
+
+module _ (set : RecordNo) (wildcard : Bool) where
+  pub plain-number : wildcard ≡ false → 2 * (set .0 % 32768) ≡ questionNumber set wildcard
+  unfolding questionNumber
+  plain-number e = rw e (sym (add-zero (2 * (set .0 % 32768))))
+
+  pub star-number : wildcard ≡ true → 2 * (set .0 % 32768) + 1 ≡ questionNumber set wildcard
+  unfolding questionNumber
+  star-number e = rw e

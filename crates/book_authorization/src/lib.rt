@@ -1,11 +1,11 @@
-// What CAA says of one requested name: which records govern it, if any do.
+// What CAA says of a requested name by its relevant set: which records govern it, if any do.
 use book_places::FirstRecord;
 use book_places::Governing;
 use book_places::NameAuthorization;
 use spec_record::PropertyTag;
 use spec_refusal::RecordNo;
 ghost use mathlib.Core.Path.{_≡_};
-ghost use Rattle.book_places.specs.NameAuthorizations.{byIssue, byTags, nameAuthorization};
+ghost use Rattle.book_places.specs.NameAuthorizations.{questionNumber, byIssue, byTags, setAuthorization, answerTo};
 
 // The issue records of a set govern, if there are any.
 fn by_issue(book: &[u8], table: &[u16], links: &[u16], set: RecordNo) -> NameAuthorization
@@ -40,23 +40,43 @@ fn by_tags(
     NameAuthorization::Governed(Governing { set, first, tag })
 }
 
-// Of the name X, in wire form, or of *.X: an unknown critical record of its relevant set comes before all else.
-pub fn name_authorization(
+// Of X, or of *.X, by its relevant set: an unknown critical record comes before all else.
+pub fn set_authorization(
     book: &[u8],
     table: &[u16],
     links: &[u16],
-    heads: &[u16],
-    name: &[u8],
+    set: RecordNo,
     wildcard: bool,
 ) -> NameAuthorization
-    ensures { λ r. ⌜ r ≡ nameAuthorization (now (book .entry)) (now (table .entry)) (now (links .entry)) (now (heads .entry)) (now (name .entry)) wildcard ⌝ }
+    ensures { λ r. ⌜ r ≡ setAuthorization (now (book .entry)) (now (table .entry)) (now (links .entry)) wildcard set ⌝ }
 {
-    let FirstRecord::At(set) = book_climb::nearest_record(book, table, links, heads, name) else {
-        return NameAuthorization::Unrestricted;
-    };
     let from = set.0;
     if let FirstRecord::At(r) = book_set::first_unknown_critical(book, table, links, from) {
         return NameAuthorization::Forbidden(r);
     }
     by_tags(book, table, links, set, wildcard)
+}
+
+// The number of the question that a set is asked, for X or for *.X.
+pub fn question_number(set: RecordNo, wildcard: bool) -> usize
+    ensures { λ r. ⌜ r ≡ questionNumber set wildcard ⌝ }
+{
+    let twice = 2 * (set.0 % 32768);
+    if wildcard {
+        return twice + 1;
+    }
+    twice
+}
+
+// The answer to the question of a number.
+pub fn answer_to(book: &[u8], table: &[u16], links: &[u16], question: usize) -> NameAuthorization
+    ensures { λ r. ⌜ r ≡ answerTo (now (book .entry)) (now (table .entry)) (now (links .entry)) question ⌝ }
+{
+    set_authorization(
+        book,
+        table,
+        links,
+        RecordNo(question / 2),
+        question % 2 == 1,
+    )
 }

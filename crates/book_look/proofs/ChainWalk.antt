@@ -9,6 +9,7 @@ use lib.ListN.{length, getD, List·getD-eq-default}
 use borrow.Author.Tests.{lt-ltb, le-ltb}
 use Rattle.spec_octets.specs.Lists.{consIf}
 use Rattle.spec_octets.specs.Octets.{equalIgnoringCase}
+use Rattle.spec_octets.proofs.Texts.{same-text}
 use Rattle.book_places.specs.declared.FirstRecord.{FirstRecord}
 use Rattle.book_places.specs.declared.FirstRecord.the-variants.{At, Nothing}
 use Rattle.book_places.specs.Table.{ownerAt, isCaaAt}
@@ -67,3 +68,16 @@ module _ (book table links x : List ℕ) where
         (r : FirstRecord) → k < length heads → r ≡ firstOf (ownedFrom book table links x (getD heads k 0)) → r ≡ firstOwned book table links heads x
     unfolding firstOwned
     chain-begins r h f = rw (← e, inside heads k (length links) 0 h) f
+
+-- a set is named by its first record
+module _ (book table links : List ℕ) (first from : ℕ) where
+  pub first-itself :
+      from ≡ first → first < length links → (b : Bool) → b ≡ isCaaAt table first → b ≡ true →
+      At (record { 0 = first }) ≡ firstOf (ownedFrom book table links (ownerAt book table first) from)
+  first-itself e h b f g =
+      rw (e, owned-step book table links (ownerAt book table first) first h, ← f, g, same-text (ownerAt book table first) (ownerAt book table first) .1 refl)
+
+  pub with-its-owner :
+      (r : FirstRecord) (x : List ℕ) → r ≡ firstOf (ownedFrom book table links x from) → x ≡ ownerAt book table first →
+      r ≡ firstOf (ownedFrom book table links (ownerAt book table first) from)
+  with-its-owner r x f e = f ∙ rw e

@@ -2,6 +2,7 @@
 use book_places::FirstRecord;
 use spec_refusal::RecordNo;
 ghost use mathlib.Core.Path.{_≡_};
+ghost use Rattle.book_places.specs.Table.{ownerAt};
 ghost use Rattle.book_places.specs.Sets.{isOwned, ownedFrom, firstOf, firstOwned};
 
 // Whether record i is a CAA record with the owner x.
@@ -26,6 +27,32 @@ pub fn next_owned(book: &[u8], table: &[u16], links: &[u16], x: &[u8], from: usi
         i = book_chains::behind(links, i);
     }
     FirstRecord::Nothing
+}
+
+// The next record of a set, from a record of its chain on. A set is named by its first record, whose owner is not compared with itself.
+pub fn next_in_set(
+    book: &[u8],
+    table: &[u16],
+    links: &[u16],
+    first: usize,
+    from: usize,
+) -> FirstRecord
+    ensures { λ r. ⌜ r ≡ firstOf (ownedFrom (now (book .entry)) (now (table .entry)) (now (links .entry)) (ownerAt (now (book .entry)) (now (table .entry)) first) from) ⌝ }
+{
+    if from == first {
+        if first < links.len() {
+            if book_table::is_caa_at(table, first) {
+                return FirstRecord::At(RecordNo(first));
+            }
+        }
+    }
+    next_owned(
+        book,
+        table,
+        links,
+        book_table::owner_at(book, table, first),
+        from,
+    )
 }
 
 // The first CAA record with the owner x. A key without a chain has none.

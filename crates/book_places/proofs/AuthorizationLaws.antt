@@ -24,7 +24,7 @@ use Rattle.book_places.specs.declared.NameAuthorization.the-variants.{Un
 use Rattle.book_places.specs.Table.{tableOf, dataAt}
 use Rattle.book_places.specs.Chains.{chainsOf}
 use Rattle.book_places.specs.Sets.{setAt, dataHasTag, dataIsUnknownCritical, dataGrants, inSet, firstUnknownCritical, firstTagged, setGrants}
-use Rattle.book_places.specs.NameAuthorizations.{governedBy, byIssue, byTags, unlessCritical, bySet, nameAuthorization, granteesAt, setGrantees, meaning}
+use Rattle.book_places.specs.NameAuthorizations.{governedBy, byIssue, byTags, unlessCritical, setAuthorization, bySet, nameAuthorization, granteesAt, setGrantees, meaning}
 use Rattle.book_places.specs.Theorems.{recordsIn, numbersOf, firstNumber, Finds, Authorization-by-offset, Set-grants}
 use Rattle.book_places.proofs.LookLaws.{Holds, first-numbers, caas, caas-hold}
 use Rattle.book_places.proofs.ClimbLaws.{climb-by-offset, relevant-have}
@@ -114,6 +114,7 @@ module _ (book table links : List ℕ) where
     unless-critical (u ∷ us) n a e = refl
 
     by-set : (wildcard : Bool) → meaning book table links (bySet book table links wildcard (At first)) ≡ authorizationFrom wildcard (found cs)
+    unfolding setAuthorization
     by-set wildcard = rw first-critical (unless-critical (select isUnknownCritical cs) _ _ (by-tags wildcard))
 
   nothing-governs : (wildcard : Bool) → unrestricted ≡ authorizationFrom wildcard (found [])

@@ -21,7 +21,7 @@ use Rattle.book_places.specs.declared.NameAuthorization.the-variants.{Un
 use Rattle.book_places.specs.Table.{dataAt}
 use Rattle.book_places.specs.Chains.{behind, along, chainFrom}
 use Rattle.book_places.specs.Sets.{isOwned, ownedFrom, firstOf, firstOwned, orNext, nearestFrom, nearestRecord, setAt, dataHasTag, dataIsUnknownCritical, inSet, firstUnknownCritical, firstTagged}
-use Rattle.book_places.specs.NameAuthorizations.{governedBy, byIssue, byTags, unlessCritical, bySet, nameAuthorization}
+use Rattle.book_places.specs.NameAuthorizations.{governedBy, byIssue, byTags, unlessCritical, setAuthorization, bySet, nameAuthorization}
 use Rattle.book_places.specs.Theorems.{Authorization-bounds}
 
 module _ (links : List ℕ) where
@@ -121,6 +121,7 @@ module _ (links : List ℕ) where
       unless-below (At r) h otherwise k = h
 
     set-below : (wildcard : Bool) (o : FirstRecord) → FirstBelow o → AnswerBelow (bySet book table links wildcard o)
+    unfolding setAuthorization
     set-below wildcard Nothing h = tt
     set-below wildcard (At set) h = unless-below set h (firstUnknownCritical book table links (set .0)) (critical-below (set .0)) _ (tags-below set h wildcard)
 

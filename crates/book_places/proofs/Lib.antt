@@ -11,3 +11,4 @@ pub mod ClimbLaws
 pub mod AuthorizationLaws
 pub mod Bounds
 pub mod DataTests
+pub mod Questions

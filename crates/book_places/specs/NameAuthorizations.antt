@@ -1,8 +1,9 @@
 -- What CAA says of one requested name, by a table of the book and its chains; and what that means in the rule's own words.
-use Prim.Native.Nat.{ℕ}
-use mathlib.Core.Bool.{Bool, true, false}
+use Prim.Native.Nat.{ℕ, _+_, _*_, _/_, _%_}
+use mathlib.Core.Bool.{Bool, true, false, cond}
 use mathlib.Core.List.{List, [], _∷_}
 use mathlib.Core.Option.{none, some}
+use lib.Dec.{eqb}
 use Rattle.spec_refusal.specs.declared.RecordNo.{RecordNo}
 use Rattle.spec_record.specs.declared.PropertyTag.{PropertyTag}
 use Rattle.spec_record.specs.declared.PropertyTag.the-variants.{Issue, IssueWild}
@@ -14,6 +15,10 @@ use Rattle.book_places.specs.declared.NameAuthorization.{NameAuthorizati
 use Rattle.book_places.specs.declared.NameAuthorization.the-variants.{Unrestricted, Forbidden, Governed}
 use Rattle.book_places.specs.Table.{dataAt}
 use Rattle.book_places.specs.Sets.{nearestRecord, dataHasTag, inSet, firstUnknownCritical, firstTagged}
+
+-- the number of a question: a set is asked for X, or for *.X. 16 bits hold it
+unfoldable pub questionNumber : RecordNo → Bool → ℕ
+questionNumber set wildcard = 2 * (set .0 % 32768) + cond wildcard 1 0
 
 module _ (book table links : List ℕ) where
   -- the first record of the set with that tag governs, if there is one
@@ -34,9 +39,17 @@ module _ (book table links : List ℕ) where
   unlessCritical Nothing otherwise = otherwise
   unlessCritical (At r) otherwise = Forbidden r
 
+  -- of X, or of *.X, by its relevant set
+  unfoldable pub setAuthorization : Bool → RecordNo → NameAuthorization
+  setAuthorization wildcard set = unlessCritical (firstUnknownCritical book table links (set .0)) (byTags wildcard set)
+
   abbrev pub bySet : Bool → FirstRecord → NameAuthorization
   bySet wildcard Nothing = Unrestricted
-  bySet wildcard (At set) = unlessCritical (firstUnknownCritical book table links (set .0)) (byTags wildcard set)
+  bySet wildcard (At set) = setAuthorization wildcard set
+
+  -- the answer to the question of a number
+  unfoldable pub answerTo : ℕ → NameAuthorization
+  answerTo question = setAuthorization (eqb (question % 2) 1) (record { 0 = question / 2 })
 
   -- of the name X, in wire form, or of *.X
   unfoldable pub nameAuthorization : List ℕ → List ℕ → Bool → NameAuthorization

@@ -21,7 +21,7 @@ use Rattle.book_places.specs.Table.{tabled, tableOf, ownerAt, dataAt, is
 use Rattle.book_places.specs.Keys.{keyOf}
 use Rattle.book_places.specs.Chains.{chainsOf}
 use Rattle.book_places.specs.Sets.{isOwned, ownedFrom, firstOf, firstOwned, nearestRecord, setAt, dataHasTag, dataIsUnknownCritical, dataGrants, setGrants}
-use Rattle.book_places.specs.NameAuthorizations.{nameAuthorization, setGrantees, meaning}
+use Rattle.book_places.specs.NameAuthorizations.{questionNumber, setAuthorization, nameAuthorization, answerTo, setGrantees, meaning}
 use Rattle.book_places.specs.declared.FirstRecord.{FirstRecord}
 use Rattle.book_places.specs.declared.FirstRecord.the-variants.{At, Nothing}
 use Rattle.book_places.specs.declared.Governing.{Governing}
@@ -116,6 +116,12 @@ Authorization-by-offset =
     meaning book (tableOf book) (chainsOf book .links)
     (nameAuthorization book (tableOf book) (chainsOf book .links) (chainsOf book .heads) (wire x) wildcard)
     ≡ authorizationFrom wildcard (relevantSet (caaRecords (records book)) x)
+
+-- a question is told by its number, for any table and links
+abbrev pub Question-by-number : Type 0
+Question-by-number =
+    (book table links : List ℕ) (set : RecordNo) (wildcard : Bool) → set .0 < 32768 →
+    answerTo book table links (questionNumber set wildcard) ≡ setAuthorization book table links wildcard set
 
 -- the records that an answer names have links, and what governs are issue or issuewild records; for any table, chains and name
 abbrev pub Authorization-bounds : Type 0

@@ -13,10 +13,9 @@ pub fn first_unknown_critical(
 ) -> FirstRecord
     ensures { λ r. ⌜ r ≡ firstUnknownCritical (now (book .entry)) (now (table .entry)) (now (links .entry)) first ⌝ }
 {
-    let owner = book_table::owner_at(book, table, first);
     let mut at: usize = first;
     let rr = loop {
-        let FirstRecord::At(r) = book_look::next_owned(book, table, links, owner, at) else {
+        let FirstRecord::At(r) = book_look::next_in_set(book, table, links, first, at) else {
             return FirstRecord::Nothing;
         };
         let i = r.0;
@@ -38,10 +37,9 @@ pub fn first_with_tag(
 ) -> FirstRecord
     ensures { λ r. ⌜ r ≡ firstTagged tag (now (book .entry)) (now (table .entry)) (now (links .entry)) first ⌝ }
 {
-    let owner = book_table::owner_at(book, table, first);
     let mut at: usize = first;
     loop {
-        let FirstRecord::At(r) = book_look::next_owned(book, table, links, owner, at) else {
+        let FirstRecord::At(r) = book_look::next_in_set(book, table, links, first, at) else {
             return FirstRecord::Nothing;
         };
         let i = r.0;
@@ -63,10 +61,9 @@ pub fn any_grants(
 ) -> bool
     ensures { λ r. ⌜ r ≡ setGrants tag (now (issuer .entry)) (now (book .entry)) (now (table .entry)) (now (links .entry)) first ⌝ }
 {
-    let owner = book_table::owner_at(book, table, first);
     let mut from: usize = first;
     loop {
-        let FirstRecord::At(r) = book_look::next_owned(book, table, links, owner, from) else {
+        let FirstRecord::At(r) = book_look::next_in_set(book, table, links, first, from) else {
             return false;
         };
         let i = r.0;

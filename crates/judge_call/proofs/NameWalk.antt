@@ -1,15 +1,17 @@
 -- judge: its checks in their order, then name by name. With k names permitted, the names left from `at` on give the answer.
-use Prim.Native.Nat.{ℕ, suc, _≤_, _<_, _+_, _-_}
+use Prim.Native.Nat.{ℕ, suc, _≤_, _<_, _+_, _-_, _*_}
 use native.Mathlib.Numerals.{add-one}
 use native.Mathlib.Omega.{arith}
-use mathlib.Core.Path.{_≡_, sym, ap, _∙_}
-use mathlib.Core.Logic.{⊎-elim}
+use mathlib.Core.Path.{_≡_, refl, sym, ap, _∙_}
+use mathlib.Core.Logic.{_⊎_, inl, inr}
 use mathlib.Core.Bool.{Bool, true, false, cond}
 use mathlib.Core.List.{List, map}
 use mathlib.Core.Option.{none}
-use lib.ListN.{length, take, drop}
+use lib.ListN.{length, take, drop, getD, set as put}
+use denote.Enum.Declared.{tagOf as variant}
 use Rattle.spec_limits.specs.Limits.{maxNames, maxRecords}
-use Rattle.spec_octets.specs.Lists.{All}
+use Rattle.spec_octets.specs.Lists.{All, any}
+use Rattle.spec_octets.specs.Octets.{same, lowered}
 use Rattle.spec_octets.proofs.ListLaws.{All-head, All-tail}
 use Rattle.spec_refusal.specs.Checks.{checked}
 use Rattle.spec_refusal.proofs.Checked.{refused, accepted}
@@ -29,29 +31,51 @@ use Rattle.spec_request.proofs.RequestedNames.{good-base}
 use Rattle.read_request.proofs.AcceptedNames.{NamesLeft, NextName, all-names, names-end, names-few, names-good, next-name}
 use Rattle.spec_record.specs.Records.{records}
 use Rattle.spec_rule.specs.declared.Judgement.{Judgement}
-use Rattle.spec_rule.specs.declared.Judgement.the-variants.{Permitted, UnknownCritical, NotGranted, Refused}
+use Rattle.spec_rule.specs.declared.Judgement.the-variants.{Permitted, Refused}
 use Rattle.spec_rule.specs.RelevantSet.{caaRecords}
-use Rattle.spec_rule.specs.Authorizations.{Authorization, authorization, permits}
+use Rattle.spec_rule.proofs.Judgement.{the-type}
+use Rattle.spec_rule.specs.Authorizations.{Authorization, unrestricted, forbidden, granted, authorization, permits}
 use Rattle.spec_rule.specs.Verdicts.{denied, verdictFrom, verdict}
 use Rattle.spec_rule.specs.Calls.{authorizations, firstRefusal, judgeChecks, judge}
 use Rattle.read_inputs.proofs.CheckLaws.{none-refuses}
-use Rattle.book_places.specs.declared.Governing.{Governing}
-use Rattle.book_places.specs.declared.NameAuthorization.{NameAuthorization}
-use Rattle.book_places.specs.declared.NameAuthorization.the-variants.{Unrestricted, Forbidden, Governed}
-use Rattle.book_places.specs.Sets.{setGrants}
-use Rattle.book_places.specs.NameAuthorizations.{nameAuthorization, meaning}
+use Rattle.book_places.specs.declared.FirstRecord.{FirstRecord}
+use Rattle.book_places.specs.declared.FirstRecord.the-variants.{At, Nothing}
+use Rattle.book_places.specs.Sets.{nearestRecord}
+use Rattle.book_places.specs.NameAuthorizations.{questionNumber, bySet, nameAuthorization, meaning}
 use Rattle.book_places.proofs.ChainedRecords.{chains-fit}
-use Rattle.book_places.proofs.AuthorizationLaws.{authorization-by-offset, set-grants}
-use Rattle.book_places.proofs.Bounds.{authorization-bounds}
-use Rattle.judge_call.specs.Asked.{Ready, Noted}
+use Rattle.book_places.proofs.AuthorizationLaws.{authorization-by-offset}
+use Rattle.book_places.proofs.Bounds.{nearest-below}
+use Rattle.judge_call.specs.Asked.{Ready, verdictBySet, Asked}
+use Rattle.judge_call.proofs.AskedLaws.{note-inside, permitted-before, now-asked}
 
--- what governs has notes of its own, in chains that have a link for each record
-noted :
-    (book table links heads x : List ℕ) (wildcard : Bool) (g : Governing) → length links ≡ maxRecords →
-    nameAuthorization book table links heads x wildcard ≡ Governed g → Noted g
-noted book table links heads x wildcard g long e =
-    let (below, first, tag) = authorization-bounds book table links heads x wildcard .0 g e in
-    record { below = omega (arith, below, long); tag = ⊎-elim (λ t. rw t) (λ t. rw t) tag }
+-- what `let Judgement::Permitted = j else` knows
+abbrev pub NotPermitted : Judgement → Type 0
+NotPermitted j = (variant the-type j ≡ 1) ⊎ ((variant the-type j ≡ 2) ⊎ (variant the-type j ≡ 3))
+
+never-permitted : {A : Type 0} → NotPermitted Permitted → A
+never-permitted (inl e) = absurd (omega arith)
+never-permitted (inr (inl e)) = absurd (omega arith)
+never-permitted (inr (inr e)) = absurd (omega arith)
+
+-- the verdict on one name, and what follows it
+module _ (issuer : List ℕ) (k : ℕ) (behind : Judgement) where
+  permits-it : (a : Authorization) → Permitted ≡ cond (permits issuer a) Permitted (denied k a) → permits issuer a ≡ true
+  permits-it unrestricted e = refl
+  permits-it (forbidden r) e = let z : _≡_ {A = ℕ} 0 1 = cc in absurd (omega arith)
+  permits-it (granted r ns) e = go (any (same (lowered issuer)) ns) e
+    where
+      go : (t : Bool) → Permitted ≡ cond t Permitted (denied k (granted r ns)) → t ≡ true
+      go true f = refl
+      go false f = let z : _≡_ {A = ℕ} 0 1 = cc in absurd (omega arith)
+
+  denies-it :
+      (a : Authorization) (j : Judgement) → j ≡ cond (permits issuer a) Permitted (denied k a) → NotPermitted j →
+      j ≡ cond (permits issuer a) behind (denied k a)
+  denies-it a j e h = go (permits issuer a) e
+    where
+      go : (t : Bool) → j ≡ cond t Permitted (denied k a) → j ≡ cond t behind (denied k a)
+      go true f = never-permitted (rw f at h)
+      go false f = f
 
 -- the checks that come before
 module _ (request issuer book : List ℕ) (c : Check) (f : c ≡ checked (firstRefusal (judgeChecks request issuer book))) where
@@ -114,36 +138,55 @@ module _ (request issuer book table links heads : List ℕ) where
           this : NextName request k (w .names) r
           this = next-name request (w .left) h o f r g
 
-          module _ (a : NameAuthorization)
-              (d : a ≡ nameAuthorization book table links heads (take (r .next - r .base) (drop (r .base) request)) (r .wildcard)) where
+          -- p is the first record of its relevant set
+          module _ (p : FirstRecord) (d : p ≡ nearestRecord book table links heads (take (r .next - r .base) (drop (r .base) request))) where
             abbrev behind : Judgement
             behind = verdictFrom (suc k) issuer (map said (this .others))
 
-            by-name : judge request issuer book ≡ cond (permits issuer (meaning book table links a)) behind (denied k (meaning book table links a))
-            by-name =
+            abbrev by : FirstRecord → Authorization
+            by first = meaning book table links (bySet book table links (r .wildcard) first)
+
+            by-name : (first : FirstRecord) → p ≡ first → judge request issuer book ≡ cond (permits issuer (by first)) behind (denied k (by first))
+            unfolding nameAuthorization
+            by-name first e =
                 w .answer ∙ ap (λ ns. verdictFrom k issuer (map said ns)) (this .split)
                 ∙ ap (λ v. cond (permits issuer v) behind (denied k v))
-                (sym (ap (meaning book table links) d ∙ by-table (w .ready) (this .first) (this .good) (this .octets) (this .wild)))
+                (sym (ap by (sym e ∙ d) ∙ by-table (w .ready) (this .first) (this .good) (this .octets) (this .wild)))
 
             passed : judge request issuer book ≡ behind → (k′ : ℕ) → k′ ≡ k + 1 → Judged (r .next) k′
             passed e k′ i = rw (i, add-one) (record { names = this .others; left = this .after; answer = e; ready = w .ready })
 
-            pub name-unrestricted : a ≡ Unrestricted → (k′ : ℕ) → k′ ≡ k + 1 → Judged (r .next) k′
-            name-unrestricted e = passed (by-name ∙ rw e)
+            pub name-unrestricted : p ≡ Nothing → (k′ : ℕ) → k′ ≡ k + 1 → Judged (r .next) k′
+            name-unrestricted e = passed (by-name Nothing e)
 
-            pub name-critical : (rr : RecordNo) → a ≡ Forbidden rr → UnknownCritical (record { name = record { 0 = k }; rr = rr }) ≡ judge request issuer book
-            name-critical rr e = sym (by-name ∙ rw e)
+            module _ (set : RecordNo) (e : p ≡ At set) where
+              set-below : set .0 < maxRecords
+              set-below =
+                  omega (arith, rw (sym d ∙ e) at (nearest-below links book table heads (take (r .next - r .base) (drop (r .base) request))), ap length (w .ready .chained), chains-fit book .0)
 
-            module _ (y : Governing) (e : a ≡ Governed y) where
-              pub name-noted : Noted y
-              name-noted = noted book table links heads _ (r .wildcard) y (rw (w .ready .chained) (chains-fit book .0)) (sym d ∙ e)
+              pub question-inside : (v : Bool) (n : ℕ) → n ≡ questionNumber set v → n < 2 * maxRecords
+              question-inside v = note-inside issuer book table links set v set-below
 
-              module _ (b : Bool) (q : b ≡ setGrants (y .tag) issuer book table links (y .set .0)) where
-                by-grant : judge request issuer book ≡ cond b behind (NotGranted (record { name = record { 0 = k }; rr = y .first }))
-                by-grant = by-name ∙ rw (e, ← set-grants book table links issuer (y .tag) (y .set .0), ← q)
+              permitted-passed : permits issuer (by (At set)) ≡ true → (k′ : ℕ) → k′ ≡ k + 1 → Judged (r .next) k′
+              permitted-passed h = passed (by-name (At set) e ∙ rw h)
 
-                pub name-ungranted : b ≡ false → NotGranted (record { name = record { 0 = k }; rr = y .first }) ≡ judge request issuer book
-                name-ungranted h = sym (by-grant ∙ rw h)
+              -- n is the number of the question
+              module _ (n : ℕ) (i : n ≡ questionNumber set (r .wildcard)) (asked : List Bool) (notes : Asked issuer book table links asked) where
+                pub asked-before : getD asked n false ≡ true → (k′ : ℕ) → k′ ≡ k + 1 → Judged (r .next) k′
+                asked-before h = permitted-passed (permitted-before issuer book table links set (r .wildcard) set-below n i asked notes h)
 
-                pub name-granted : b ≡ true → (k′ : ℕ) → k′ ≡ k + 1 → Judged (r .next) k′
-                name-granted h = passed (by-grant ∙ rw h)
+                -- j is the verdict by the set
+                module _ (j : Judgement) (q : j ≡ verdictBySet issuer book table links k set (r .wildcard)) where
+                  permitted : j ≡ Permitted → permits issuer (by (At set)) ≡ true
+                  unfolding verdictBySet
+                  permitted h = permits-it issuer k behind (by (At set)) (sym h ∙ q)
+
+                  pub name-denied : NotPermitted j → j ≡ judge request issuer book
+                  unfolding verdictBySet
+                  name-denied h = denies-it issuer k behind (by (At set)) j q h ∙ sym (by-name (At set) e)
+
+                  pub name-permitted : j ≡ Permitted → (k′ : ℕ) → k′ ≡ k + 1 → Judged (r .next) k′
+                  name-permitted h = permitted-passed (permitted h)
+
+                  pub name-noted : j ≡ Permitted → Asked issuer book table links (put asked n true)
+                  name-noted h = now-asked issuer book table links set (r .wildcard) set-below n i asked notes (permitted h)

@@ -1,20 +1,20 @@
 -- What is known on the way: the inputs are accepted, the table and the chains are those of the book, and a note is kept of each set that was
 -- asked and permits the issuer.
-use Prim.Native.Nat.{ℕ, _+_, _*_, _<_}
+use Prim.Native.Nat.{ℕ, _*_}
 use mathlib.Core.Path.{_≡_}
 use mathlib.Core.Bool.{Bool, true, false}
-use mathlib.Core.List.{List}
+use mathlib.Core.List.{List, [], _∷_}
 use mathlib.Core.Option.{none}
 use lib.ListN.{length, getD}
 use Rattle.spec_limits.specs.Limits.{maxRecords}
-use Rattle.spec_record.specs.declared.PropertyTag.{PropertyTag}
-use Rattle.spec_record.specs.declared.PropertyTag.the-variants.{Issue, IssueWild}
-use Rattle.spec_rule.specs.Authorizations.{isIssueWildTag}
+use Rattle.spec_refusal.specs.declared.RecordNo.{RecordNo}
+use Rattle.spec_rule.specs.declared.Judgement.{Judgement}
+use Rattle.spec_rule.specs.Authorizations.{permits}
+use Rattle.spec_rule.specs.Verdicts.{verdictFrom}
 use Rattle.spec_rule.specs.Calls.{firstRefusal, judgeChecks}
-use Rattle.book_places.specs.declared.Governing.{Governing}
 use Rattle.book_places.specs.Table.{tableOf}
 use Rattle.book_places.specs.Chains.{chainsOf}
-use Rattle.book_places.specs.Sets.{setGrants}
+use Rattle.book_places.specs.NameAuthorizations.{setAuthorization, answerTo, meaning}
 
 pub record Ready (request issuer book table links heads : List ℕ) : Type 0 where
   pub accepted : firstRefusal (judgeChecks request issuer book) ≡ none
@@ -22,23 +22,16 @@ pub record Ready (request issuer book table links heads : List ℕ) : Type 0 whe
   pub chained : links ≡ chainsOf book .links
   pub headed : heads ≡ chainsOf book .heads
 
--- the tag of the records that are asked: issuewild or issue
-abbrev pub tagFor : Bool → PropertyTag
-tagFor true = IssueWild
-tagFor false = Issue
+module _ (issuer book table links : List ℕ) where
+  -- the verdict on name k alone, by its relevant set
+  unfoldable pub verdictBySet : ℕ → RecordNo → Bool → Judgement
+  verdictBySet k set wildcard = verdictFrom k issuer (meaning book table links (setAuthorization book table links wildcard set) ∷ [])
 
--- where it is noted of a set, by its first record: two notes for each record
-abbrev pub noteAt : ℕ → Bool → ℕ
-noteAt set true = 2 * set + 1
-noteAt set false = 2 * set
+  -- the answer to the question of a number permits the issuer
+  unfoldable pub answerPermits : ℕ → Bool
+  answerPermits question = permits issuer (meaning book table links (answerTo book table links question))
 
--- where a note is set, the records of that set with that tag grant the issuer
-pub record Asked (issuer book table links : List ℕ) (asked : List Bool) : Type 0 where
-  pub long : length asked ≡ 2 * maxRecords
-  pub permit :
-      (set : ℕ) (wild : Bool) → getD asked (noteAt set wild) false ≡ true → setGrants (tagFor wild) issuer book table links set ≡ true
-
--- the records that govern a name have notes of their own
-pub record Noted (g : Governing) : Type 0 where
-  pub below : g .set .0 < maxRecords
-  pub tag : g .tag ≡ tagFor (isIssueWildTag (g .tag))
+  -- where a note is set, the set that was asked permits the issuer: two notes for each record, by the number of the question
+  pub record Asked (asked : List Bool) : Type 0 where
+    pub long : length asked ≡ 2 * maxRecords
+    pub permit : (question : ℕ) → getD asked question false ≡ true → answerPermits question ≡ true

@@ -1,73 +1,53 @@
 // May this issuer sign? The call that judges.
 use book_places::END;
-use book_places::Governing;
+use book_places::FirstRecord;
 use book_places::NameAuthorization;
 use book_places::TABLE;
 use read_request::RequestedRead;
 use spec_limits::MAX_RECORDS;
-use spec_record::PropertyTag;
 use spec_refusal::Check;
 use spec_refusal::NameNo;
+use spec_refusal::RecordNo;
 use spec_refusal::Refusal;
 use spec_rule::Denial;
 use spec_rule::Judgement;
 ghost use mathlib.Core.Path.{_≡_};
 ghost use mathlib.Core.Option.{none};
-ghost use Prim.Native.Nat.{_<_};
-ghost use Rattle.spec_limits.specs.Limits.{maxRecords};
-ghost use Rattle.spec_rule.specs.Authorizations.{isIssueWildTag};
 ghost use Rattle.spec_rule.specs.Calls.{firstRefusal, judgeChecks, judge};
-ghost use Rattle.book_places.specs.Sets.{setGrants};
-ghost use Rattle.judge_call.specs.Asked.{Ready, noteAt, Asked, Noted};
+ghost use Rattle.judge_call.specs.Asked.{Ready, verdictBySet};
 
-// Two notes for each record: that the set which begins there permits the issuer, by its issue and by its issuewild records.
+// Two notes for each record: that the set which begins there permits the issuer, asked for X and asked for *.X.
 const NOTES: usize = 2 * MAX_RECORDS;
 
-// Where it is noted of the records that govern a name.
-fn note_at(g: Governing) -> usize
-    requires { ⌜ g .set .0 < maxRecords ⌝ }
-    ensures { λ r. ⌜ r ≡ noteAt (g .set .0) (isIssueWildTag (g .tag)) ⌝ }
-{
-    let set = g.set;
-    let two = 2 * set.0;
-    let tag = g.tag;
-    match tag {
-        PropertyTag::IssueWild => two + 1,
-        PropertyTag::Issue => two,
-        PropertyTag::Iodef => two,
-        PropertyTag::Unknown => two,
-    }
-}
-
-// Whether the records that govern a name grant the issuer. No set is asked twice for one tag.
-fn is_granted(
+// Judges a name by its relevant set.
+fn judge_by_set(
+    issuer: &[u8],
     book: &[u8],
     table: &[u16],
     links: &[u16],
-    issuer: &[u8],
-    asked: &mut [bool; NOTES],
-    g: Governing,
-) -> bool
-    requires { ⌜ Asked (now issuer) (now book) (now table) (now links) (now asked) ⌝ }
-    requires { ⌜ Noted g ⌝ }
-    ensures { λ r. ⌜ r ≡ setGrants (g .tag) (now (issuer .entry)) (now (book .entry)) (now (table .entry)) (now (links .entry)) (g .set .0) ⌝ }
-    ensures { λ r. ⌜ Asked (now (issuer .entry)) (now (book .entry)) (now (table .entry)) (now (links .entry)) (now (asked .exit)) ⌝ }
+    name: NameNo,
+    set: RecordNo,
+    wildcard: bool,
+) -> Judgement
+    ensures { λ r. ⌜ r ≡ verdictBySet (now (issuer .entry)) (now (book .entry)) (now (table .entry)) (now (links .entry)) (name .0) set wildcard ⌝ }
 {
-    let note = note_at(g);
-    if asked[note] {
-        return true;
+    match book_authorization::set_authorization(book, table, links, set, wildcard) {
+        NameAuthorization::Unrestricted => Judgement::Permitted,
+        NameAuthorization::Forbidden(rr) => Judgement::UnknownCritical(Denial { name, rr }),
+        NameAuthorization::Governed(g) => {
+            let governing = g.set;
+            let from = governing.0;
+            let rr = g.first;
+            let tag = g.tag;
+            if book_set::any_grants(book, table, links, from, tag, issuer) {
+                return Judgement::Permitted;
+            }
+            Judgement::NotGranted(Denial { name, rr })
+        }
     }
-    let set = g.set;
-    let from = set.0;
-    let tag = g.tag;
-    if !book_set::any_grants(book, table, links, from, tag, issuer) {
-        return false;
-    }
-    asked[note] = true;
-    true
 }
 
-// Judges name by name.
+// Judges name by name. No set is asked twice for X, or twice for *.X.
 fn judge_names(
     request: &[u8],
     issuer: &[u8],
@@ -92,25 +72,24 @@ fn judge_names(
         let name = NameNo(k);
         at = next;
         k += 1;
-        match book_authorization::name_authorization(
+        let FirstRecord::At(set) = book_climb::nearest_record(
             book,
             table,
             links,
             heads,
             &request[base..next],
-            n.wildcard,
-        ) {
-            NameAuthorization::Unrestricted => {}
-            NameAuthorization::Forbidden(rr) => {
-                return Judgement::UnknownCritical(Denial { name, rr });
-            }
-            NameAuthorization::Governed(g) => {
-                if !is_granted(book, table, links, issuer, &mut asked, g) {
-                    let rr = g.first;
-                    return Judgement::NotGranted(Denial { name, rr });
-                }
-            }
+        ) else {
+            continue;
+        };
+        let question = book_authorization::question_number(set, n.wildcard);
+        if asked[question] {
+            continue;
         }
+        let judgement = judge_by_set(issuer, book, table, links, name, set, n.wildcard);
+        let Judgement::Permitted = judgement else {
+            return judgement;
+        };
+        asked[question] = true;
     }
     Judgement::Permitted
 }

@@ -1,8 +1,8 @@
 // Who may sign for all names of a request, found in the table of the book: the candidates, and the round that those on the list are in.
 use book_places::END;
 use book_places::TABLE;
-use list_places::GoverningSets;
 use list_places::Permitted;
+use list_places::RelevantSets;
 use spec_limits::MAX_NAMES;
 use spec_limits::MAX_RECORDS;
 ghost use mathlib.Core.Path.{_≡_};
@@ -23,14 +23,14 @@ pub fn find_permitted(
     let mut links = [END; MAX_RECORDS];
     let mut heads = [END; MAX_RECORDS];
     book_index::index_book(book, &mut table, &mut links, &mut heads);
-    let mut codes = [0u16; MAX_NAMES];
-    let GoverningSets::Sets(noted) = list_sets::note_sets(
+    let mut numbers = [0u16; MAX_NAMES];
+    let RelevantSets::Noted(noted) = list_sets::note_questions(
         request,
         book,
         &table,
         &links,
         &heads,
-        &mut codes,
+        &mut numbers,
     ) else {
         return Permitted {
             restricted: true,
@@ -38,18 +38,6 @@ pub fn find_permitted(
             round: 0,
         };
     };
-    let n = list_sets::ask_once(&mut codes, noted);
-    if n == 0 {
-        return Permitted {
-            restricted: false,
-            count: 0,
-            round: 0,
-        };
-    }
-    let count = list_kept::keep_granted(book, &table, &links, &codes, n, names, rounds);
-    Permitted {
-        restricted: true,
-        count,
-        round: n - 1,
-    }
+    let n = list_sets::ask_once(&mut numbers, noted);
+    list_kept::ask_sets(book, &table, &links, &numbers, n, names, rounds)
 }

@@ -35,10 +35,9 @@ pub fn next_grant(
 {
     let set = by.set;
     let tag = by.tag;
-    let owner = book_table::owner_at(book, table, set);
     let mut at: usize = from;
     loop {
-        let FirstRecord::At(r) = book_look::next_owned(book, table, links, owner, at) else {
+        let FirstRecord::At(r) = book_look::next_in_set(book, table, links, set, at) else {
             return NextGrant::Nothing;
         };
         let i = r.0;

@@ -1,1 +1,1 @@
-mod KeptLoop
+mod AskedLoop

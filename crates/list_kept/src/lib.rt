@@ -1,75 +1,87 @@
-// The candidates of some sets of records: those of the first set, narrowed by each of the others.
+// Questions put to sets of records: the issuers that the first set that governs grants are the candidates, and each further one narrows them.
+use book_places::Governing;
+use book_places::NameAuthorization;
+use list_places::Permitted;
 use list_places::TaggedSet;
-use spec_record::PropertyTag;
 ghost use mathlib.Core.Path.{_≡_};
-ghost use lib.ListN.{take, drop};
-ghost use Rattle.list_places.specs.SetCodes.{taggedSet};
-ghost use Rattle.list_places.specs.PermittedBy.{narrowedBy, keptBy};
+ghost use lib.ListN.{take};
+ghost use Rattle.list_places.specs.PermittedBy.{governedIn, allAsked};
 
-// The set and the tag of a number.
-fn tagged_set(code: usize) -> TaggedSet
-    ensures { λ r. ⌜ r ≡ taggedSet code ⌝ }
+// One more set that governs.
+fn keep_granted(
+    book: &[u8],
+    table: &[u16],
+    links: &[u16],
+    g: Governing,
+    names: &mut [u16],
+    rounds: &mut [u16],
+    p: Permitted,
+) -> Permitted
+    ensures answer { λ r. ⌜ r ≡ governedIn (now (book .entry)) (now (table .entry)) (now (links .entry)) g (record { answer = p; names = now (names .entry); rounds = now (rounds .entry) }) .answer ⌝ }
+    ensures names { λ r. ⌜ now (names .exit) ≡ governedIn (now (book .entry)) (now (table .entry)) (now (links .entry)) g (record { answer = p; names = now (names .entry); rounds = now (rounds .entry) }) .names ⌝ }
+    ensures rounds { λ r. ⌜ now (rounds .exit) ≡ governedIn (now (book .entry)) (now (table .entry)) (now (links .entry)) g (record { answer = p; names = now (names .entry); rounds = now (rounds .entry) }) .rounds ⌝ }
 {
-    let set = code / 2;
-    if code % 2 == 1 {
-        return TaggedSet {
-            set,
-            tag: PropertyTag::IssueWild,
+    let set = g.set;
+    let tag = g.tag;
+    let by = TaggedSet { set: set.0, tag };
+    if !p.restricted {
+        let count = list_collect::collect(book, table, links, by, names);
+        return Permitted {
+            restricted: true,
+            count,
+            round: 0,
         };
     }
-    TaggedSet {
-        set,
-        tag: PropertyTag::Issue,
+    let count = p.count;
+    let round = p.round;
+    list_collect::narrow(book, table, links, by, names, count, rounds, round);
+    Permitted {
+        restricted: true,
+        count,
+        round: (round % 65536 + 1) % 65536,
     }
 }
 
-// Candidates that began in a round 0 are narrowed by each of the first n sets of a list of their numbers, but for the first one.
-fn narrow_by(
+// The first n questions of a list of their numbers, one after the other. A set that does not restrict changes nothing; where CAA forbids,
+// nobody may sign. The names of the candidates and their rounds are left in two lent arrays.
+pub fn ask_sets(
     book: &[u8],
     table: &[u16],
     links: &[u16],
-    codes: &[u16],
-    n: usize,
-    names: &[u16],
-    count: usize,
-    rounds: &mut [u16],
-)
-    ensures { λ r. ⌜ now (rounds .exit) ≡ narrowedBy (now (book .entry)) (now (table .entry)) (now (links .entry)) (now (names .entry)) count 0 (drop 1 (take n (now (codes .entry)))) (now (rounds .entry)) ⌝ }
-{
-    let mut i: usize = 1;
-    while i < n {
-        if codes.len() <= i {
-            return;
-        }
-        let by = tagged_set(codes[i] as usize);
-        list_collect::narrow(book, table, links, by, names, count, rounds, i - 1);
-        i += 1;
-    }
-}
-
-// The candidates of the first n sets of a list of their numbers: their names, and the round of each, which is n - 1 if all these sets grant
-// it and it began in round 0. The answer is how many candidates there are.
-pub fn keep_granted(
-    book: &[u8],
-    table: &[u16],
-    links: &[u16],
-    codes: &[u16],
+    numbers: &[u16],
     n: usize,
     names: &mut [u16],
     rounds: &mut [u16],
-) -> usize
-    ensures answer { λ r. ⌜ r ≡ keptBy (now (book .entry)) (now (table .entry)) (now (links .entry)) (take n (now (codes .entry))) (now (names .entry)) (now (rounds .entry)) .count ⌝ }
-    ensures numbers { λ r. ⌜ now (names .exit) ≡ keptBy (now (book .entry)) (now (table .entry)) (now (links .entry)) (take n (now (codes .entry))) (now (names .entry)) (now (rounds .entry)) .names ⌝ }
-    ensures rounds { λ r. ⌜ now (rounds .exit) ≡ keptBy (now (book .entry)) (now (table .entry)) (now (links .entry)) (take n (now (codes .entry))) (now (names .entry)) (now (rounds .entry)) .rounds ⌝ }
+) -> Permitted
+    ensures answer { λ r. ⌜ r ≡ allAsked (now (book .entry)) (now (table .entry)) (now (links .entry)) (take n (now (numbers .entry))) (now (names .entry)) (now (rounds .entry)) .answer ⌝ }
+    ensures names { λ r. ⌜ now (names .exit) ≡ allAsked (now (book .entry)) (now (table .entry)) (now (links .entry)) (take n (now (numbers .entry))) (now (names .entry)) (now (rounds .entry)) .names ⌝ }
+    ensures rounds { λ r. ⌜ now (rounds .exit) ≡ allAsked (now (book .entry)) (now (table .entry)) (now (links .entry)) (take n (now (numbers .entry))) (now (names .entry)) (now (rounds .entry)) .rounds ⌝ }
 {
-    if n == 0 {
-        return 0;
+    let mut p = Permitted {
+        restricted: false,
+        count: 0,
+        round: 0,
+    };
+    let mut i: usize = 0;
+    while i < n {
+        if numbers.len() <= i {
+            return p;
+        }
+        let question = numbers[i] as usize;
+        i += 1;
+        match book_authorization::answer_to(book, table, links, question) {
+            NameAuthorization::Unrestricted => {}
+            NameAuthorization::Forbidden(_) => {
+                return Permitted {
+                    restricted: true,
+                    count: 0,
+                    round: 0,
+                };
+            }
+            NameAuthorization::Governed(g) => {
+                p = keep_granted(book, table, links, g, names, rounds, p);
+            }
+        }
     }
-    if codes.len() == 0 {
-        return 0;
-    }
-    let by = tagged_set(codes[0] as usize);
-    let count = list_collect::collect(book, table, links, by, names);
-    narrow_by(book, table, links, codes, n, names, count, rounds);
-    count
+    p
 }

@@ -5,9 +5,10 @@ pub mod CollectedNames
 pub mod NarrowedNames
 pub mod RoundLaws
 pub mod GrantWalk
-pub mod SetIssuers
+pub mod LeftIssuers
 pub mod OnceLaws
-pub mod KeptBySets
-pub mod NotedSets
-pub mod SaidNames
+pub mod NotedIssuers
+pub mod AskedNames
+pub mod AskedSets
 pub mod ByOffset
+pub mod PermittedParts

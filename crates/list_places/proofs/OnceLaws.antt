@@ -1,73 +1,69 @@
--- Numbers each once: a test that those met before pass says the same of all of them.
+-- Questions each once: those left out were answered before, so the issuers stay.
 use Prim.Native.Nat.{ℕ, suc, _≤_, _*_}
 use native.Mathlib.Omega.{arith}
 use mathlib.Core.Path.{_≡_, refl, sym, _∙_}
-use mathlib.Core.Bool.{Bool, true, false, cond, _&&_, false≢true}
-use mathlib.Core.List.{List, [], _∷_}
+use mathlib.Core.Bool.{Bool, true, false, cond, false≢true}
+use mathlib.Core.List.{List, [], _∷_, map}
 use lib.Dec.{ltb, eqb}
 use lib.ListN.{length, getD, set, replicate, List·getD-eq-default, getD-replicate, length-replicate}
 use lib.Seq.{getD-set-other}
 use borrow.Author.Tests.{eqb-true, eqb-false, ltb-true, ltb-false}
 use Rattle.spec_limits.specs.Limits.{maxRecords}
-use Rattle.spec_octets.specs.Lists.{all}
-use Rattle.list_places.specs.SetCodes.{onceBehind, once}
+use Rattle.spec_rule.specs.Authorizations.{Authorization}
+use Rattle.spec_rule.specs.IssuerLists.{Issuers, anyone, issuers}
+use Rattle.list_places.specs.Questions.{onceBehind, once}
+use Rattle.list_places.proofs.LeftIssuers.{left, left-one, Absorbed, absorbs, still-absorbed, Lower, absorbs-itself}
 
--- those met pass
-abbrev Passed : (ℕ → Bool) → List Bool → Type 0
-Passed q asked = (c : ℕ) → getD asked c false ≡ true → q c ≡ true
-
--- one more met, which passes
-one-passed : (q : ℕ → Bool) (asked : List Bool) (c : ℕ) → q c ≡ true → Passed q asked → Passed q (set asked c true)
-one-passed q asked c e h d k = go (eqb d c) refl
+none-asked : (q : ℕ) → getD (replicate (2 * maxRecords) false) q false ≡ false
+none-asked q = go (ltb q (2 * maxRecords)) refl
   where
-    go : (t : Bool) → eqb d c ≡ t → q d ≡ true
-    go true f = rw (eqb-true d c f) e
-    go false f = h d (sym (getD-set-other asked c d true false (eqb-false d c f)) ∙ k)
-
-once-all : (q : ℕ → Bool) (asked : List Bool) (cs : List ℕ) → Passed q asked → all q (onceBehind asked cs) ≡ all q cs
-once-all q asked [] h = refl
-once-all q asked (c ∷ cs) h = go (getD asked c false) refl (q c) refl (λ ds. once-all q ds cs)
-  where
-    go :
-        (t : Bool) → getD asked c false ≡ t → (u : Bool) → q c ≡ u → ((ds : List Bool) → Passed q ds → all q (onceBehind ds cs) ≡ all q cs) →
-        all q (cond t (onceBehind asked cs) (c ∷ onceBehind (set asked c true) cs)) ≡ u && all q cs
-    go true e true k rest = rest asked h
-    go true e false k rest = absurd (false≢true (sym k ∙ h c e))
-    go false e true k rest = rw k (rest (set asked c true) (one-passed q asked c k h))
-    go false e false k rest = rw k
-
-once-fewer : (asked : List Bool) (cs : List ℕ) → length (onceBehind asked cs) ≤ length cs
-once-fewer asked [] = omega arith
-once-fewer asked (c ∷ cs) = go (getD asked c false) (λ ds. once-fewer ds cs)
-  where
-    go :
-        (t : Bool) → ((ds : List Bool) → length (onceBehind ds cs) ≤ length cs) →
-        length (cond t (onceBehind asked cs) (c ∷ onceBehind (set asked c true) cs)) ≤ suc (length cs)
-    go true rest = omega (arith, rest asked)
-    go false rest = omega (arith, rest (set asked c true))
-
-none-asked : (c : ℕ) → getD (replicate (2 * maxRecords) false) c false ≡ false
-none-asked c = go (ltb c (2 * maxRecords)) refl
-  where
-    go : (t : Bool) → ltb c (2 * maxRecords) ≡ t → getD (replicate (2 * maxRecords) false) c false ≡ false
-    go true e = getD-replicate (2 * maxRecords) c false false (ltb-true c (2 * maxRecords) e)
+    go : (t : Bool) → ltb q (2 * maxRecords) ≡ t → getD (replicate (2 * maxRecords) false) q false ≡ false
+    go true e = getD-replicate (2 * maxRecords) q false false (ltb-true q (2 * maxRecords) e)
     go false e =
-        List·getD-eq-default (replicate (2 * maxRecords) false) false {n = c}
-        (rw (length-replicate {A = Bool} (2 * maxRecords) false) (ltb-false c (2 * maxRecords) e))
+        List·getD-eq-default (replicate (2 * maxRecords) false) false {n = q}
+        (rw (length-replicate {A = Bool} (2 * maxRecords) false) (ltb-false q (2 * maxRecords) e))
 
--- the first number stays the first, and a test that it passes says the same of the others
-module _ (c : ℕ) (cs : List ℕ) where
-  abbrev pub others : List ℕ
-  others = onceBehind (set (replicate (2 * maxRecords) false) c true) cs
+-- each question is answered so
+module _ (answer : ℕ → Authorization) (lower : (q : ℕ) → Lower (answer q)) where
+  -- the answers to those met are absorbed
+  abbrev Met : Issuers → List Bool → Type 0
+  Met i asked = (q : ℕ) → getD asked q false ≡ true → Absorbed i (answer q)
 
-  pub once-first : once (c ∷ cs) ≡ c ∷ others
+  one-met : (i : Issuers) (asked : List Bool) (q : ℕ) → Met i asked → Met (left i (answer q ∷ [])) (set asked q true)
+  one-met i asked q h d k = go (eqb d q) refl
+    where
+      go : (t : Bool) → eqb d q ≡ t → Absorbed (left i (answer q ∷ [])) (answer d)
+      go true f = rw (eqb-true d q f) (absorbs-itself i (answer q) (lower q))
+      go false f = still-absorbed i (answer q) (answer d) (h d (sym (getD-set-other asked q d true false (eqb-false d q f)) ∙ k))
+
+  once-left : (i : Issuers) (asked : List Bool) (qs : List ℕ) → Met i asked → left i (map answer (onceBehind asked qs)) ≡ left i (map answer qs)
+  once-left i asked [] h = refl
+  once-left i asked (q ∷ qs) h = go (getD asked q false) refl (λ j ds. once-left j ds qs)
+    where
+      go :
+          (t : Bool) → getD asked q false ≡ t →
+          ((j : Issuers) (ds : List Bool) → Met j ds → left j (map answer (onceBehind ds qs)) ≡ left j (map answer qs)) →
+          left i (map answer (cond t (onceBehind asked qs) (q ∷ onceBehind (set asked q true) qs))) ≡ left i (answer q ∷ map answer qs)
+      go true e rest = rest i asked h ∙ sym (absorbs i (answer q) (map answer qs) (h q e))
+      go false e rest =
+          left-one i (answer q) (map answer (onceBehind (set asked q true) qs))
+          ∙ rest (left i (answer q ∷ [])) (set asked q true) (one-met i asked q h)
+          ∙ sym (left-one i (answer q) (map answer qs))
+
+  pub once-issuers : (qs : List ℕ) → issuers (map answer (once qs)) ≡ issuers (map answer qs)
   unfolding once
-  once-first = rw (none-asked c)
+  once-issuers qs = once-left anyone (replicate (2 * maxRecords) false) qs (λ q e. absurd (false≢true (sym (none-asked q) ∙ e)))
 
-  pub others-fewer : length others ≤ length cs
-  others-fewer = once-fewer (set (replicate (2 * maxRecords) false) c true) cs
+fewer-behind : (asked : List Bool) (qs : List ℕ) → length (onceBehind asked qs) ≤ length qs
+fewer-behind asked [] = omega arith
+fewer-behind asked (q ∷ qs) = go (getD asked q false) (λ ds. fewer-behind ds qs)
+  where
+    go :
+        (t : Bool) → ((ds : List Bool) → length (onceBehind ds qs) ≤ length qs) →
+        length (cond t (onceBehind asked qs) (q ∷ onceBehind (set asked q true) qs)) ≤ suc (length qs)
+    go true rest = omega (arith, rest asked)
+    go false rest = omega (arith, rest (set asked q true))
 
-  pub others-all : (q : ℕ → Bool) → q c ≡ true → all q others ≡ all q cs
-  others-all q e =
-      once-all q (set (replicate (2 * maxRecords) false) c true) cs
-      (one-passed q (replicate (2 * maxRecords) false) c e (λ d k. absurd (false≢true (sym (none-asked d) ∙ k))))
+pub once-fewer : (qs : List ℕ) → length (once qs) ≤ length qs
+unfolding once
+once-fewer qs = fewer-behind (replicate (2 * maxRecords) false) qs

@@ -1,6 +1,6 @@
 pub mod Grants
 pub mod Candidates
 pub mod Rounds
-pub mod SetCodes
+pub mod Questions
 pub mod PermittedBy
 pub mod Theorems

@@ -1,74 +1,89 @@
--- The issuers for all names of a request, by the sets that govern them: the first set's names are the candidates, and each further set narrows them.
-use Prim.Native.Nat.{ℕ, suc}
+-- The issuers for all names of a request, by the answers to its questions: the names of the first set that governs are the candidates, and each
+-- further one narrows them.
+use Prim.Native.Nat.{ℕ}
 use mathlib.Core.Bool.{true, false, cond}
 use mathlib.Core.List.{List, [], _∷_}
-use lib.ListN.{length, take, replicate}
+use lib.ListN.{take, replicate}
 use Rattle.spec_limits.specs.Limits.{maxNames}
 use Rattle.spec_rule.specs.IssuerLists.{Issuers, anyone, listed}
+use Rattle.book_places.specs.declared.Governing.{Governing}
+use Rattle.book_places.specs.declared.NameAuthorization.{NameAuthorization}
+use Rattle.book_places.specs.declared.NameAuthorization.the-variants.{Unrestricted, Forbidden, Governed}
 use Rattle.book_places.specs.Table.{tableOf}
 use Rattle.book_places.specs.Chains.{chainsOf}
-use Rattle.list_places.specs.declared.GoverningSets.{GoverningSets}
-use Rattle.list_places.specs.declared.GoverningSets.the-variants.{Nobody, Sets}
+use Rattle.book_places.specs.NameAuthorizations.{answerTo}
+use Rattle.list_places.specs.declared.TaggedSet.{TaggedSet}
+use Rattle.list_places.specs.declared.RelevantSets.{RelevantSets}
+use Rattle.list_places.specs.declared.RelevantSets.the-variants.{Unknown, Noted}
 use Rattle.list_places.specs.declared.Permitted.{Permitted}
-use Rattle.list_places.specs.Candidates.{Candidates, collected}
-use Rattle.list_places.specs.Rounds.{keptNames, narrowed}
-use Rattle.list_places.specs.SetCodes.{taggedSet, said, Noted, noted, once}
+use Rattle.list_places.specs.Candidates.{collected}
+use Rattle.list_places.specs.Rounds.{nextRound, keptNames, narrowed}
+use Rattle.list_places.specs.Questions.{questions, NotedQuestions, noted, once}
 
--- candidates with their rounds
-pub record Kept : Type 0 where
-  pub count : ℕ
-  pub names : List ℕ
-  pub rounds : List ℕ
-
-module _ (book table links : List ℕ) where
-  -- narrowed by further sets, from round t on
-  abbrev pub narrowedBy : List ℕ → ℕ → ℕ → List ℕ → List ℕ → List ℕ
-  narrowedBy names count t [] rounds = rounds
-  narrowedBy names count t (c ∷ cs) rounds =
-      narrowedBy names count (suc t) cs (narrowed book names table links (taggedSet c) count t rounds)
-
-  abbrev pub keptOf : Candidates → List ℕ → List ℕ → Kept
-  keptOf c cs rounds = record { count = c .count; names = c .names; rounds = narrowedBy (c .names) (c .count) 0 cs rounds }
-
-  -- by some sets, in two arrays
-  unfoldable pub keptBy : List ℕ → List ℕ → List ℕ → Kept
-  keptBy [] names rounds = record { count = 0; names = names; rounds = rounds }
-  keptBy (c ∷ cs) names rounds = keptOf (collected book table links (taggedSet c) names) cs rounds
-
--- the answer, and the two arrays afterwards
+-- the answer so far, and the two arrays
 pub record PermittedIn : Type 0 where
   pub answer : Permitted
   pub names : List ℕ
   pub rounds : List ℕ
 
-module _ (book table links names rounds : List ℕ) where
-  -- the candidates of some sets, in the round behind the last of these
-  abbrev pub listedIn : ℕ → Kept → PermittedIn
-  listedIn round k = record { answer = record { restricted = true; count = k .count; round = round }; names = k .names; rounds = k .rounds }
+-- no set governs yet
+abbrev pub anyoneIn : List ℕ → List ℕ → PermittedIn
+anyoneIn names rounds = record { answer = record { restricted = false; count = 0; round = 0 }; names = names; rounds = rounds }
 
-  abbrev pub nobodyIn : PermittedIn
-  nobodyIn = record { answer = record { restricted = true; count = 0; round = 0 }; names = names; rounds = rounds }
+abbrev pub nobodyIn : List ℕ → List ℕ → PermittedIn
+nobodyIn names rounds = record { answer = record { restricted = true; count = 0; round = 0 }; names = names; rounds = rounds }
 
-  abbrev pub anyoneIn : PermittedIn
-  anyoneIn = record { answer = record { restricted = false; count = 0; round = 0 }; names = names; rounds = rounds }
+module _ (book table links : List ℕ) where
+  -- the first set that governs
+  abbrev pub collectedIn : TaggedSet → PermittedIn → PermittedIn
+  collectedIn s p = record {
+    answer = record { restricted = true; count = collected book table links s (p .names) .count; round = 0 };
+    names = collected book table links s (p .names) .names;
+    rounds = p .rounds;
+  }
 
-  -- where no set governs, no name is restricted
-  abbrev pub bySets : List ℕ → PermittedIn
-  bySets [] = anyoneIn
-  bySets (c ∷ cs) = listedIn (length cs) (keptBy book table links (c ∷ cs) names rounds)
+  -- a further one
+  abbrev pub narrowedIn : TaggedSet → PermittedIn → PermittedIn
+  narrowedIn s p = record {
+    answer = record { restricted = true; count = p .answer .count; round = nextRound (p .answer .round) };
+    names = p .names;
+    rounds = narrowed book (p .names) table links s (p .answer .count) (p .answer .round) (p .rounds);
+  }
 
-  -- each set once
-  abbrev pub byNoted : GoverningSets → List ℕ → PermittedIn
-  byNoted Nobody codes = nobodyIn
-  byNoted (Sets n) codes = bySets (once (take n codes))
+  -- the records of a set that govern, by their tag
+  abbrev pub governingSet : Governing → TaggedSet
+  governingSet g = record { set = g .set .0; tag = g .tag }
 
--- the sets that govern the names of a request, by the table of the book and its chains
-unfoldable pub notedIn : List ℕ → List ℕ → Noted
-notedIn request book = noted (replicate maxNames 0) (said request book (tableOf book) (chainsOf book .links) (chainsOf book .heads))
+  unfoldable pub governedIn : Governing → PermittedIn → PermittedIn
+  governedIn g p = cond (p .answer .restricted) (narrowedIn (governingSet g) p) (collectedIn (governingSet g) p)
+
+  -- by one answer, and then by the others; where CAA forbids, nobody may sign
+  abbrev pub answeredIn : NameAuthorization → PermittedIn → (PermittedIn → PermittedIn) → PermittedIn
+  answeredIn Unrestricted p rest = rest p
+  answeredIn (Forbidden r) p rest = nobodyIn (p .names) (p .rounds)
+  answeredIn (Governed g) p rest = rest (governedIn g p)
+
+  -- by the answers to some questions
+  abbrev pub askedIn : List ℕ → PermittedIn → PermittedIn
+  askedIn [] p = p
+  askedIn (q ∷ qs) p = answeredIn (answerTo book table links q) p (askedIn qs)
+
+  -- from the beginning, in two arrays
+  unfoldable pub allAsked : List ℕ → List ℕ → List ℕ → PermittedIn
+  allAsked qs names rounds = askedIn qs (anyoneIn names rounds)
+
+  -- each question is asked once
+  abbrev pub byNoted : RelevantSets → List ℕ → List ℕ → List ℕ → PermittedIn
+  byNoted Unknown numbers names rounds = nobodyIn names rounds
+  byNoted (Noted n) numbers names rounds = allAsked (once (take n numbers)) names rounds
+
+-- the questions of a request, by the table of the book and its chains
+unfoldable pub notedIn : List ℕ → List ℕ → NotedQuestions
+notedIn request book = noted (replicate maxNames 0) (questions request book (tableOf book) (chainsOf book .links) (chainsOf book .heads))
 
 unfoldable pub permittedIn : List ℕ → List ℕ → List ℕ → List ℕ → PermittedIn
 permittedIn request book names rounds =
-    byNoted book (tableOf book) (chainsOf book .links) names rounds (notedIn request book .answer) (notedIn request book .codes)
+    byNoted book (tableOf book) (chainsOf book .links) (notedIn request book .answer) (notedIn request book .numbers) names rounds
 
 -- who may sign by such an answer
 abbrev pub issuersIn : List ℕ → PermittedIn → Issuers

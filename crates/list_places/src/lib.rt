@@ -20,12 +20,12 @@ pub enum NextGrant {
     Nothing,
 }
 
-// What governs the names of a request.
-pub enum GoverningSets {
-    // CAA forbids one of the names.
-    Nobody,
-    // The sets that govern restricted names: how many are noted.
-    Sets(usize),
+// The relevant sets of the names of a request.
+pub enum RelevantSets {
+    // A name could not be read, or there was no room to note its set.
+    Unknown,
+    // How many are noted.
+    Noted(usize),
 }
 
 // The issuers for all names of a request: anyone, unless a name is restricted; else the candidates that are in the last round.

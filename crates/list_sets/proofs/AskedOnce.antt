@@ -1,4 +1,4 @@
--- Numbers each once: those that are left, behind those put at the front, give the same numbers in the end.
+-- Numbers each once: those that are left, behind those put at the front, give the same firsts in the end.
 use Prim.Native.Nat.{ℕ, _+_, _-_, _*_, _≤_, _<_}
 use native.Mathlib.Omega.{arith}
 use native.Mathlib.Numerals.{add-one}
@@ -10,20 +10,20 @@ use lib.Seq.{drop-cons, getD-drop, getD-take, drop-append-seam, set-out}
 use Rattle.spec_limits.specs.Limits.{maxRecords}
 use Rattle.spec_octets.specs.Buffer.{Put}
 use Rattle.text_buffer.proofs.LentRest.{put-nothing, put-octet}
-use Rattle.list_places.specs.SetCodes.{onceBehind, once}
+use Rattle.list_places.specs.Questions.{onceBehind, once}
 
 -- the array was d
 module _ (n : ℕ) (d : List ℕ) where
-  abbrev numbers : List ℕ
-  numbers = take n d
+  abbrev firsts : List ℕ
+  firsts = take n d
 
-  pub record Asking (codes : List ℕ) (asked : List Bool) (w i : ℕ) : Type 0 where
+  pub record Asking (numbers : List ℕ) (asked : List Bool) (w i : ℕ) : Type 0 where
     pub before : List ℕ
-    pub put : Put before d codes w
+    pub put : Put before d numbers w
     pub left : once (take n d) ≡ before ++ onceBehind asked (drop i (take n d))
     pub few : w ≤ i
     pub long : length asked ≡ 2 * maxRecords
-    pub same-length : length codes ≡ length d
+    pub same-length : length numbers ≡ length d
 
   pub ask-start : Asking d (replicate (2 * maxRecords) false) 0 0
   unfolding once
@@ -36,49 +36,49 @@ module _ (n : ℕ) (d : List ℕ) where
     same-length = refl;
   }
 
-  module _ (codes : List ℕ) (asked : List Bool) (w i : ℕ) (m : Asking codes asked w i) where
-    pub ask-length : length codes ≡ length d
+  module _ (numbers : List ℕ) (asked : List Bool) (w i : ℕ) (m : Asking numbers asked w i) where
+    pub ask-length : length numbers ≡ length d
     ask-length = m .same-length
 
     -- nothing is left
-    over : length numbers ≤ i → once numbers ≡ m .before
-    over h = m .left ∙ rw (drop-of-length-le numbers {i = i} h) (append-nil (m .before))
+    over : length firsts ≤ i → once firsts ≡ m .before
+    over h = m .left ∙ rw (drop-of-length-le firsts {i = i} h) (append-nil (m .before))
 
-    module _ (h : length numbers ≤ i) where
-      told : w ≡ length (once numbers)
+    module _ (h : length firsts ≤ i) where
+      told : w ≡ length (once firsts)
       told = m .put .count ∙ ap length (sym (over h))
 
-      written : codes ≡ once numbers ++ drop (length (once numbers)) d
+      written : numbers ≡ once firsts ++ drop (length (once firsts)) d
       written = rw (over h) (m .put .octets)
 
     module _ (h : n ≤ i) where
       pub done-answer : w ≡ length (once (take n d))
       done-answer = told (omega (arith, length-take n d))
 
-      pub done-numbers : codes ≡ once (take n d) ++ drop (length (once (take n d))) d
+      pub done-numbers : numbers ≡ once (take n d) ++ drop (length (once (take n d))) d
       done-numbers = written (omega (arith, length-take n d))
 
-    module _ (h : length codes ≤ i) where
+    module _ (h : length numbers ≤ i) where
       pub past-answer : w ≡ length (once (take n d))
       past-answer = told (omega (arith, length-take n d, m .same-length))
 
-      pub past-numbers : codes ≡ once (take n d) ++ drop (length (once (take n d))) d
+      pub past-numbers : numbers ≡ once (take n d) ++ drop (length (once (take n d))) d
       past-numbers = written (omega (arith, length-take n d, m .same-length))
 
-    module _ (h : i < n) (k : i < length codes) where
+    module _ (h : i < n) (k : i < length numbers) where
       -- what is read was not written
-      unread : getD codes i 0 ≡ getD d i 0
+      unread : getD numbers i 0 ≡ getD d i 0
       unread =
-          let rest : drop w codes ≡ drop w d = rw (m .put .octets, m .put .count) (drop-append-seam (m .before) (drop (length (m .before)) d)) in
+          let rest : drop w numbers ≡ drop w d = rw (m .put .octets, m .put .count) (drop-append-seam (m .before) (drop (length (m .before)) d)) in
           let at : w + (i - w) ≡ i = omega (arith, m .few) in
-          sym (rw at at (getD-drop w codes (i - w) 0)) ∙ ap (λ l. getD l (i - w) 0) rest ∙ rw at at (getD-drop w d (i - w) 0)
+          sym (rw at at (getD-drop w numbers (i - w) 0)) ∙ ap (λ l. getD l (i - w) 0) rest ∙ rw at at (getD-drop w d (i - w) 0)
 
-      next : drop i numbers ≡ getD codes i 0 ∷ drop (i + 1) numbers
+      next : drop i firsts ≡ getD numbers i 0 ∷ drop (i + 1) firsts
       next =
           rw (add-one i, unread, ← getD-take n d i 0 h)
-          (drop-cons numbers i 0 (omega (arith, length-take n d, m .same-length)))
+          (drop-cons firsts i 0 (omega (arith, length-take n d, m .same-length)))
 
-      pub known : getD asked (getD codes i 0) false ≡ true → Asking codes asked w (i + 1)
+      pub known : getD asked (getD numbers i 0) false ≡ true → Asking numbers asked w (i + 1)
       known e = record {
         before = m .before;
         put = m .put;
@@ -89,27 +89,27 @@ module _ (n : ℕ) (d : List ℕ) where
       }
 
       new :
-          getD asked (getD codes i 0) false ≡ false → (asked′ : List Bool) → asked′ ≡ set asked (getD codes i 0) true → length asked′ ≡ 2 * maxRecords →
-          Asking (set codes w (getD codes i 0)) asked′ (w + 1) (i + 1)
+          getD asked (getD numbers i 0) false ≡ false → (asked′ : List Bool) → asked′ ≡ set asked (getD numbers i 0) true → length asked′ ≡ 2 * maxRecords →
+          Asking (set numbers w (getD numbers i 0)) asked′ (w + 1) (i + 1)
       new e asked′ f l = record {
-        before = m .before ++ (getD codes i 0 ∷ []);
-        put = put-octet (m .put) (getD codes i 0) (m .before ++ (getD codes i 0 ∷ [])) (omega (arith, m .few)) refl;
-        left = m .left ∙ rw (next, e, f) (sym (append-assoc (m .before) (getD codes i 0 ∷ []) (onceBehind (set asked (getD codes i 0) true) (drop (i + 1) numbers))));
+        before = m .before ++ (getD numbers i 0 ∷ []);
+        put = put-octet (m .put) (getD numbers i 0) (m .before ++ (getD numbers i 0 ∷ [])) (omega (arith, m .few)) refl;
+        left = m .left ∙ rw (next, e, f) (sym (append-assoc (m .before) (getD numbers i 0 ∷ []) (onceBehind (set asked (getD numbers i 0) true) (drop (i + 1) firsts))));
         few = omega (arith, m .few);
         long = l;
-        same-length = length-set codes w (getD codes i 0) ∙ m .same-length;
+        same-length = length-set numbers w (getD numbers i 0) ∙ m .same-length;
       }
 
       pub first-time :
-          getD asked (getD codes i 0) false ≡ false → (asked′ : List Bool) → asked′ ≡ set asked (getD codes i 0) true →
-          Asking (set codes w (getD codes i 0)) asked′ (w + 1) (i + 1)
-      first-time e asked′ f = new e asked′ f (ap length f ∙ length-set asked (getD codes i 0) true ∙ m .long)
+          getD asked (getD numbers i 0) false ≡ false → (asked′ : List Bool) → asked′ ≡ set asked (getD numbers i 0) true →
+          Asking (set numbers w (getD numbers i 0)) asked′ (w + 1) (i + 1)
+      first-time e asked′ f = new e asked′ f (ap length f ∙ length-set asked (getD numbers i 0) true ∙ m .long)
 
       pub no-place :
-          2 * maxRecords ≤ getD codes i 0 → (asked′ : List Bool) → asked′ ≡ asked → Asking (set codes w (getD codes i 0)) asked′ (w + 1) (i + 1)
+          2 * maxRecords ≤ getD numbers i 0 → (asked′ : List Bool) → asked′ ≡ asked → Asking (set numbers w (getD numbers i 0)) asked′ (w + 1) (i + 1)
       no-place e asked′ f =
           new
-          (List·getD-eq-default asked false {n = getD codes i 0} (rw (m .long) e))
+          (List·getD-eq-default asked false {n = getD numbers i 0} (rw (m .long) e))
           asked′
-          (f ∙ sym (set-out asked (getD codes i 0) true (rw (m .long) e)))
+          (f ∙ sym (set-out asked (getD numbers i 0) true (rw (m .long) e)))
           (ap length f ∙ m .long)

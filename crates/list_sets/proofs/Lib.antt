@@ -1,2 +1,2 @@
-mod SetNoting
+mod Noting
 mod AskedOnce

@@ -1,6 +1,7 @@
 -- `any_grants` meets its contract. The loop's invariant: some record grants where one of those that are left does.
 use lib.ListN.{length}
 use borrow.Author.Needs.{needs}
+use Rattle.book_places.specs.Table.{ownerAt}
 use Rattle.book_places.specs.Sets.{ownedFrom}
 use Rattle.book_places.proofs.OwnedWalk.{fewer-left}
 use Rattle.book_set.proofs.SetLaws.{GrantsLeft, grants-start, no-grant, untagged-passed, grant-found, grantless-passed}
@@ -8,19 +9,16 @@ use Rattle.book_set.proofs.any_grants.Statement.{statement}
 use Rattle.book_set.proofs.any_grants.Tie as tie
 
 abbrev Inv-loop : tie.InvT-loop
-Inv-loop book table links first tag issuer owner from₀ from = GrantsLeft tag issuer book table links first owner from
+Inv-loop book table links first tag issuer from₀ from = GrantsLeft tag issuer book table links first (ownerAt book table first) from
 
 abbrev μ-loop : tie.MeasureT-loop
-μ-loop book table links first tag issuer owner from₀ from = length (ownedFrom book table links owner from)
-
-owner-at-requires : tie.Need-owner-at-requires Inv-loop μ-loop
-owner-at-requires c κs = search needs
+μ-loop book table links first tag issuer from₀ from = length (ownedFrom book table links (ownerAt book table first) from)
 
 loop-holds : tie.Need-loop-holds Inv-loop μ-loop
 loop-holds c = search (needs, grants-start)
 
-next-owned-requires : tie.Need-next-owned-requires Inv-loop μ-loop
-next-owned-requires c κs = search needs
+next-in-set-requires : tie.Need-next-in-set-requires Inv-loop μ-loop
+next-in-set-requires c κs = search needs
 
 enum-known-r : tie.Need-enum-known-r Inv-loop μ-loop
 enum-known-r c = search needs
@@ -64,9 +62,8 @@ any-grants-spec =
     (tie.spec
     Inv-loop
     μ-loop
-    owner-at-requires
     loop-holds
-    next-owned-requires
+    next-in-set-requires
     enum-known-r
     enum-told
     returns

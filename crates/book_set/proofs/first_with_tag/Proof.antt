@@ -1,6 +1,7 @@
 -- `first_with_tag` meets its contract. The loop's invariant: the first is that of the records that are left.
 use lib.ListN.{length}
 use borrow.Author.Needs.{needs}
+use Rattle.book_places.specs.Table.{ownerAt}
 use Rattle.book_places.specs.Sets.{ownedFrom, dataHasTag}
 use Rattle.book_places.proofs.OwnedWalk.{fewer-left}
 use Rattle.book_set.proofs.SetLaws.{FirstLeft, first-start, first-passed, none-tagged, tagged-first}
@@ -8,19 +9,16 @@ use Rattle.book_set.proofs.first_with_tag.Statement.{statement}
 use Rattle.book_set.proofs.first_with_tag.Tie as tie
 
 abbrev Inv-loop : tie.InvT-loop
-Inv-loop book table links first tag owner at₀ at = FirstLeft (dataHasTag tag) book table links first owner at
+Inv-loop book table links first tag at₀ at = FirstLeft (dataHasTag tag) book table links first (ownerAt book table first) at
 
 abbrev μ-loop : tie.MeasureT-loop
-μ-loop book table links first tag owner at₀ at = length (ownedFrom book table links owner at)
-
-owner-at-requires : tie.Need-owner-at-requires Inv-loop μ-loop
-owner-at-requires c κs = search needs
+μ-loop book table links first tag at₀ at = length (ownedFrom book table links (ownerAt book table first) at)
 
 loop-holds : tie.Need-loop-holds Inv-loop μ-loop
 loop-holds c = search (needs, first-start)
 
-next-owned-requires : tie.Need-next-owned-requires Inv-loop μ-loop
-next-owned-requires c κs = search needs
+next-in-set-requires : tie.Need-next-in-set-requires Inv-loop μ-loop
+next-in-set-requires c κs = search needs
 
 enum-known-r : tie.Need-enum-known-r Inv-loop μ-loop
 enum-known-r c = search needs
@@ -55,9 +53,8 @@ first-with-tag-spec =
     (tie.spec
     Inv-loop
     μ-loop
-    owner-at-requires
     loop-holds
-    next-owned-requires
+    next-in-set-requires
     enum-known-r
     enum-told
     returns

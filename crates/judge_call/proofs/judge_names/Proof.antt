@@ -2,12 +2,11 @@
 use Prim.Native.Nat.{_-_}
 use lib.ListN.{length}
 use borrow.Author.Needs.{needs}
-use borrow.Author.Tests.{not-true, not-false}
 use Rattle.spec_limits.specs.Limits.{maxNames, maxRecords}
 use Rattle.read_request.proofs.RequestPlaces.{next-inside, left-less}
 use Rattle.judge_call.specs.Asked.{Asked}
 use Rattle.judge_call.proofs.AskedLaws.{none-asked}
-use Rattle.judge_call.proofs.NameWalk.{Judged, names-start, no-bad-name, base-first, name-unrestricted, name-critical, name-noted, name-ungranted, name-granted, few, all-passed}
+use Rattle.judge_call.proofs.NameWalk.{Judged, names-start, few, no-bad-name, base-first, name-unrestricted, question-inside, asked-before, name-denied, name-permitted, name-noted, all-passed}
 use Rattle.judge_call.proofs.judge_names.Statement.{statement}
 use Rattle.judge_call.proofs.judge_names.Tie as tie
 
@@ -37,17 +36,20 @@ add-k : tie.Need-add-k Inv-loop μ-loop
 unfolding maxNames
 add-k c = search (needs, few)
 
-sub-name-authorization : tie.Need-sub-name-authorization Inv-loop μ-loop
-sub-name-authorization c = search (needs, base-first)
+sub-nearest-record : tie.Need-sub-nearest-record Inv-loop μ-loop
+sub-nearest-record c = search (needs, base-first)
 
-part-name-authorization-start : tie.Need-part-name-authorization-start Inv-loop μ-loop
-part-name-authorization-start c = search (needs, base-first)
+part-nearest-record-start : tie.Need-part-nearest-record-start Inv-loop μ-loop
+part-nearest-record-start c = search (needs, base-first)
 
-part-name-authorization-end : tie.Need-part-name-authorization-end Inv-loop μ-loop
-part-name-authorization-end c = search (needs, next-inside)
+part-nearest-record-end : tie.Need-part-nearest-record-end Inv-loop μ-loop
+part-nearest-record-end c = search (needs, next-inside)
 
-name-authorization-requires : tie.Need-name-authorization-requires Inv-loop μ-loop
-name-authorization-requires c κs = search needs
+nearest-record-requires : tie.Need-nearest-record-requires Inv-loop μ-loop
+nearest-record-requires c κs = search needs
+
+enum-known-set : tie.Need-enum-known-set Inv-loop μ-loop
+enum-known-set c = search needs
 
 enum-told-2 : tie.Need-enum-told-2 Inv-loop μ-loop
 enum-told-2 c = search needs
@@ -58,29 +60,40 @@ loop-less c = search (needs, left-less)
 loop-again : tie.Need-loop-again Inv-loop μ-loop
 loop-again c = search (needs, name-unrestricted)
 
-enum-known-rr : tie.Need-enum-known-rr Inv-loop μ-loop
-enum-known-rr c = search needs
+question-number-requires : tie.Need-question-number-requires Inv-loop μ-loop
+question-number-requires c κs = search needs
 
-returns-2 : tie.Need-returns-2 Inv-loop μ-loop
-returns-2 c = search (needs, name-critical)
-
-enum-known-g : tie.Need-enum-known-g Inv-loop μ-loop
-enum-known-g c = search needs
-
-is-granted-requires : tie.Need-is-granted-requires Inv-loop μ-loop
-is-granted-requires c κs = search (needs, name-noted)
-
-returns-3 : tie.Need-returns-3 Inv-loop μ-loop
-returns-3 c = search (needs, not-true, name-ungranted)
+array-read-if1 : tie.Need-array-read-if1 Inv-loop μ-loop
+unfolding maxRecords
+array-read-if1 c = search (needs, question-inside)
 
 loop-less-2 : tie.Need-loop-less-2 Inv-loop μ-loop
 loop-less-2 c = search (needs, left-less)
 
 loop-again-2 : tie.Need-loop-again-2 Inv-loop μ-loop
-loop-again-2 c = search (needs, not-false, name-granted)
+loop-again-2 c = search (needs, asked-before)
 
-returns-4 : tie.Need-returns-4 Inv-loop μ-loop
-returns-4 c = search (needs, all-passed)
+judge-by-set-requires : tie.Need-judge-by-set-requires Inv-loop μ-loop
+judge-by-set-requires c κs = search needs
+
+enum-told-3 : tie.Need-enum-told-3 Inv-loop μ-loop
+enum-told-3 c = search needs
+
+returns-2 : tie.Need-returns-2 Inv-loop μ-loop
+returns-2 c = search (needs, name-denied)
+
+array-write-asked : tie.Need-array-write-asked Inv-loop μ-loop
+unfolding maxRecords
+array-write-asked c = search (needs, question-inside)
+
+loop-less-3 : tie.Need-loop-less-3 Inv-loop μ-loop
+loop-less-3 c = search (needs, left-less)
+
+loop-again-3 : tie.Need-loop-again-3 Inv-loop μ-loop
+loop-again-3 c = search (needs, name-permitted, name-noted)
+
+returns-3 : tie.Need-returns-3 Inv-loop μ-loop
+returns-3 c = search (needs, all-passed)
 
 pub judge-names-spec : {M : Type 1} → statement M
 judge-names-spec =
@@ -94,18 +107,22 @@ judge-names-spec =
     enum-told
     returns
     add-k
-    sub-name-authorization
-    part-name-authorization-start
-    part-name-authorization-end
-    name-authorization-requires
+    sub-nearest-record
+    part-nearest-record-start
+    part-nearest-record-end
+    nearest-record-requires
+    enum-known-set
     enum-told-2
     loop-less
     loop-again
-    enum-known-rr
-    returns-2
-    enum-known-g
-    is-granted-requires
-    returns-3
+    question-number-requires
+    array-read-if1
     loop-less-2
     loop-again-2
-    returns-4)
+    judge-by-set-requires
+    enum-told-3
+    returns-2
+    array-write-asked
+    loop-less-3
+    loop-again-3
+    returns-3)

@@ -1,8 +1,8 @@
 -- `find_permitted` meets its contract.
 use mathlib.Core.Path.{refl}
-use Rattle.spec_limits.specs.Limits.{maxNames, maxRecords}
-use Rattle.list_find.proofs.FoundWays.{parts, made, nobody-found, anyone-found, listed-found}
 use borrow.Author.Needs.{needs}
+use Rattle.spec_limits.specs.Limits.{maxNames, maxRecords}
+use Rattle.list_find.proofs.FoundWays.{parts, made, nobody-found, all-found}
 use Rattle.list_find.proofs.find_permitted.Statement.{statement}
 use Rattle.list_find.proofs.find_permitted.Tie as tie
 
@@ -18,20 +18,20 @@ slice-aggregate-index-book-3 c = search needs
 index-book-requires : tie.Need-index-book-requires
 index-book-requires c κs = search needs
 
-slice-aggregate-note-sets : tie.Need-slice-aggregate-note-sets
-slice-aggregate-note-sets c = search needs
+slice-aggregate-note-questions : tie.Need-slice-aggregate-note-questions
+slice-aggregate-note-questions c = search needs
 
-slice-aggregate-note-sets-2 : tie.Need-slice-aggregate-note-sets-2
-slice-aggregate-note-sets-2 c = search needs
+slice-aggregate-note-questions-2 : tie.Need-slice-aggregate-note-questions-2
+slice-aggregate-note-questions-2 c = search needs
 
-slice-aggregate-note-sets-3 : tie.Need-slice-aggregate-note-sets-3
-slice-aggregate-note-sets-3 c = search needs
+slice-aggregate-note-questions-3 : tie.Need-slice-aggregate-note-questions-3
+slice-aggregate-note-questions-3 c = search needs
 
-slice-aggregate-note-sets-4 : tie.Need-slice-aggregate-note-sets-4
-slice-aggregate-note-sets-4 c = search needs
+slice-aggregate-note-questions-4 : tie.Need-slice-aggregate-note-questions-4
+slice-aggregate-note-questions-4 c = search needs
 
-note-sets-requires : tie.Need-note-sets-requires
-note-sets-requires c κs = search needs
+note-questions-requires : tie.Need-note-questions-requires
+note-questions-requires c κs = search needs
 
 enum-known-noted : tie.Need-enum-known-noted
 enum-known-noted c = search needs
@@ -44,7 +44,7 @@ unfolding maxRecords maxNames
 returns c =
     let noted = c .before .before .before in
     let indexed = noted .before .before .before .before .before .before .before .before in
-    parts _ _ _ _ (nobody-found _ _ _ _ _ _ _ _ (made _ _ _ _ _ refl refl refl _ _ _ (indexed .index-book .ensures .0) (indexed .index-book .ensures .1 .0) (indexed .index-book .ensures .1 .1) _ _ (noted .note-sets .ensures .0) (noted .note-sets .ensures .1)) (search needs))
+    parts _ _ _ _ (nobody-found _ _ _ _ _ _ _ _ (made _ _ _ _ _ refl refl refl _ _ _ (indexed .index-book .ensures .0) (indexed .index-book .ensures .1 .0) (indexed .index-book .ensures .1 .1) _ _ (noted .note-questions .ensures .0) (noted .note-questions .ensures .1)) (search needs))
 
 slice-aggregate-ask-once : tie.Need-slice-aggregate-ask-once
 slice-aggregate-ask-once c = search needs
@@ -52,28 +52,17 @@ slice-aggregate-ask-once c = search needs
 ask-once-requires : tie.Need-ask-once-requires
 ask-once-requires c κs = search needs
 
-returns-2 : tie.Need-returns-2
-unfolding maxRecords maxNames
-returns-2 c =
-    let asked = c .before .before in
-    let noted = asked .before .before .before .before .before .before in
-    let indexed = noted .before .before .before .before .before .before .before .before in
-    parts _ _ _ _ (anyone-found _ _ _ _ _ _ _ _ (made _ _ _ _ _ refl refl refl _ _ _ (indexed .index-book .ensures .0) (indexed .index-book .ensures .1 .0) (indexed .index-book .ensures .1 .1) _ _ (noted .note-sets .ensures .0) (noted .note-sets .ensures .1)) (asked .before .before .before .noted .given .0 .0) (search needs) _ (asked .ask-once .ensures .0) (c .if1 .taken))
+slice-aggregate-ask-sets : tie.Need-slice-aggregate-ask-sets
+slice-aggregate-ask-sets c = search needs
 
-slice-aggregate-keep-granted : tie.Need-slice-aggregate-keep-granted
-slice-aggregate-keep-granted c = search needs
+slice-aggregate-ask-sets-2 : tie.Need-slice-aggregate-ask-sets-2
+slice-aggregate-ask-sets-2 c = search needs
 
-slice-aggregate-keep-granted-2 : tie.Need-slice-aggregate-keep-granted-2
-slice-aggregate-keep-granted-2 c = search needs
+slice-aggregate-ask-sets-3 : tie.Need-slice-aggregate-ask-sets-3
+slice-aggregate-ask-sets-3 c = search needs
 
-slice-aggregate-keep-granted-3 : tie.Need-slice-aggregate-keep-granted-3
-slice-aggregate-keep-granted-3 c = search needs
-
-keep-granted-requires : tie.Need-keep-granted-requires
-keep-granted-requires c κs = search needs
-
-sub-t41 : tie.Need-sub-t41
-sub-t41 c = search needs
+ask-sets-requires : tie.Need-ask-sets-requires
+ask-sets-requires c κs = search needs
 
 same-length : tie.Need-same-length
 same-length c = search needs
@@ -81,14 +70,14 @@ same-length c = search needs
 same-length-2 : tie.Need-same-length-2
 same-length-2 c = search needs
 
-returns-3 : tie.Need-returns-3
+returns-2 : tie.Need-returns-2
 unfolding maxRecords maxNames
-returns-3 c =
+returns-2 c =
     let kept = c .before .before .before .before in
-    let asked = kept .before .before .before .before .before .before .before .before in
+    let asked = kept .before .before .before .before .before .before .before in
     let noted = asked .before .before .before .before .before .before in
     let indexed = noted .before .before .before .before .before .before .before .before in
-    parts _ _ _ _ (listed-found _ _ _ _ _ _ _ _ (made _ _ _ _ _ refl refl refl _ _ _ (indexed .index-book .ensures .0) (indexed .index-book .ensures .1 .0) (indexed .index-book .ensures .1 .1) _ _ (noted .note-sets .ensures .0) (noted .note-sets .ensures .1)) (asked .before .before .before .noted .given .0 .0) (search needs) _ (asked .ask-once .ensures .0) (kept .before .before .before .before .before .before .if1 .left) _ (asked .ask-once .ensures .1) _ _ _ (kept .keep-granted .ensures .0) (kept .keep-granted .ensures .1 .0) (kept .keep-granted .ensures .1 .1))
+    parts _ _ _ _ (all-found _ _ _ _ _ _ _ _ (made _ _ _ _ _ refl refl refl _ _ _ (indexed .index-book .ensures .0) (indexed .index-book .ensures .1 .0) (indexed .index-book .ensures .1 .1) _ _ (noted .note-questions .ensures .0) (noted .note-questions .ensures .1)) (asked .before .before .before .noted .given .0 .0) (search needs) _ (asked .ask-once .ensures .0) _ (asked .ask-once .ensures .1) _ _ _ (kept .ask-sets .ensures .0) (kept .ask-sets .ensures .1 .0) (kept .ask-sets .ensures .1 .1))
 
 pub find-permitted-spec : {M : Type 1} → statement M
 find-permitted-spec =
@@ -98,22 +87,20 @@ find-permitted-spec =
     slice-aggregate-index-book-2
     slice-aggregate-index-book-3
     index-book-requires
-    slice-aggregate-note-sets
-    slice-aggregate-note-sets-2
-    slice-aggregate-note-sets-3
-    slice-aggregate-note-sets-4
-    note-sets-requires
+    slice-aggregate-note-questions
+    slice-aggregate-note-questions-2
+    slice-aggregate-note-questions-3
+    slice-aggregate-note-questions-4
+    note-questions-requires
     enum-known-noted
     enum-told
     returns
     slice-aggregate-ask-once
     ask-once-requires
-    returns-2
-    slice-aggregate-keep-granted
-    slice-aggregate-keep-granted-2
-    slice-aggregate-keep-granted-3
-    keep-granted-requires
-    sub-t41
+    slice-aggregate-ask-sets
+    slice-aggregate-ask-sets-2
+    slice-aggregate-ask-sets-3
+    ask-sets-requires
     same-length
     same-length-2
-    returns-3)
+    returns-2)

@@ -1,6 +1,7 @@
 -- `next_grant` meets its contract. The loop's invariant: the records that are left have the same first grant.
 use lib.ListN.{length}
 use Rattle.read_grantee.proofs.Grantees.{grantee-from}
+use Rattle.book_places.specs.Table.{ownerAt}
 use Rattle.book_places.specs.Sets.{ownedFrom}
 use Rattle.book_places.proofs.OwnedWalk.{fewer-left}
 use Rattle.list_grants.proofs.GrantWays.{Left, walk-start, no-grant, untagged, nobody, somebody}
@@ -9,19 +10,16 @@ use Rattle.list_grants.proofs.next_grant.Statement.{statement}
 use Rattle.list_grants.proofs.next_grant.Tie as tie
 
 abbrev Inv-loop : tie.InvT-loop
-Inv-loop book table links from set tag owner at₀ at = Left book table links (record { set = set; tag = tag }) from owner at
+Inv-loop book table links from set tag at₀ at = Left book table links (record { set = set; tag = tag }) from (ownerAt book table set) at
 
 abbrev μ-loop : tie.MeasureT-loop
-μ-loop book table links from set tag owner at₀ at = length (ownedFrom book table links owner at)
-
-owner-at-requires : tie.Need-owner-at-requires Inv-loop μ-loop
-owner-at-requires c κs = search needs
+μ-loop book table links from set tag at₀ at = length (ownedFrom book table links (ownerAt book table set) at)
 
 loop-holds : tie.Need-loop-holds Inv-loop μ-loop
 loop-holds c = search (needs, walk-start)
 
-next-owned-requires : tie.Need-next-owned-requires Inv-loop μ-loop
-next-owned-requires c κs = search needs
+next-in-set-requires : tie.Need-next-in-set-requires Inv-loop μ-loop
+next-in-set-requires c κs = search needs
 
 enum-known-r : tie.Need-enum-known-r Inv-loop μ-loop
 enum-known-r c = search needs
@@ -77,9 +75,8 @@ next-grant-spec =
     (tie.spec
     Inv-loop
     μ-loop
-    owner-at-requires
     loop-holds
-    next-owned-requires
+    next-in-set-requires
     enum-known-r
     enum-told
     returns

@@ -9,10 +9,10 @@ use Rattle.list_sets.proofs.ask_once.Statement.{statement}
 use Rattle.list_sets.proofs.ask_once.Tie as tie
 
 abbrev Inv-loop : tie.InvT-loop
-Inv-loop codes₀ n asked₀ w₀ i₀ codes asked w i = Asking n codes₀ codes asked w i
+Inv-loop numbers₀ n asked₀ w₀ i₀ numbers asked w i = Asking n numbers₀ numbers asked w i
 
 abbrev μ-loop : tie.MeasureT-loop
-μ-loop codes₀ n asked₀ w₀ i₀ codes asked w i = n - i
+μ-loop numbers₀ n asked₀ w₀ i₀ numbers asked w i = n - i
 
 loop-holds : tie.Need-loop-holds Inv-loop μ-loop
 unfolding maxRecords
@@ -24,16 +24,16 @@ same-length c = search (needs, ask-length)
 returns : tie.Need-returns Inv-loop μ-loop
 returns c = (search (needs, past-answer), search (needs, past-numbers))
 
-mul-code : tie.Need-mul-code Inv-loop μ-loop
-mul-code c =
+mul-number : tie.Need-mul-number Inv-loop μ-loop
+mul-number c =
     let at-loop = c .before .before in
     omega (arith, at-loop .loop .inv .same-length, c .if1 .left, at-loop .before .good .0 .1)
 
-slice-read-code : tie.Need-slice-read-code Inv-loop μ-loop
-slice-read-code c = search needs
+slice-read-number : tie.Need-slice-read-number Inv-loop μ-loop
+slice-read-number c = search needs
 
-cast-c : tie.Need-cast-c Inv-loop μ-loop
-cast-c c = omega (arith, c .slice-known .given (c .before .before .before .loop .i))
+cast-q : tie.Need-cast-q Inv-loop μ-loop
+cast-q c = omega (arith, c .slice-known .given (c .before .before .before .loop .i))
 
 add-i : tie.Need-add-i Inv-loop μ-loop
 add-i c = search needs
@@ -53,14 +53,14 @@ loop-again c = search (needs, known)
 array-write-asked : tie.Need-array-write-asked Inv-loop μ-loop
 array-write-asked c = search needs
 
-mul-codes : tie.Need-mul-codes Inv-loop μ-loop
-mul-codes c =
+mul-numbers : tie.Need-mul-numbers Inv-loop μ-loop
+mul-numbers c =
     let at-number = c .before .before in
     let at-loop = at-number .before .before in
     omega (arith, at-loop .loop .inv .same-length, at-loop .loop .inv .few, at-number .if1 .left, at-loop .before .good .0 .1)
 
-slice-write-codes : tie.Need-slice-write-codes Inv-loop μ-loop
-slice-write-codes c =
+slice-write-numbers : tie.Need-slice-write-numbers Inv-loop μ-loop
+slice-write-numbers c =
     let at-number = c .before .before in
     let at-loop = at-number .before .before in
     omega (arith, at-loop .loop .inv .same-length, at-loop .loop .inv .few, at-number .if1 .left, at-loop .before .good .0 .1)
@@ -93,17 +93,17 @@ ask-once-spec =
     loop-holds
     same-length
     returns
-    mul-code
-    slice-read-code
-    cast-c
+    mul-number
+    slice-read-number
+    cast-q
     add-i
     mul-if2
     array-read-if3
     loop-less
     loop-again
     array-write-asked
-    mul-codes
-    slice-write-codes
+    mul-numbers
+    slice-write-numbers
     add-w
     loop-less-2
     loop-again-2
