@@ -108,8 +108,8 @@ Tests-of-data =
     × (property d ≡ none →
     ((tag : PropertyTag) → dataHasTag tag d ≡ false) × (dataIsUnknownCritical d ≡ false) × ((issuer : List ℕ) → dataGrants issuer d ≡ false))
 
--- For an accepted book, the answer about X or *.X by table and chains is the rule's: the kind of answer, the number of the record that it names,
--- and the issuers that the governing records grant.
+-- For an accepted book, the answer about X or *.X by table and chains is the rule's answer. They agree in the kind of answer, in the number of the
+-- record that it names, and in the issuers that the governing records grant.
 abbrev pub Authorization-by-offset : Type 0
 Authorization-by-offset =
     (book : List ℕ) (x : Name) (wildcard : Bool) → bookRefusal book ≡ none → GoodName x →
