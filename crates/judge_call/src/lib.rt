@@ -63,7 +63,7 @@ fn judge_names(
     let mut at: usize = 0;
     let mut k: usize = 0;
     while at < request.len() {
-        // This is not reached: the names of an accepted request are all good. A bad name would be refused.
+        // An accepted request doesn't get here: its names are all good. A bad name would be refused.
         let RequestedRead::Good(n) = read_request::requested_name(request, at) else {
             return Judgement::Refused(Refusal::BadName(NameNo(k)));
         };

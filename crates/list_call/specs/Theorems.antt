@@ -16,7 +16,7 @@ use Rattle.spec_rule.specs.Theorems.{FirstRow, ListRow, ListingTells}
 
 -- Take any answer and any buffer afterwards that equal the definition, as the contract promises. The answer is a refusal exactly when the table of
 -- refusals says so, and then the buffer is unchanged. If no row of the table applies, answer and buffer give the permitted issuers
--- (`ListingTells`). A buffer as long as the book is never refused as too short.
+-- (`ListingTells`). If request and book are accepted and the buffer is as long as the book, nothing is refused.
 abbrev pub Listing-exactly : Type 0
 Listing-exactly =
     (request book buffer after : List ℕ) → Octets request → Octets book → (answer : PermittedIssuers) →

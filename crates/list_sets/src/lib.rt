@@ -24,7 +24,7 @@ pub fn note_questions(
     let mut n: usize = 0;
     let mut at: usize = 0;
     while at < request.len() {
-        // This is not reached: the names of an accepted request are all good. For a bad name nobody may issue.
+        // An accepted request doesn't get here: its names are all good. For a bad name nobody may issue.
         let RequestedRead::Good(r) = read_request::requested_name(request, at) else {
             return RelevantSets::Unknown;
         };
