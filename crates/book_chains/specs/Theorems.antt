@@ -1,4 +1,4 @@
--- What `link` makes of a book. The statement is proved under its name in proofs/.
+-- What `link` computes for a book. The statement is proved under its name in proofs/.
 use Prim.Native.Nat.{ℕ}
 use mathlib.Core.Path.{_≡_}
 use mathlib.Core.List.{List}
@@ -7,7 +7,7 @@ use Rattle.spec_limits.specs.Limits.{maxRecords}
 use Rattle.book_places.specs.Table.{tabled, tableOf}
 use Rattle.book_places.specs.Chains.{atMost, linkedBelow, chainsOf}
 
--- from a book's table and its number of rows, into arrays that hold the limit of records everywhere, it makes the chains of the book
+-- Given the book's table and its number of rows, `link` makes the chains of the book. Before the call each link and each head must be `maxRecords`.
 abbrev pub Book-linked : Type 0
 Book-linked =
     (book : List ℕ) →

@@ -1,4 +1,4 @@
--- The chains that are made of a book, by the table that is filled from it.
+-- The chains that `index_book` makes: it fills the table from the book, then links the records that got a row.
 use Prim.Native.Nat.{ℕ}
 use mathlib.Core.List.{List}
 use Rattle.spec_limits.specs.Limits.{maxRecords}

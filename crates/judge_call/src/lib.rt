@@ -1,4 +1,4 @@
-// May this issuer sign? The call that judges.
+// May this issuer issue for every name of the request? This is the call that judges.
 use book_places::END;
 use book_places::FirstRecord;
 use book_places::NameAuthorization;
@@ -16,10 +16,10 @@ ghost use mathlib.Core.Option.{none};
 ghost use Rattle.spec_rule.specs.Calls.{firstRefusal, judgeChecks, judge};
 ghost use Rattle.judge_call.specs.Asked.{Ready, verdictBySet};
 
-// Two notes for each record: that the set which begins there permits the issuer, asked for X and asked for *.X.
+// Two notes for each record: the set that begins with this record permits the issuer for X; and it does so for *.X.
 const NOTES: usize = 2 * MAX_RECORDS;
 
-// Judges a name by its relevant set.
+// Judges one name, given its relevant set.
 fn judge_by_set(
     issuer: &[u8],
     book: &[u8],
@@ -47,7 +47,7 @@ fn judge_by_set(
     }
 }
 
-// Judges name by name. No set is asked twice for X, or twice for *.X.
+// Judges the names one after the other. A set is asked at most once for X and at most once for *.X.
 fn judge_names(
     request: &[u8],
     issuer: &[u8],
@@ -63,7 +63,7 @@ fn judge_names(
     let mut at: usize = 0;
     let mut k: usize = 0;
     while at < request.len() {
-        // An accepted request has no bad name; one would be refused all the same.
+        // An accepted request doesn't get here: its names are all good. A bad name would be refused.
         let RequestedRead::Good(n) = read_request::requested_name(request, at) else {
             return Judgement::Refused(Refusal::BadName(NameNo(k)));
         };
@@ -94,7 +94,7 @@ fn judge_names(
     Judgement::Permitted
 }
 
-// Judges accepted inputs. The book is read once: into a table of its records, and chains through them.
+// Judges accepted inputs. It reads the book once, and makes a table of its records and chains through them.
 fn judge_accepted(request: &[u8], issuer: &[u8], book: &[u8]) -> Judgement
     requires { ⌜ firstRefusal (judgeChecks (now request) (now issuer) (now book)) ≡ none ⌝ }
     ensures { λ r. ⌜ r ≡ judge (now (request .entry)) (now (issuer .entry)) (now (book .entry)) ⌝ }
@@ -106,6 +106,7 @@ fn judge_accepted(request: &[u8], issuer: &[u8], book: &[u8]) -> Judgement
     judge_names(request, issuer, book, &table, &links, &heads)
 }
 
+// Checks the inputs in the order of the table of refusals, then judges.
 pub fn judge(request: &[u8], issuer: &[u8], book: &[u8]) -> Judgement
     ensures { λ r. ⌜ r ≡ judge (now (request .entry)) (now (issuer .entry)) (now (book .entry)) ⌝ }
 {

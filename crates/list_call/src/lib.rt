@@ -1,4 +1,4 @@
-// Who may sign? The call that lists the permitted issuers.
+// Who may issue for every name of the request? This is the call that lists the permitted issuers.
 use spec_limits::MAX_RECORDS;
 use spec_refusal::Check;
 use spec_refusal::Refusal;
@@ -6,10 +6,10 @@ use spec_rule::PermittedIssuers;
 ghost use mathlib.Core.Path.{_≡_};
 ghost use Rattle.spec_rule.specs.Calls.{listIssuers};
 
-// Two numbers for each candidate: there are no more of them than records.
+// Two numbers for each candidate. There are at most as many candidates as records.
 const NAMES: usize = 2 * MAX_RECORDS;
 
-// The list stands at the front of the buffer, and the rest stays; nothing is written before the room is known to be enough.
+// Writes the list to the front of the buffer; the rest of the buffer stays as it is. Nothing is written unless the whole list fits.
 pub fn permitted_issuers(request: &[u8], book: &[u8], buffer: &mut [u8]) -> PermittedIssuers
     ensures answer { λ r. ⌜ r ≡ listIssuers (now (request .entry)) (now (book .entry)) (now (buffer .entry)) .answer ⌝ }
     ensures octets { λ r. ⌜ now (buffer .exit) ≡ listIssuers (now (request .entry)) (now (book .entry)) (now (buffer .entry)) .buffer ⌝ }

@@ -58,7 +58,8 @@ caaWriteLine d buffer = record { word = packedLine (writeLine d buffer .answer);
 abbrev pub caaReadLine : List ℕ → List ℕ → Returned
 caaReadLine s buffer = record { word = packedLine (parseLine s buffer .answer); buffer = parseLine s buffer .buffer }
 
--- The table of refusals 1 to 8: row n holds, with the place p, which the word has in field a.
+-- The table of refusals 1 to 8: row n holds with the place p. The place of a refusal is the number of a name or record, the octets needed, or 0; the
+-- word has it in field a.
 pub data TableRow (request book : List ℕ) (four : Type 0) (eight : ℕ → Type 0) : ℕ → ℕ → Type 0 where
   -- The request is over its limit of octets.
   row-1 : Row-1 request → TableRow request book four eight 1 0
