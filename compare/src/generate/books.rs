@@ -7,8 +7,12 @@ use crate::limits::{BOOK_OCTETS, BOOK_RECORDS, ISSUER_OCTETS, LABEL_OCTETS};
 pub(super) const KNOWN_TAGS: [&[u8]; 3] = [b"issue", b"issuewild", b"iodef"];
 pub(super) const UNKNOWN_TAGS: [&[u8]; 5] = [b"tbs", b"issu", b"issues", b"issuewil", b"tb_s"];
 pub(super) const FLAGS: [u8; 6] = [0, 1, 127, 128, 129, 255];
-const PARAMETERS: [&[u8]; 6] = [b"", b" ", b"a=1", b" a = 1 ; b=", b"a=;", b"a-b=1"];
 const BLANKS: [&[u8]; 4] = [b"", b"", b" ", b"\t "];
+const PARAMETER_TAGS: [&[u8]; 6] = [b"a", b"b0", b"0", b"a-b", b"a--0", b"0-a-b"];
+const WRONG_PARAMETER_TAGS: [&[u8]; 12] = [
+    b"-a", b"a-", b"--a", b"a--", b"-", b"--", b"a -b", b"a- b", b"a b", b"a_b", b"a.b", b"",
+];
+const PARAMETER_VALUES: [&[u8]; 6] = [b"1", b"", b"a", b"-", b"a-b", b"=!~"];
 const NOISE: [&[u8]; 6] = [b".", b"-", b"%", b";", b"\n", b" z"];
 
 impl Generator {
@@ -169,11 +173,39 @@ impl Generator {
         value.extend(self.one_of(&BLANKS));
         if self.once_in(3) {
             value.push(b';');
-            value.extend(self.one_of(&PARAMETERS));
+            value.extend(self.parameters());
         }
         if self.once_in(12) {
             value.extend(self.one_of(&NOISE));
         }
         value
+    }
+
+    /// What stands behind the `;` of a value: no parameter, or one or two that mostly fit.
+    fn parameters(&mut self) -> Vec<u8> {
+        let count = self.near_front(&[1, 2, 0]);
+        let mut text = self.one_of(&BLANKS).to_vec();
+        for number in 0..count {
+            if number > 0 {
+                text.push(b';');
+                text.extend(self.one_of(&BLANKS));
+            }
+            text.extend(self.parameter());
+            text.extend(self.one_of(&BLANKS));
+        }
+        if self.once_in(16) {
+            text.push(b';');
+        }
+        text
+    }
+
+    fn parameter(&mut self) -> Vec<u8> {
+        let tag = match self.below(6) {
+            0 => self.one_of(&WRONG_PARAMETER_TAGS),
+            _ => self.one_of(&PARAMETER_TAGS),
+        };
+        let value = self.one_of(&PARAMETER_VALUES);
+        let [before, behind] = [(); 2].map(|()| self.one_of(&BLANKS));
+        [tag, before, b"=", behind, value].concat()
     }
 }

@@ -8,27 +8,18 @@ use mathlib.Core.List.{List, [], _∷_}
 use lib.ListN.{length, take, drop}
 use Rattle.spec_octets.specs.Lists.{all}
 use Rattle.spec_octets.specs.Octets.{isBlank, trimStart, trimEnd, isParameterOctet}
+use Rattle.spec_octets.specs.Label.{isLabel}
 use Rattle.spec_octets.specs.Pieces.{split}
 use Rattle.text_compare.specs.Places.{pieceEnd}
 use Rattle.spec_octets.proofs.ListLaws.{all-true, not-passed}
 use Rattle.spec_octets.proofs.PieceLaws.{pieces-join}
-use Rattle.text_classes.specs.declared.Class.the-variants.{Blank, LetterOrDigit, ParameterOctet}
+use Rattle.text_classes.specs.declared.Class.the-variants.{Blank, ParameterOctet}
 use Rattle.spec_value.specs.IssueValues.{isParameterTag, isTagAndValue, isParameter, isBlankAlone, areParameters}
 use Rattle.text_classes.specs.Classes.{inClass}
 use Rattle.spec_value.proofs.Cuts.{split-one}
 use Rattle.spec_octets.proofs.Walks.{rest-whole}
 use Rattle.read_parameters.proofs.FirstPiece.{cut-last, cut-more}
 use Rattle.spec_value.proofs.Parameters.{value-behind, blank-free}
-
-empty-no-tag : (t : List ℕ) → length t ≡ 0 → isParameterTag t ≡ false
-unfolding isParameterTag
-empty-no-tag [] e = refl
-empty-no-tag (x ∷ t) e = absurd (omega arith)
-
-tag-by-octets : (t : List ℕ) → (length t ≡ 0 → ⊥) → isParameterTag t ≡ all (inClass LetterOrDigit) t
-unfolding isParameterTag
-tag-by-octets [] some = absurd (some refl)
-tag-by-octets (x ∷ t) some = refl
 
 -- p is s without the blanks around it, and e the place of its first "="
 module _ (s q p : List ℕ) (e : ℕ) (back : q ≡ trimEnd s) (front : p ≡ trimStart q) (cut : e ≡ pieceEnd (code "=") p 0) where
@@ -40,20 +31,17 @@ module _ (s q p : List ℕ) (e : ℕ) (back : q ≡ trimEnd s) (front : p ≡ tr
   no-equals h = sym (trimmed ∙ rw (cut-last (code "=") p e cut h))
 
   module _ (t : List ℕ) (h : e < length p) (tag : t ≡ trimEnd (take e p)) where
-    in-parts : isParameter s ≡ (isParameterTag t && all isParameterOctet (trimStart (drop (e + 1) p)))
+    in-parts : isParameter s ≡ (isLabel t && all isParameterOctet (trimStart (drop (e + 1) p)))
+    unfolding isParameterTag
     in-parts = trimmed ∙ rw (cut-more (code "=") p e cut h, value-behind (take e p) (drop (e + 1) p), ← tag)
 
-    pub no-tag : length t ≡ 0 → false ≡ isParameter s
-    no-tag none = sym (in-parts ∙ rw (empty-no-tag t none))
+    pub bad-tag : (r : Bool) → r ≡ isLabel t → r ≡ false → false ≡ isParameter s
+    bad-tag r told bad = sym (in-parts ∙ rw (← told, bad))
 
-    module _ (some : length t ≡ 0 → ⊥) (r : Bool) (told : r ≡ all (inClass LetterOrDigit) t) where
-      pub bad-tag : r ≡ false → false ≡ isParameter s
-      bad-tag bad = sym (in-parts ∙ rw (tag-by-octets t some, ← told, bad))
-
-      pub by-value : (b v : List ℕ) (a : Bool) → r ≡ true → b ≡ take (length p - (e + 1)) (drop (e + 1) p) → v ≡ trimStart b →
-          a ≡ all (inClass ParameterOctet) v → a ≡ isParameter s
-      by-value b v a good behind value all-told =
-          sym (in-parts ∙ rw (tag-by-octets t some, ← told, good, all-told, value, behind, rest-whole p (e + 1)))
+    pub by-value : (r : Bool) (b v : List ℕ) (a : Bool) → r ≡ isLabel t → r ≡ true → b ≡ take (length p - (e + 1)) (drop (e + 1) p) →
+        v ≡ trimStart b → a ≡ all (inClass ParameterOctet) v → a ≡ isParameter s
+    by-value r b v a told good behind value all-told =
+        sym (in-parts ∙ rw (← told, good, all-told, value, behind, rest-whole p (e + 1)))
 
 -- What stands behind the first semicolon.
 

@@ -14,11 +14,8 @@ fn is_parameter(s: &[u8]) -> bool
         return false;
     }
     let tag = text_classes::trim_end(&p[..e]);
-    if tag.len() == 0 {
-        return false;
-    }
-    if !text_classes::all_of(tag, Class::LetterOrDigit) {
-        return false;
+    if !text_compare::is_label(tag) {
+        return false; // a tag has the form of a label
     }
     text_classes::all_of(text_classes::trim_start(&p[e + 1..]), Class::ParameterOctet)
 }

@@ -98,6 +98,10 @@ edges =
     ∷ nameEdge (issuing "ca1.example.net; a=") "example.com" (granted 0 (ca1 ∷ []))
     ∷ valueEdge "ca1.example.net." malformed
     ∷ valueEdge "ca..net" malformed
+    -- A parameter's tag may have hyphens inside it, and none first or last.
+    ∷ nameEdge (issuing "ca1.example.net; cert-tier=gold") "example.com" (granted 0 (ca1 ∷ []))
+    ∷ nameEdge (issuing "ca1.example.net; -t=1") "example.com" (granted 0 [])
+    ∷ nameEdge (issuing "ca1.example.net; t-=1") "example.com" (granted 0 [])
     -- issuewild alone leaves X open to anyone and *.X to ca2 only; next to issue it leaves *.X to ca2 only too.
     ∷ nameEdge (caa "example.com" 0 "issuewild" "ca2.example.org" ∷ []) "example.com" unrestricted
     ∷ nameEdge (caa "example.com" 0 "issuewild" "ca2.example.org" ∷ []) "*.example.com" (granted 0 (ca2 ∷ []))

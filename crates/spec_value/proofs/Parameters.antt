@@ -2,15 +2,17 @@
 use Prim.Native.Nat.{ℕ}
 use Prim.Native.Char.{code}
 use native.Mathlib.Omega.{arith}
-use mathlib.Core.Path.{_≡_, refl, ap, _∙_}
+use mathlib.Core.Path.{_≡_, refl, sym, ap, _∙_}
 use mathlib.Core.Logic.{_↔_, _≢_}
 use mathlib.Core.Bool.{Bool, true, false, _&&_, false≢true, and-eq-true-iff}
 use mathlib.Core.List.{List, [], _∷_, _++_, append-assoc}
 use Rattle.spec_octets.specs.Lists.{all, all-cons}
 use Rattle.spec_octets.specs.Octets.{isBlank, isLetterOrDigit, isUpper, isLower, isDigit, trimStart, trimEnd, isParameterOctet}
+use Rattle.spec_octets.specs.Label.{isLetterDigitHyphen, isLabel}
 use Rattle.spec_octets.specs.Pieces.{split, join}
 use Rattle.spec_octets.specs.Grammar.{_⊕_}
-use Rattle.spec_octets.proofs.ListLaws.{told-apart, All-join, all-true, All-head, All-tail, All-imp}
+use Rattle.spec_octets.proofs.ListLaws.{told-apart, All-join, all-true, All-head, All-imp}
+use Rattle.spec_octets.proofs.Labels.{label-parts, label-is-the-production}
 use Rattle.spec_octets.proofs.PieceLaws.{pieces-join}
 use Rattle.spec_octets.proofs.Runs.{Of, many-of, of-many, not-blank, Blank, Blankless}
 use Rattle.spec_value.specs.IssueValues.{trim, isParameterTag, isTagAndValue, isParameter}
@@ -22,12 +24,25 @@ use Rattle.spec_value.proofs.Cuts.{split-more}
 
 -- the octets of a tag; no blank, no "=" and no ";" is one
 abbrev isTagOctet : ℕ → Bool
-isTagOctet = isLetterOrDigit
+isTagOctet = isLetterDigitHyphen
 
 tag-octets :
     (isTagOctet (code " ") ≡ false) × (isTagOctet (code "\t") ≡ false) × (isTagOctet (code "=") ≡ false) × (isTagOctet (code ";") ≡ false)
-unfolding isLetterOrDigit isUpper isLower isDigit
+unfolding isLetterDigitHyphen isLetterOrDigit isUpper isLower isDigit
 tag-octets = (refl, refl, refl, refl)
+
+-- the test of a tag and its production
+tag-matches : (t : List ℕ) → (isParameterTag t ≡ true) ↔ tag t
+unfolding isParameterTag
+tag-matches t = label-is-the-production t
+
+tag-plain : (t : List ℕ) → isParameterTag t ≡ true → Of isTagOctet t
+unfolding isParameterTag
+tag-plain t h = label-parts t .0 h .0
+
+no-empty-tag : isParameterTag [] ≡ false
+unfolding isParameterTag isLabel
+no-empty-tag = refl
 
 -- A parameter by its parts.
 
@@ -39,10 +54,27 @@ pub record Spelled (s : List ℕ) : Type 0 where
   pub after : List ℕ
   pub octets : List ℕ
   pub whole : s ≡ (first ∷ others) ++ (before ++ (code "=" ∷ (after ++ octets)))
-  pub tagged : Of isTagOctet (first ∷ others)
+  pub tagged : isParameterTag (first ∷ others) ≡ true
   pub blank-before : Blank before
   pub blank-after : Blank after
   pub valued : Of isParameterOctet octets
+
+by-tag : {s : List ℕ} (t b a v : List ℕ) → s ≡ t ++ (b ++ (code "=" ∷ (a ++ v))) → isParameterTag t ≡ true →
+    Blank b → Blank a → Of isParameterOctet v → Spelled s
+by-tag [] b a v e h before after octets = absurd (false≢true (sym no-empty-tag ∙ h))
+by-tag (x ∷ t) b a v e h before after octets =
+    record {
+      first = x;
+      others = t;
+      before = b;
+      after = a;
+      octets = v;
+      whole = e;
+      tagged = h;
+      blank-before = before;
+      blank-after = after;
+      valued = octets;
+    }
 
 pub spelled : {s : List ℕ} → parameter s → Spelled s
 spelled m =
@@ -50,24 +82,7 @@ spelled m =
     let (b, s₂, e₂, before, m₂) = m₁ in
     let (c, s₃, e₃, equals, m₃) = m₂ in
     let (a, v, e₄, after, octets) = m₃ in
-    let (x₁, t₂, e₅, one-first, more) = head in
-    record {
-      first = one-first .0;
-      others = t₂;
-      before = b;
-      after = a;
-      octets = v;
-      whole = rw (e₁, e₅, one-first .1, e₂, e₃, equals, e₄);
-      tagged = all-cons (one-first .2) (many-of more);
-      blank-before = many-of before;
-      blank-after = many-of after;
-      valued = many-of octets;
-    }
-
-tag-matches : (t : List ℕ) → isParameterTag t ≡ true → tag t
-unfolding isParameterTag
-tag-matches [] h = absurd (false≢true h)
-tag-matches (x ∷ t) h = let k = all-true isTagOctet (x ∷ t) .0 h in (x ∷ [], t, refl, (x, refl, All-head k), of-many (All-tail k))
+    by-tag t b a v (rw (e₁, e₂, e₃, equals, e₄)) (tag-matches t .1 head) (many-of before) (many-of after) (many-of octets)
 
 -- from the test to the production
 tag-and-value : (s : List ℕ) → isTagAndValue (split (code "=") s) ≡ true → parameter s
@@ -85,7 +100,7 @@ tag-and-value s h = go (split (code "=") s) refl h
           trimEnd t,
           b ++ (code "=" ∷ behind),
           made .0 ∙ ap (λ (l : List ℕ). l ++ (code "=" ∷ behind)) e₁ ∙ append-assoc (trimEnd t) b (code "=" ∷ behind),
-          tag-matches (trimEnd t) (both .0),
+          tag-matches (trimEnd t) .0 (both .0),
           (
             b,
             code "=" ∷ behind,
@@ -104,10 +119,6 @@ value-behind t s = let made = pieces-join (code "=") s (split (code "=") s) .0 r
         isTagAndValue (t ∷ ps) ≡ (isParameterTag (trimEnd t) && all isParameterOctet (trimStart s))
     go [] e ne = absurd (ne refl)
     go (v ∷ vs) e ne = rw e
-
-tag-passes : {x : ℕ} {t : List ℕ} → Of isTagOctet (x ∷ t) → isParameterTag (x ∷ t) ≡ true
-unfolding isParameterTag
-tag-passes {x} {t} h = all-true isTagOctet (x ∷ t) .1 h
 
 tag-not-blank : (x : ℕ) → isTagOctet x ≡ true → isBlank x ≡ false
 tag-not-blank = not-blank isTagOctet (tag-octets .0) (tag-octets .1)
@@ -130,15 +141,16 @@ unfolding isParameter
 passes {a} {b} {s} front p back =
     let x = p .first in
     let t = p .others in
+    let plain = tag-plain (x ∷ t) (p .tagged) in
     let r = p .after ++ (p .octets ++ b) in
     let shape : s ++ b ≡ (x ∷ t ++ p .before) ++ (code "=" ∷ r) = rw (p .whole) (simp append-assoc) in
     rw (
       shape,
-      trim-within front x (tag-not-blank x (All-head (p .tagged))) (t ++ p .before) (code "=") equals-not-blank r,
-      split-more (code "=") (equals-apart (p .tagged) (p .blank-before)) (trimEnd r),
+      trim-within front x (tag-not-blank x (All-head plain)) (t ++ p .before) (code "=") equals-not-blank r,
+      split-more (code "=") (equals-apart plain (p .blank-before)) (trimEnd r),
       value-behind (x ∷ t ++ p .before) (trimEnd r),
-      trimEnd-leaves (All-imp tag-not-blank (p .tagged)) (p .blank-before),
-      tag-passes (p .tagged),
+      trimEnd-leaves (All-imp tag-not-blank plain) (p .blank-before),
+      p .tagged,
       trim-leaves (p .blank-after) (value-blankless (p .valued)) back,
     )
     (all-true isParameterOctet (p .octets) .1 (p .valued))
@@ -161,7 +173,7 @@ blank-free = All-imp (told-apart isBlank (code ";") refl)
 spelled-free : {s : List ℕ} → Spelled s → Free (code ";") s
 unfolding isParameterOctet
 spelled-free p =
-    let tag-free = All-imp (told-apart isTagOctet (code ";") (tag-octets .3)) (p .tagged) in
+    let tag-free = All-imp (told-apart isTagOctet (code ";") (tag-octets .3)) (tag-plain (p .first ∷ p .others) (p .tagged)) in
     let value-free = All-imp (told-apart isParameterOctet (code ";") refl) (p .valued) in
     let apart : code "=" ≢ code ";" = λ e. omega arith in
     rw (p .whole) (All-join tag-free (All-join (blank-free (p .blank-before)) (all-cons apart (All-join (blank-free (p .blank-after)) value-free))))

@@ -1,10 +1,10 @@
 -- Values of issue and issuewild properties (RFC 8659 section 4.2): which match the grammar, and the issuer domain name in them.
 use Prim.Native.Nat.{ℕ}
 use Prim.Native.Char.{code}
-use mathlib.Core.Bool.{Bool, false, cond, not, _&&_, _||_}
+use mathlib.Core.Bool.{Bool, false, cond, _&&_, _||_}
 use mathlib.Core.List.{List, [], _∷_}
 use Rattle.spec_octets.specs.Lists.{all, isEmpty}
-use Rattle.spec_octets.specs.Octets.{isBlank, isLetterOrDigit, isParameterOctet, trimStart, trimEnd}
+use Rattle.spec_octets.specs.Octets.{isBlank, isParameterOctet, trimStart, trimEnd}
 use Rattle.spec_octets.specs.Label.{isLabel}
 use Rattle.spec_octets.specs.Pieces.{split, join}
 
@@ -24,9 +24,9 @@ trim s = trimStart (trimEnd s)
 unfoldable pub isDomainName : List ℕ → Bool
 isDomainName s = all isLabel (split (code ".") s)
 
--- The tag of a parameter: one or more letters and digits. The requirements have no hyphens here; RFC 8659 allows inner hyphens.
+-- The tag of a parameter has the form of a label: letters, digits and hyphens, with no hyphen first or last. Not empty.
 unfoldable pub isParameterTag : List ℕ → Bool
-isParameterTag t = not (isEmpty t) && all isLetterOrDigit t
+isParameterTag t = isLabel t
 
 -- Tag, white space, "=", white space, value. The first "=" separates tag and value.
 abbrev pub isTagAndValue : List (List ℕ) → Bool

@@ -1,9 +1,9 @@
--- The productions of RFC 8659 section 4.2, each after those that it uses. One differs: `tag`, which is the requirements'.
+-- The productions of RFC 8659 section 4.2, each after those that it uses. `label` stands in spec_octets.
 use Prim.Native.Nat.{ℕ}
 use Prim.Native.Char.{code}
 use mathlib.Core.Path.{_≡_}
 use mathlib.Core.List.{List, _++_}
-use Rattle.spec_octets.specs.Octets.{isBlank, isLetterOrDigit, isParameterOctet}
+use Rattle.spec_octets.specs.Octets.{isBlank, isParameterOctet}
 use Rattle.spec_octets.specs.Grammar.{Production, one, lit, _⊕_, optional, many, label}
 
 -- *WSP
@@ -14,9 +14,9 @@ blanks = many (one isBlank)
 abbrev pub issuerDomainName : Production
 issuerDomainName = label ⊕ many (lit (code ".") ⊕ label)
 
--- tag = 1*(ALPHA / DIGIT). RFC 8659 also allows inner hyphens; the requirements don't.
+-- tag = (ALPHA / DIGIT) *( *("-") (ALPHA / DIGIT)), as `label`
 abbrev pub tag : Production
-tag = one isLetterOrDigit ⊕ many (one isLetterOrDigit)
+tag = label
 
 -- value = *(%x21-3A / %x3C-7E)
 abbrev pub value : Production

@@ -1,7 +1,9 @@
 -- Values, each with what the requirements' "Value grammar" says of it, written without the productions. If a test and its production
 -- changed together, they would still agree with each other, but not with this table.
 use Prim.Native.Nat.{ℕ}
+use Prim.Native.Char.{code}
 use mathlib.Core.List.{List, [], _∷_, _++_}
+use lib.ListN.{replicate}
 use Rattle.spec_octets.specs.Octets.{text}
 use Rattle.spec_value.specs.IssueValues.{IssueValue, malformed, nameless, named}
 
@@ -88,10 +90,10 @@ valueEdges =
     ∷ (text " n ; a = 1 ; b = 2 ", n)
     ∷ (text "\t \tca1.example.net\t \t;\t \taccount\t \t=\t \t230123\t \t;\t \tb\t \t=\t \t2\t \t", ca1)
     ∷ (text "n; a\n=1", malformed)
-    -- A parameter's tag: one or more letters and digits. The requirements have no hyphens here; RFC 8659 allows inner hyphens.
+    -- A parameter's tag: letters, digits and hyphens, at least one octet, with no hyphen first or last.
     ∷ (text "n; 0=1", n)
     ∷ (text "n; aZ9=1", n)
-    ∷ (text "ca1.example.net; a-b=1", malformed)
+    ∷ (text "ca1.example.net; a-b=1", ca1)
     ∷ (text "n; a-=1", malformed)
     ∷ (text "n; -a=1", malformed)
     ∷ (text "n; a_b=1", malformed)
@@ -100,6 +102,33 @@ valueEdges =
     ∷ (text "n; =1", malformed)
     ∷ (text "n; =", malformed)
     ∷ (text "n;a=1; =2", malformed)
+    -- Hyphens inside a tag, also several in a row and between digits.
+    ∷ (text "ca1.example.net; cert-tier=gold", ca1)
+    ∷ (text "n; a--b=1", n)
+    ∷ (text "n; a-b-c=1", n)
+    ∷ (text "n; 0-9=1", n)
+    ∷ (text "n;\ta-b\t=1", n)
+    ∷ (text "; a-b=1", nameless)
+    ∷ (text "n;a=1;b-c=2", n)
+    -- A hyphen first, last or alone; white space doesn't separate it from the tag.
+    ∷ (text "n; -t=1", malformed)
+    ∷ (text "n; t-=1", malformed)
+    ∷ (text "n; --a=1", malformed)
+    ∷ (text "n; a--=1", malformed)
+    ∷ (text "n; -=1", malformed)
+    ∷ (text "n; --=1", malformed)
+    ∷ (text "n; t- =1", malformed)
+    ∷ (text "n; t -=1", malformed)
+    ∷ (text "n; - t=1", malformed)
+    ∷ (text "n; a -b=1", malformed)
+    ∷ (text "n; a- b=1", malformed)
+    ∷ (text "n; a-.b=1", malformed)
+    ∷ (text "; -t=1", malformed)
+    ∷ (text "n;a=1;-b=2", malformed)
+    ∷ (text "n;a=1;b-=2", malformed)
+    ∷ (text "n;-a=1;b=2", malformed)
+    -- A tag of 64 octets: unlike a label of a name, it has no limit.
+    ∷ (text "n; a-" ++ (replicate 62 (code "b") ++ text "=1"), n)
     -- A parameter's value: zero or more octets 33 to 126 except the semicolon, so also the equals sign. No white space inside.
     ∷ (text "n; a=", n)
     ∷ (text "n;a=;b=", n)

@@ -31,6 +31,10 @@ grants = [
     "ca1.example.net; a \t= \t1 \t",  # "A parameter is a tag, blanks, `=`, blanks, a value."
     "ca1.example.net; a=1 ; b=2;c=3",  # "joined by `;` with blanks allowed around it"
     "ca1.example.net; A9z=!~:<==",  # "zero or more octets 33 to 126 except `;`"
+    "ca1.example.net; cert-tier=gold",  # "That value now grants"
+    "ca1.example.net; a-b=1",  # "hyphens between letters and digits"
+    "ca1.example.net; a--b-0 =1",
+    "ca1.example.net; a=1; b-c=2",
 ]
 nobody = [
     "",  # P
@@ -60,8 +64,15 @@ nobody = [
     "ca1.example.net; a=\x7f",  # the value ends at 126
     "ca1.example.net; a=\x80",
     "ca1.example.net; a=\x1f",
-    "ca1.example.net; a_=1",  # "A parameter tag is one or more letters and digits"
-    "ca1.example.net; a-b=1",
+    "ca1.example.net; a_=1",  # "A parameter tag is one or more letters and digits", and by Q-2 hyphens between them
+    "ca1.example.net; -t=1",  # "`-t=1` and `t-=1` still don't fit"
+    "ca1.example.net; t-=1",
+    "ca1.example.net; -=1",  # "never first or last"
+    "ca1.example.net; t- =1",
+    "ca1.example.net; a -b=1",
+    "ca1.example.net; a=1; -b=2",
+    "ca1.example.net; a=1; b-=2",
+    "; cert-tier=gold",  # "or holds no name"
     "ca1.example.net\n",  # a blank is space or tab
     "ca1.example.net\0",
     '"ca1.example.net"',
@@ -71,6 +82,10 @@ for value in grants:
 for value in nobody:
     cases += asked(f"value {value!a}", WWW, issue("example.com", value), {CA1: not_granted(0, 0)}, [])
 cases += asked("value of inner hyphens", WWW, issue("example.com", "c--a-1.net"), {"c--a-1.net": PERMITTED}, ["c--a-1.net"])
+tier = issuewild("example.com", "ca1.example.net; cert-tier=gold")
+cases += asked("issuewild, a hyphen in a tag", name("*.example.com"), tier, {CA1: PERMITTED, CA2: not_granted(0, 0)}, [CA1])
+tier = issuewild("example.com", "ca1.example.net; cert-tier-=gold")
+cases += asked("issuewild, a hyphen last in a tag", name("*.example.com"), tier, {CA1: not_granted(0, 0)}, [])
 cases += asked("value of one label", WWW, issue("example.com", "Ca"), {"cA": PERMITTED}, ["ca"])
 
 # "or holds one beyond the issuer-name limits above, grants nobody, and still governs": a name of 253 octets, a label of 63

@@ -53,7 +53,13 @@ mistakes! {
         LongNamesAreAbsent,
         NamesWithLongLabelsGrantTheirFront,
         LongNamesGrantTheirFront,
-        ParameterTagsHoldHyphens;
+        ParameterTagsHoldNoHyphens,
+        ParameterTagsHoldNoTwoHyphensInARow,
+        ParameterTagsBeginWithHyphens,
+        ParameterTagsEndWithHyphens,
+        ParameterTagsMayBeAHyphen,
+        ParameterTagsHoldBlanksBesideHyphens,
+        FirstParameterTagAloneHoldsHyphens;
     IN_THE_VERDICT:
         IssuersAreComparedByTail,
         IssuersAreComparedUpTo128Octets,

@@ -4,7 +4,7 @@ use lib.Seq.{length-take-le}
 use borrow.Author.Needs.{needs}
 use borrow.Author.Tests.{not-true, not-false}
 use Rattle.text_compare.proofs.PieceWalk.{piece-within}
-use Rattle.read_parameters.proofs.ParameterTests.{no-equals, no-tag, bad-tag, by-value}
+use Rattle.read_parameters.proofs.ParameterTests.{no-equals, bad-tag, by-value}
 use Rattle.read_parameters.proofs.is_parameter.Statement.{statement}
 use Rattle.read_parameters.proofs.is_parameter.Tie as tie
 
@@ -26,14 +26,11 @@ slice-aggregate-trim-end c = sym (search (needs, length-take-le, piece-within))
 trim-end-requires-2 : tie.Need-trim-end-requires-2
 trim-end-requires-2 c κs = search needs
 
+is-label-requires : tie.Need-is-label-requires
+is-label-requires c κs = search needs
+
 returns-2 : tie.Need-returns-2
-returns-2 c = search (needs, no-tag)
-
-all-of-requires : tie.Need-all-of-requires
-all-of-requires c κs = search needs
-
-returns-3 : tie.Need-returns-3
-returns-3 c = search (needs, bad-tag, not-true)
+returns-2 c = search (needs, bad-tag, not-true)
 
 add-trim-start : tie.Need-add-trim-start
 add-trim-start c = search needs
@@ -50,11 +47,11 @@ part-trim-start-end c = search needs
 trim-start-requires-2 : tie.Need-trim-start-requires-2
 trim-start-requires-2 c κs = search needs
 
-all-of-requires-2 : tie.Need-all-of-requires-2
-all-of-requires-2 c κs = search needs
+all-of-requires : tie.Need-all-of-requires
+all-of-requires c κs = search needs
 
-returns-4 : tie.Need-returns-4
-returns-4 c = search (needs, by-value, not-false)
+returns-3 : tie.Need-returns-3
+returns-3 c = search (needs, by-value, not-false)
 
 pub is-parameter-spec : {M : Type 1} → statement M
 is-parameter-spec =
@@ -66,13 +63,12 @@ is-parameter-spec =
     returns
     slice-aggregate-trim-end
     trim-end-requires-2
+    is-label-requires
     returns-2
-    all-of-requires
-    returns-3
     add-trim-start
     sub-trim-start
     part-trim-start-start
     part-trim-start-end
     trim-start-requires-2
-    all-of-requires-2
-    returns-4)
+    all-of-requires
+    returns-3)
