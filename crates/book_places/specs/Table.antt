@@ -19,7 +19,7 @@ abbrev pub rowsFrom : ℕ → List Record → List ℕ
 rowsFrom at [] = []
 rowsFrom at (r ∷ rs) = row at r ++ rowsFrom (at + length (wireRecord r)) rs
 
--- the records that have a row: all that can be read; of a book over its limit none
+-- the records that have a row: all whose fields can be read; of a book over its limit none
 unfoldable pub tabled : List ℕ → List Record
 tabled book = cond (leb (length book) maxBookOctets) (readable maxRecords book) []
 
