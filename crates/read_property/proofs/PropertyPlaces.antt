@@ -93,6 +93,9 @@ module _ (d : List ℕ) where
       pub caa-data-by-tag : (r : Bool) → r ≡ all isLetterOrDigit (take (p .value - 2) (drop 2 d)) → r ≡ isCaaData (property d)
       caa-data-by-tag r e = let (q, k) = property-there p g in rw (k .found, ← k .tag) e
 
+      pub tag-inside : 3 ≤ length d
+      tag-inside = let (q, k) = property-there p g in omega (arith, k .full, k .inside)
+
       pub value-after : 2 ≤ p .value
       value-after = let (q, k) = property-there p g in omega arith
 

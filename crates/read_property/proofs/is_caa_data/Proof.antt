@@ -1,6 +1,6 @@
 -- `is_caa_data` meets its contract.
 use borrow.Author.Needs.{needs}
-use Rattle.read_property.proofs.PropertyPlaces.{no-caa-data, value-after, value-inside, caa-data-by-tag}
+use Rattle.read_property.proofs.PropertyPlaces.{no-caa-data, tag-inside, value-after, value-inside, caa-data-by-tag}
 use Rattle.read_property.proofs.is_caa_data.Statement.{statement}
 use Rattle.read_property.proofs.is_caa_data.Tie as tie
 
@@ -17,13 +17,13 @@ returns : tie.Need-returns
 returns c = search (needs, no-caa-data)
 
 sub-all-of : tie.Need-sub-all-of
-sub-all-of c = search (needs, value-after)
+sub-all-of c = search (needs, value-after, value-inside)
 
 part-all-of-start : tie.Need-part-all-of-start
-part-all-of-start c = search (needs, value-after)
+part-all-of-start c = search (needs, value-after, value-inside)
 
 part-all-of-end : tie.Need-part-all-of-end
-part-all-of-end c = search (needs, value-inside)
+part-all-of-end c = search (needs, tag-inside, value-inside)
 
 all-of-requires : tie.Need-all-of-requires
 all-of-requires c κs = search needs
