@@ -127,7 +127,15 @@ fn judge_short(request: &[u8], issuer: &[u8], book: &[u8], heads: &mut [u16]) ->
     let mut table = [0u16; SHORT_TABLE];
     let mut links = [END; FEW_RECORDS];
     let mut asked = [false; SHORT_NOTES];
-    judge_in(request, issuer, book, &mut table, &mut links, heads, &mut asked)
+    judge_in(
+        request,
+        issuer,
+        book,
+        &mut table,
+        &mut links,
+        heads,
+        &mut asked,
+    )
 }
 
 // Any other book.
@@ -138,7 +146,15 @@ fn judge_long(request: &[u8], issuer: &[u8], book: &[u8], heads: &mut [u16]) -> 
     let mut table = [0u16; TABLE];
     let mut links = [END; MAX_RECORDS];
     let mut asked = [false; NOTES];
-    judge_in(request, issuer, book, &mut table, &mut links, heads, &mut asked)
+    judge_in(
+        request,
+        issuer,
+        book,
+        &mut table,
+        &mut links,
+        heads,
+        &mut asked,
+    )
 }
 
 // Judges accepted inputs.
