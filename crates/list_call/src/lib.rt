@@ -21,7 +21,7 @@ const NAMES: usize = 2 * MAX_RECORDS;
 
 const SHORT_NAMES: usize = 2 * FEW_RECORDS;
 
-// The list of those found. It stands at the front of the buffer, and the rest stays; nothing is written before the room is known to be enough.
+// The list of those found, in the buffer if there is room for it.
 fn put_list(
     book: &[u8],
     names: &[u16],
@@ -109,7 +109,7 @@ fn list_long(request: &[u8], book: &[u8], heads: &mut [u16], buffer: &mut [u8]) 
     )
 }
 
-// The list stands at the front of the buffer, and the rest stays.
+// The list stands at the front of the buffer, and the rest stays; nothing is written before the room is known to be enough.
 pub fn permitted_issuers(request: &[u8], book: &[u8], buffer: &mut [u8]) -> PermittedIssuers
     ensures answer { λ r. ⌜ r ≡ listIssuers (now (request .entry)) (now (book .entry)) (now (buffer .entry)) .answer ⌝ }
     ensures octets { λ r. ⌜ now (buffer .exit) ≡ listIssuers (now (request .entry)) (now (book .entry)) (now (buffer .entry)) .buffer ⌝ }
