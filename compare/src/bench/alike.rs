@@ -35,19 +35,20 @@ fn key(name: &[u8]) -> usize {
     mixed % 1_024
 }
 
-/// A name under this one that has the key, by one label more of this length.
-fn longer(name: &[u8], length: usize, wanted: usize) -> impl Iterator<Item = Vec<u8>> + '_ {
+/// The names under this one that have the key, by one label more of this length. They differ in the
+/// first octets of this label.
+fn longer(name: &[u8], length: usize, wanted: usize) -> impl Iterator<Item = Vec<u8>> {
+    let mut longer = vec![b'k'; 1 + length];
+    longer[0] = length as u8;
+    longer.extend(name);
     let octets = length.min(3);
     (0..letters().len().pow(octets as u32)).filter_map(move |number| {
-        let mut longer = vec![b'k'; 1 + length];
-        longer[0] = length as u8;
         let mut number = number;
         for octet in &mut longer[1..=octets] {
             *octet = letters()[number % letters().len()];
             number /= letters().len();
         }
-        longer.extend(name);
-        (key(&longer) == wanted).then_some(longer)
+        (key(&longer) == wanted).then(|| longer.clone())
     })
 }
 
