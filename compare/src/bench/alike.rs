@@ -12,6 +12,11 @@ use crate::limits::{BOOK_OCTETS, BOOK_RECORDS, REQUEST_NAMES, REQUEST_OCTETS};
 /// The issuer of the crowded loads, as short as may be, so that owners have room.
 const SHORT: &str = "a";
 
+/// The issuer of the last of [`BOOK_RECORDS`] records with an issuer each.
+const LAST_OF_ALL: &str = "aaaaaaaaaaaaaaaaaaaaaaa1023";
+
+const LETTERS: &[u8; 36] = b"abcdefghijklmnopqrstuvwxyz0123456789";
+
 /// Octets of an owner that the key reads, from the front and from the end.
 const KEY_FRONT: usize = 10;
 const KEY_END: usize = 6;
@@ -42,11 +47,11 @@ fn longer(name: &[u8], length: usize, wanted: usize) -> impl Iterator<Item = Vec
     longer[0] = length as u8;
     longer.extend(name);
     let octets = length.min(3);
-    (0..letters().len().pow(octets as u32)).filter_map(move |number| {
+    (0..LETTERS.len().pow(octets as u32)).filter_map(move |number| {
         let mut number = number;
         for octet in &mut longer[1..=octets] {
-            *octet = letters()[number % letters().len()];
-            number /= letters().len();
+            *octet = LETTERS[number % LETTERS.len()];
+            number /= LETTERS.len();
         }
         (key(&longer) == wanted).then(|| longer.clone())
     })
@@ -69,7 +74,7 @@ fn deeper(name: &[u8], room: usize, of_three: usize, wanted: usize) -> Option<Ve
 /// The deepest name of a number of octets, with every name on the way of one key, that can be made from
 /// the names that are this one but for two letters at the front.
 fn deepest(name: &[u8], octets: usize) -> Vec<u8> {
-    let names = || (0..letters().len().pow(2)).map(|number| numbered(name, 1, number));
+    let names = || (0..LETTERS.len().pow(2)).map(|number| numbered(name, 1, number));
     (0..octets)
         .find_map(|of_three| {
             names().find_map(|name| deeper(&name, octets - name.len(), of_three, key(&name)))
@@ -79,19 +84,14 @@ fn deepest(name: &[u8], octets: usize) -> Vec<u8> {
 
 /// A number below 1,296 as two letters or digits.
 fn put_number(name: &mut [u8], at: usize, number: usize) {
-    let letters = letters();
-    name[at] = letters[number / letters.len()];
-    name[at + 1] = letters[number % letters.len()];
+    name[at] = LETTERS[number / LETTERS.len()];
+    name[at + 1] = LETTERS[number % LETTERS.len()];
 }
 
 fn numbered(name: &[u8], at: usize, number: usize) -> Vec<u8> {
     let mut name = name.to_vec();
     put_number(&mut name, at, number);
     name
-}
-
-const fn letters() -> &'static [u8; 36] {
-    b"abcdefghijklmnopqrstuvwxyz0123456789"
 }
 
 /// The loads, the same in every run.
@@ -101,6 +101,7 @@ pub fn loads() -> Vec<Alike> {
         three_labels_at_top(),
         climbs(true),
         climbs(false),
+        climbs_to_all(),
         many_sets(34),
         many_sets(20),
     ]
@@ -164,6 +165,21 @@ fn climbs(alike: bool) -> Alike {
             true => filled_up(&differ[record], LEAST_CAA.to_vec(), b'x'),
             false => full_record(top, SHORT),
         }),
+    }
+}
+
+/// The same names with all records at their top, which grant different issuers.
+fn climbs_to_all() -> Alike {
+    let name = deepest(&wire("kk"), REQUEST_OCTETS / REQUEST_NAMES);
+    let top = &name[name.len() - 4..];
+    let labels = ancestors(&name).count();
+    Alike {
+        title: format!(
+            "keys alike, {REQUEST_NAMES} names of {labels} labels, {BOOK_RECORDS} grants at the top"
+        ),
+        request: name.repeat(REQUEST_NAMES),
+        issuer: LAST_OF_ALL,
+        book: book_of(|record| full_record(top, &format!("{}{record:04}", "a".repeat(23)))),
     }
 }
 
@@ -340,7 +356,11 @@ mod tests {
             let mut owners = owners(&load.book);
             owners.sort_unstable();
             owners.dedup();
-            assert!(owners.len() > 700, "{}: {}", load.title, owners.len());
+            let expected = match load.title.contains("grants at the top") {
+                true => 1..2,
+                false => 700..BOOK_RECORDS + 1,
+            };
+            assert!(expected.contains(&owners.len()), "{}", load.title);
         }
     }
 }

@@ -126,7 +126,7 @@ impl fmt::Display for Times {
 }
 
 /// With two digits that count, or as a whole number.
-pub fn rounded(number: f64) -> String {
+fn rounded(number: f64) -> String {
     match number {
         ..0.1 => format!("{number:.3}"),
         ..1.0 => format!("{number:.2}"),

@@ -4,10 +4,9 @@
 
 use std::collections::HashSet;
 use std::iter;
-use std::time::Duration;
 
 use super::judge::{beside_night_run, night_run, Load};
-use super::measure::{rounded, Race};
+use super::measure::Race;
 use super::{list, yardstick};
 use crate::against::Other;
 use crate::answer::Answer;
@@ -81,10 +80,9 @@ pub fn run(library: &Other, mut tell: impl FnMut(String)) -> Result<(), String> 
         tell(format!("| {} | {}", race.load, figures(&race)));
         races.push(race);
     }
-    if let Some((time, load)) = longest(&races) {
+    if let Some(Race { load, library, .. }) = longest(&races) {
         tell(format!(
-            "\nThe library's longest call of all these, by medians: {} ms ({load}).",
-            rounded(time.as_secs_f64() * 1e3)
+            "\nThe library's longest call of all these: {library} µs ({load})."
         ));
     }
     Ok(())
@@ -117,11 +115,9 @@ fn worst(races: &[Race]) -> Option<(String, &str)> {
     Some((format!("{:.2}", (speed * 100.0).floor() / 100.0), shape))
 }
 
-fn longest(races: &[Race]) -> Option<(Duration, &str)> {
-    races
-        .iter()
-        .map(|race| (race.library.median(), race.load.as_str()))
-        .max()
+/// By medians.
+fn longest(races: &[Race]) -> Option<&Race> {
+    races.iter().max_by_key(|race| race.library.median())
 }
 
 /// Whether a load is what the night run asks for: so many names of so many labels, no two the same, so
@@ -219,6 +215,8 @@ fn spelled(name: Name) -> Vec<u8> {
 
 #[cfg(test)]
 mod tests {
+    use std::time::Duration;
+
     use super::super::books::{book_of, caa, issue, wire};
     use super::super::measure::Times;
     use super::super::shapes::GRANTED;
@@ -293,10 +291,7 @@ mod tests {
             race("judge: 200 names, two", [110, 100], [330, 299]),
         ];
         assert_eq!(worst(&races), Some(("2.99".to_string(), "two")));
-        assert_eq!(
-            longest(&races),
-            Some((Duration::from_micros(110), "judge: 200 names, two"))
-        );
+        assert_eq!(longest(&races).unwrap().load, "judge: 200 names, two");
         assert_eq!(worst(&[]), None);
     }
 }
