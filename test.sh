@@ -48,6 +48,7 @@ note "the documents"
 python3 tools/test_check_docs.py
 python3 tools/check-docs.py
 python3 tools/figures.py --check
+python3 tools/yardstick.py --check
 
 # What needs nothing of target/. It fills the time in which rt waits for the slowest of its checks.
 beside() {
