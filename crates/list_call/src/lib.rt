@@ -45,7 +45,7 @@ fn put_list(
     }
 }
 
-// The list of accepted inputs, made in arrays with nothing in them. The book is read once: into a table of its records, and chains through them.
+// Lists for accepted inputs. It reads the book once, and makes a table of its records and chains through them in the lent arrays.
 fn list_in(
     request: &[u8],
     book: &[u8],
@@ -65,7 +65,7 @@ fn list_in(
     put_list(book, names, rounds, found, buffer)
 }
 
-// A short book has few records, and small arrays have room for all of them: less has to be cleared first.
+// For a short book small arrays are enough, and are cleared faster.
 fn list_short(request: &[u8], book: &[u8], heads: &mut [u16], buffer: &mut [u8]) -> PermittedIssuers
     requires { ⌜ HeadsLent (now request) (now book) (now heads) × (length (now book) ≤ shortBook) ⌝ }
     ensures answer { λ r. ⌜ r ≡ listIssuers (now (request .entry)) (now (book .entry)) (now (buffer .entry)) .answer ⌝ }
@@ -87,7 +87,7 @@ fn list_short(request: &[u8], book: &[u8], heads: &mut [u16], buffer: &mut [u8])
     )
 }
 
-// Any other book.
+// For any other book.
 fn list_long(request: &[u8], book: &[u8], heads: &mut [u16], buffer: &mut [u8]) -> PermittedIssuers
     requires { ⌜ HeadsLent (now request) (now book) (now heads) × (shortBook < length (now book)) ⌝ }
     ensures answer { λ r. ⌜ r ≡ listIssuers (now (request .entry)) (now (book .entry)) (now (buffer .entry)) .answer ⌝ }
@@ -109,7 +109,7 @@ fn list_long(request: &[u8], book: &[u8], heads: &mut [u16], buffer: &mut [u8]) 
     )
 }
 
-// The list stands at the front of the buffer, and the rest stays; nothing is written before the room is known to be enough.
+// Writes the list to the start of the buffer; the rest of the buffer stays as it is. Nothing is written unless the whole list fits.
 pub fn permitted_issuers(request: &[u8], book: &[u8], buffer: &mut [u8]) -> PermittedIssuers
     ensures answer { λ r. ⌜ r ≡ listIssuers (now (request .entry)) (now (book .entry)) (now (buffer .entry)) .answer ⌝ }
     ensures octets { λ r. ⌜ now (buffer .exit) ≡ listIssuers (now (request .entry)) (now (book .entry)) (now (buffer .entry)) .buffer ⌝ }
