@@ -295,7 +295,7 @@ fn take_record<'a>(rest: &mut &'a [u8], number: usize) -> Option<Option<Record<'
     }
     let (&[flags, tag_length], tag_and_value) = data.split_first_chunk()?;
     let (tag, value) = tag_and_value.split_at_checked(usize::from(tag_length))?;
-    if tag.is_empty() {
+    if tag.is_empty() || !tag.iter().all(u8::is_ascii_alphanumeric) {
         return None;
     }
     Some(Some(Record {

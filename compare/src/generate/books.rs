@@ -5,7 +5,9 @@ use super::Generator;
 use crate::limits::{BOOK_OCTETS, BOOK_RECORDS, ISSUER_OCTETS, LABEL_OCTETS};
 
 pub(super) const KNOWN_TAGS: [&[u8]; 3] = [b"issue", b"issuewild", b"iodef"];
-pub(super) const UNKNOWN_TAGS: [&[u8]; 5] = [b"tbs", b"issu", b"issues", b"issuewil", b"tb_s"];
+pub(super) const UNKNOWN_TAGS: [&[u8]; 5] = [b"tbs", b"issu", b"issues", b"issuewil", b"T0Z"];
+/// Those that look like letters or digits, those next to them, and the ends.
+pub(super) const WRONG_TAG_OCTETS: [u8; 14] = *b"-_ /:@[`{\x00\x11\x80\xE1\xFF";
 pub(super) const FLAGS: [u8; 6] = [0, 1, 127, 128, 129, 255];
 const BLANKS: [&[u8]; 4] = [b"", b"", b" ", b"\t "];
 const PARAMETER_TAGS: [&[u8]; 6] = [b"a", b"b0", b"0", b"a-b", b"a--0", b"0-a-b"];
@@ -115,17 +117,39 @@ impl Generator {
         (0..records).flat_map(grant).collect()
     }
 
+    /// A good book but for one record, or two, whose tags hold a wrong octet. Now and then it is cut
+    /// off somewhere behind them or before.
+    pub(super) fn book_with_wrong_tag(&mut self) -> Vec<u8> {
+        let few = |generator: &mut Generator| {
+            let records = generator.near_front(&[0, 1, 2, 3]);
+            (0..records).flat_map(|_| generator.record()).collect()
+        };
+        let mut book: Vec<u8> = few(self);
+        for _ in 0..self.near_front(&[1, 2]) {
+            let owner = self.owner();
+            let rdata = self.caa_data_with_wrong_tag();
+            book.extend(self.record_of(owner, 257, 1, &rdata));
+            book.extend(few(self));
+        }
+        if self.once_in(4) {
+            book.truncate(1 + self.below(book.len()));
+        }
+        book
+    }
+
     /// One good record, CAA or not.
     pub fn record(&mut self) -> Vec<u8> {
         let owner = self.owner();
         if self.once_in(8) {
             let (rtype, class) = self.one_of(&[(1, 1), (257, 3), (1, 257), (5, 1)]);
-            // Often what would count in a CAA record.
-            let rdata = if self.once_in(2) {
-                self.caa_data()
-            } else {
-                let length = self.below(4);
-                self.buffer(length)
+            // Often what would count, or be wrong, in a CAA record.
+            let rdata = match self.below(4) {
+                0 => self.caa_data(),
+                1 => self.caa_data_with_wrong_tag(),
+                _ => {
+                    let length = self.below(4);
+                    self.buffer(length)
+                }
             };
             self.record_of(owner, rtype, class, &rdata)
         } else {
@@ -159,6 +183,20 @@ impl Generator {
         let mut rdata = vec![self.one_of(&FLAGS), tag.len() as u8];
         rdata.extend(self.any_case(tag));
         rdata.extend(self.value());
+        rdata
+    }
+
+    /// CAA data that is good but for one octet of its tag.
+    pub(super) fn caa_data_with_wrong_tag(&mut self) -> Vec<u8> {
+        let mut rdata = self.caa_data();
+        let place = 2 + self.below(usize::from(rdata[1]));
+        let octet = self.one_of(&WRONG_TAG_OCTETS);
+        if self.once_in(2) {
+            rdata[place] = octet;
+        } else {
+            rdata.insert(place + self.below(2), octet);
+            rdata[1] += 1;
+        }
         rdata
     }
 

@@ -1,4 +1,4 @@
-// Fills the table of a book: one row for each record that can be read.
+// Fills the table of a book: one row for each record whose fields can be read.
 use read_record::RecordAt;
 use read_record::RecordRead;
 use spec_limits::MAX_BOOK_OCTETS;
@@ -39,7 +39,7 @@ pub fn fill_table(book: &[u8], table: &mut [u16]) -> usize
         if room <= n {
             return n;
         }
-        let RecordRead::Good(r) = read_record::read_record(book, at) else {
+        let RecordRead::Good(r) = read_record::read_record_fields(book, at) else {
             return n;
         };
         put_row(table, n, at, r);

@@ -20,7 +20,7 @@ abbrev pub rowsFrom : ℕ → List Record → List ℕ
 rowsFrom at [] = []
 rowsFrom at (r ∷ rs) = row at r ++ rowsFrom (at + length (wireRecord r)) rs
 
--- The records that get a row: all that can be read. A book over the limit gets no rows.
+-- The records that get a row: all whose fields can be read. A book over the limit gets no rows.
 unfoldable pub tabled : List ℕ → List Record
 tabled book = cond (leb (length book) maxBookOctets) (readable maxRecords book) []
 

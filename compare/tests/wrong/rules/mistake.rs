@@ -18,6 +18,21 @@ macro_rules! mistakes {
 }
 
 mistakes! {
+    IN_THE_BOOK:
+        TagsAreNotLookedInto,
+        TagsOfCriticalRecordsAloneAreLookedInto,
+        TagsOfOtherRecordsAloneAreLookedInto,
+        TagsOfTheRootAreNotLookedInto,
+        TagsOfRelevantNamesAloneAreLookedInto,
+        TagsHoldHyphens,
+        TagsHoldUnderscores,
+        TagsHoldBlanks,
+        TagsHoldOctetZero,
+        TagsHoldOctetsFrom128On,
+        FirstOctetOfATagIsNotLookedAt,
+        LastOctetOfATagIsNotLookedAt,
+        TagsOfClass3AreLookedInto,
+        TagsAreLookedIntoBehindTheLayout;
     IN_THE_LOOK:
         OwnersAreComparedByTail,
         OwnersAreComparedUpTo128Octets,
