@@ -40,7 +40,7 @@ fn read_name(s: &[u8]) -> ValueRead
 pub fn read_value(s: &[u8]) -> ValueRead
     ensures { λ r. ⌜ r ≡ valueAt (now (s .entry)) ⌝ }
 {
-    let e = text_compare::piece_end(s, 0, b';');
+    let e = text_labels::piece_end(s, 0, b';');
     if e < s.len() {
         if !read_parameters::are_parameters(&s[e + 1..]) {
             return ValueRead::Malformed;

@@ -3,10 +3,10 @@ use Prim.Native.Nat.{_-_}
 use mathlib.Core.Path.{_≡_}
 use lib.ListN.{length}
 use borrow.Author.Needs.{needs}
-use Rattle.text_compare.specs.Places.{pieceEnd}
-use Rattle.text_compare.proofs.PieceEnds.{piece-turn, piece-stop, piece-last}
-use Rattle.text_compare.proofs.piece_end.Statement.{statement}
-use Rattle.text_compare.proofs.piece_end.Tie as tie
+use Rattle.text_labels.specs.Places.{pieceEnd}
+use Rattle.text_labels.proofs.PieceEnds.{piece-turn, piece-stop, piece-last}
+use Rattle.text_labels.proofs.piece_end.Statement.{statement}
+use Rattle.text_labels.proofs.piece_end.Tie as tie
 
 abbrev Inv-loop : tie.InvT-loop
 Inv-loop s at c e₀ e = pieceEnd c s at ≡ pieceEnd c s e

@@ -6,7 +6,7 @@ use mathlib.Core.List.{List, [], _∷_}
 use lib.ListN.{length, getD, drop, drop-of-length-le}
 use borrow.Author.Tests.{eq-eqb, ne-eqb}
 use Rattle.spec_octets.specs.Pieces.{extend, split}
-use Rattle.text_compare.specs.Places.{firstPiece, pieceEnd}
+use Rattle.text_labels.specs.Places.{firstPiece, pieceEnd}
 use Rattle.spec_octets.proofs.Walks.{drop-step}
 
 pub first-extend : (x : ℕ) (ps : List (List ℕ)) → firstPiece (extend x ps) ≡ x ∷ firstPiece ps

@@ -1,8 +1,8 @@
 -- `is_label` meets its contract.
 use borrow.Author.Needs.{needs}
-use Rattle.text_compare.proofs.LabelTests.{empty-no-label, first-no-label, last-no-label, label-by-octets}
-use Rattle.text_compare.proofs.is_label.Statement.{statement}
-use Rattle.text_compare.proofs.is_label.Tie as tie
+use Rattle.text_labels.proofs.LabelTests.{empty-no-label, first-no-label, last-no-label, label-by-octets}
+use Rattle.text_labels.proofs.is_label.Statement.{statement}
+use Rattle.text_labels.proofs.is_label.Tie as tie
 
 returns : tie.Need-returns
 returns c = search (needs, empty-no-label)

@@ -10,8 +10,8 @@ use lib.Seq.{drop-drop}
 use borrow.Author.Tests.{lt-ltb, le-ltb}
 use Rattle.spec_octets.specs.Lists.{all}
 use Rattle.spec_octets.specs.Pieces.{extend, split}
-use Rattle.text_compare.specs.Places.{firstPiece, pieceEnd}
-use Rattle.text_compare.proofs.PieceEnds.{first-extend}
+use Rattle.text_labels.specs.Places.{firstPiece, pieceEnd}
+use Rattle.text_labels.proofs.PieceEnds.{first-extend}
 
 module _ (c : ℕ) where
   -- how long the first piece is
