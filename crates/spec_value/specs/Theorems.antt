@@ -6,6 +6,8 @@ use mathlib.Core.List.{List, map}
 use Rattle.spec_value.specs.IssueValues.{malformed, nameless, named, issueValue}
 use Rattle.spec_value.specs.Productions.{valueWithoutName, valueWithName}
 use Rattle.spec_value.specs.ValueEdges.{valueEdges}
+use Rattle.spec_value.specs.Parameters.{parametersIn}
+use Rattle.spec_value.specs.ParameterEdges.{parameterEdges}
 
 -- issueValue accepts exactly the values that the productions match. A value has at most one name.
 abbrev pub Value-is-the-grammar : Type 0
@@ -18,3 +20,7 @@ Value-is-the-grammar =
 -- Each value of the table ValueEdges.antt is read as the requirements say.
 abbrev pub Value-edges : Type 0
 Value-edges = map (λ r. issueValue (r .0)) valueEdges ≡ map (λ r. r .1) valueEdges
+
+-- Each value of the table ParameterEdges.antt has the parameters that the table says.
+abbrev pub Parameter-edges : Type 0
+Parameter-edges = map (λ r. parametersIn (r .0)) parameterEdges ≡ map (λ r. r .1) parameterEdges

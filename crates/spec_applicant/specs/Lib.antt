@@ -1,0 +1,5 @@
+pub mod Applicant
+pub mod Admission
+pub mod ApplicantEdges
+pub mod AdmissionEdges
+pub mod Theorems
