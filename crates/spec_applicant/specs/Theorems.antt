@@ -1,11 +1,29 @@
 -- What the definitions of this crate mean. Each statement is proved under its name in proofs/.
 use mathlib.Core.Path.{_≡_}
-use mathlib.Core.List.{map}
-use Rattle.spec_value.specs.Parameters.{parametersIn}
-use Rattle.spec_applicant.specs.Applicant.{isApplicant}
+use mathlib.Core.Logic.{_↔_, _⊎_}
+use mathlib.Core.Bool.{true}
+use mathlib.Core.List.{List, map}
+use Rattle.spec_octets.specs.Lists.{Selects}
+use Rattle.spec_octets.specs.Octets.{text}
+use Rattle.spec_value.specs.Parameters.{Parameter, parametersIn}
+use Rattle.spec_applicant.specs.Applicant.{Applicant, isApplicant}
 use Rattle.spec_applicant.specs.Admission.{admits}
+use Rattle.spec_applicant.specs.Meaning.{GoodApplicant, Tagged, Admits}
 use Rattle.spec_applicant.specs.ApplicantEdges.{applicantEdges}
 use Rattle.spec_applicant.specs.AdmissionEdges.{someone, admissionEdges}
+
+abbrev pub Applicant-texts : Type 0
+Applicant-texts = (who : Applicant) → (isApplicant who ≡ true) ↔ GoodApplicant who
+
+-- Parameters admit an applicant exactly when the account and the method keep to both limits.
+abbrev pub Admits-exactly : Type 0
+Admits-exactly = (who : Applicant) (ps : List Parameter) → (admits who ps ≡ true) ↔ Admits who ps
+
+-- Only the two tags matter: the same holds of the parameters that have one of them, taken alone.
+abbrev pub Others-ignored : Type 0
+Others-ignored =
+    (who : Applicant) (ps qs : List Parameter) →
+    Selects (λ p. Tagged (text "accounturi") p ⊎ Tagged (text "validationmethods") p) ps qs → admits who ps ≡ admits who qs
 
 -- The table ApplicantEdges.antt.
 abbrev pub Applicant-edges : Type 0
