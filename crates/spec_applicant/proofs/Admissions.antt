@@ -3,18 +3,18 @@ use Prim.Native.Nat.{ℕ}
 use Prim.Native.Char.{code}
 use mathlib.Core.Path.{_≡_, refl, sym, ap, _∙_}
 use mathlib.Core.Logic.{_↔_, _≢_, inl, inr, ⊎-elim}
-use mathlib.Core.Bool.{Bool, true, false, not, _&&_, true≢false, false≢true, and-eq-true-iff}
-use mathlib.Core.List.{List, [], _∷_, _++_, map, cons≢nil, nil≢cons, cons-eq-cons, List·Memᴰ, List·Memᴰ·not-nil}
+use mathlib.Core.Bool.{Bool, true, false, not, true≢false, false≢true, and-eq-true-iff}
+use mathlib.Core.List.{List, [], _∷_, _++_, cons≢nil, cons-eq-cons, List·Memᴰ, List·Memᴰ·not-nil}
 use borrow.Author.Tests.{not-true}
 use Rattle.spec_octets.specs.Lists.{any, consIf, select, isEmpty, All, all-nil, all-cons, Selects, selects-nil, selects-take, selects-pass}
-use Rattle.spec_octets.specs.Octets.{text, isUpper, lower, lowered, same, equalIgnoringCase}
+use Rattle.spec_octets.specs.Octets.{text, isUpper, lower, lowered, same}
 use Rattle.spec_octets.specs.Pieces.{split, join}
 use Rattle.spec_octets.proofs.ListLaws.{true-or-false, not-passed, any-true, any-false, All-head, All-tail, All-rest, All-imp}
 use Rattle.spec_octets.proofs.PieceLaws.{pieces-join}
 use Rattle.spec_octets.proofs.Texts.{same-equal, same-text}
 use Rattle.spec_value.specs.Parameters.{Parameter}
 use Rattle.spec_applicant.specs.Applicant.{Applicant}
-use Rattle.spec_applicant.specs.Admission.{valuesOf, atMostOne, namesMethod, admits}
+use Rattle.spec_applicant.specs.Admission.{isTagged, valuesOf, atMostOne, namesMethod, admits}
 use Rattle.spec_applicant.specs.Meaning.{Tagged, AtMostOne, Limited, Among}
 use Rattle.spec_applicant.specs.Theorems.{Admits-exactly, Others-ignored}
 
@@ -44,10 +44,10 @@ module _ {P : Parameter → Type 0} where
 -- The values of a tag.
 
 module _ (t : List ℕ) (small : lowered t ≡ t) where
-  tagged : (p : Parameter) → (equalIgnoringCase (p .tag) t ≡ true) ↔ Tagged t p
+  tagged : (p : Parameter) → (isTagged t p ≡ true) ↔ Tagged t p
   tagged p = (λ e. same-text (p .tag) t .0 e ∙ small, λ h. same-text (p .tag) t .1 (h ∙ sym small))
 
-  untagged : (p : Parameter) → (equalIgnoringCase (p .tag) t ≡ false) → Tagged t p → ⊥
+  untagged : (p : Parameter) → isTagged t p ≡ false → Tagged t p → ⊥
   untagged p e h = true≢false (sym (tagged p .1 h) ∙ e)
 
   no-values : (ps : List Parameter) → (valuesOf t ps ≡ []) ↔ All (λ p. Tagged t p → ⊥) ps
@@ -55,7 +55,7 @@ module _ (t : List ℕ) (small : lowered t ≡ t) where
   no-values (p ∷ ps) = ⊎-elim
       (λ e. rw e (λ h. absurd (cons≢nil h), λ n. absurd (All-head n (tagged p .0 e))))
       (λ e. rw e (λ h. all-cons (untagged p e) (no-values ps .0 h), λ n. no-values ps .1 (All-tail n)))
-      (true-or-false (equalIgnoringCase (p .tag) t))
+      (true-or-false (isTagged t p))
 
   module _ (test : List ℕ → Bool) (Good : List ℕ → Type 0) (decides : (v : List ℕ) → (test v ≡ true) ↔ Good v) where
     alone : (v : List ℕ) (vs : List (List ℕ)) → (atMostOne test (v ∷ vs) ≡ true) ↔ ((test v ≡ true) × (vs ≡ []))
@@ -81,7 +81,7 @@ module _ (t : List ℕ) (small : lowered t ≡ t) where
               (all-cons (λ here. absurd (untagged p e here)) (k .0), lone-cons (λ here. absurd (untagged p e here)) (k .1)),
           λ k. limited ps .1 (All-tail (k .0), lone-tail (k .1)),
         ))
-        (true-or-false (equalIgnoringCase (p .tag) t))
+        (true-or-false (isTagged t p))
 
 -- The items of a list of methods.
 
@@ -123,24 +123,28 @@ method-tag : lowered (text "validationmethods") ≡ text "validationmethods"
 unfolding lower isUpper
 method-tag = refl
 
+-- the account is the value, and the method is one of its items
+is-account : (who : Applicant) (v : List ℕ) → (same (who .account) v ≡ true) ↔ (v ≡ who .account)
+is-account who v = (λ e. sym (same-equal (who .account) v .0 e), λ e. same-equal (who .account) v .1 (sym e))
+
+is-method : (who : Applicant) (v : List ℕ) → (namesMethod (who .method) (split (code ",") v) ≡ true) ↔ Among (who .method) v
+is-method who v = among (who .method) v
+
 pub admits-exactly : Admits-exactly
 unfolding admits
 admits-exactly who ps =
-    let byAccount = limited (text "accounturi") account-tag (same (who .account)) (λ v. v ≡ who .account)
-    (λ v. (λ e. sym (same-equal (who .account) v .0 e), λ e. same-equal (who .account) v .1 (sym e))) ps in
-    let byMethod = limited (text "validationmethods") method-tag (λ v. namesMethod (who .method) (split (code ",") v)) (Among (who .method))
-    (among (who .method)) ps in
-    let both = and-eq-true-iff (atMostOne (same (who .account)) (valuesOf (text "accounturi") ps))
-    (atMostOne (λ v. namesMethod (who .method) (split (code ",") v)) (valuesOf (text "validationmethods") ps)) in
-    (λ e. (byAccount .0 (both .0 e .0), byMethod .0 (both .0 e .1)), λ k. both .1 (byAccount .1 (k .0), byMethod .1 (k .1)))
+    let accounts = limited (text "accounturi") account-tag _ _ (is-account who) ps in
+    let methods = limited (text "validationmethods") method-tag _ _ (is-method who) ps in
+    let both = and-eq-true-iff _ _ in
+    (λ e. (accounts .0 (both .0 e .0), methods .0 (both .0 e .1)), λ k. both .1 (accounts .1 (k .0), methods .1 (k .1)))
 
 -- What is selected keeps every parameter that a tag asks for.
 kept :
-    {P : Parameter → Type 0} (t : List ℕ) → ((p : Parameter) → equalIgnoringCase (p .tag) t ≡ true → P p) → {ps qs : List Parameter} →
-    Selects P ps qs → select (λ p. equalIgnoringCase (p .tag) t) ps ≡ select (λ p. equalIgnoringCase (p .tag) t) qs
+    {P : Parameter → Type 0} (t : List ℕ) → ((p : Parameter) → isTagged t p ≡ true → P p) → {ps qs : List Parameter} →
+    Selects P ps qs → select (isTagged t) ps ≡ select (isTagged t) qs
 kept t has selects-nil = refl
-kept t has (selects-take {x} h s) = ap (consIf (equalIgnoringCase (x .tag) t) x) (kept t has s)
-kept t has (selects-pass {x} n s) = rw (not-passed (equalIgnoringCase (x .tag) t) (λ e. n (has x e))) (kept t has s)
+kept t has (selects-take {x} h s) = ap (consIf (isTagged t x) x) (kept t has s)
+kept t has (selects-pass {x} n s) = rw (not-passed (isTagged t x) (λ e. n (has x e))) (kept t has s)
 
 pub others-ignored : Others-ignored
 unfolding admits

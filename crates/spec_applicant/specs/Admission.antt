@@ -9,9 +9,13 @@ use Rattle.spec_octets.specs.Pieces.{split}
 use Rattle.spec_value.specs.Parameters.{Parameter}
 use Rattle.spec_applicant.specs.Applicant.{Applicant}
 
--- The values of the parameters with the tag t, in any letter case.
+-- The parameter has the tag t, in any letter case: the requirements' own rule.
+abbrev pub isTagged : List ℕ → Parameter → Bool
+isTagged t p = equalIgnoringCase (p .tag) t
+
+-- The values of the parameters with the tag t.
 abbrev pub valuesOf : List ℕ → List Parameter → List (List ℕ)
-valuesOf t ps = map (λ p. p .value) (select (λ p. equalIgnoringCase (p .tag) t) ps)
+valuesOf t ps = map (λ p. p .value) (select (isTagged t) ps)
 
 -- No value, or one that passes the test. Two never pass, also if they are equal.
 abbrev pub atMostOne : (List ℕ → Bool) → List (List ℕ) → Bool

@@ -22,6 +22,7 @@ parameterEdges =
     ∷ (text "n; a=1", given "a" "1" ∷ [])
     ∷ (text "; a=1", given "a" "1" ∷ [])
     ∷ (text "ca1.example.net; account=230123", given "account" "230123" ∷ [])
+    ∷ (text "ca1.example.net; cert-tier=gold", given "cert-tier" "gold" ∷ [])
     -- Several, in the order of the value; the same tag twice; tag and value in the letter case of the value.
     ∷ (text "n;b=1;a=2;c=3", given "b" "1" ∷ given "a" "2" ∷ given "c" "3" ∷ [])
     ∷ (text "n; a=1; a=1", given "a" "1" ∷ given "a" "1" ∷ [])
