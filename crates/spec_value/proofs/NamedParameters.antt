@@ -26,8 +26,8 @@ use Rattle.spec_value.proofs.Values.{value-is-the-grammar}
 
 -- From the productions with names to those without, and back.
 
-unnamed : {p : Parameter} {s : List ℕ} → parameterOf p s → parameter s
-unnamed m =
+unnamed : (p : Parameter) {s : List ℕ} → parameterOf p s → parameter s
+unnamed p m =
     let (t, s₁, e₁, tagged, m₁) = m in
     let (b, s₂, e₂, before, m₂) = m₁ in
     let (c, s₃, e₃, equals, m₃) = m₂ in
@@ -53,14 +53,14 @@ chained x b₁ c b₂ y e e₁ e₂ e₃ = rw (e, e₁, e₂, e₃) (simp append
 
 all-unnamed : (ps : List Parameter) {s : List ℕ} → parametersOf ps s → parameters s
 all-unnamed [] m = absurd m
-all-unnamed (p ∷ []) m = last (unnamed m)
+all-unnamed (p ∷ []) m = last (unnamed p m)
 all-unnamed (p ∷ q ∷ ps) m =
     let (x, r₁, e₁, body, m₁) = m in
     let (b₁, r₂, e₂, after, m₂) = m₁ in
     let (c, r₃, e₃, semicolon, m₃) = m₂ in
     let (b₂, y, e₄, before, rest) = m₃ in
     more (x ++ (b₁ ++ (c ++ b₂))) y (regrouped x b₁ c b₂ y e₁ e₂ e₃ e₄)
-    (x, b₁ ++ (c ++ b₂), refl, unnamed body, (b₁, c ++ b₂, refl, after, (c, b₂, refl, semicolon, before)))
+    (x, b₁ ++ (c ++ b₂), refl, unnamed p body, (b₁, c ++ b₂, refl, after, (c, b₂, refl, semicolon, before)))
     (all-unnamed (q ∷ ps) rest)
 
 all-named : {s : List ℕ} → parameters s → (p : Parameter) × (ps : List Parameter) × parametersOf (p ∷ ps) s
@@ -168,7 +168,7 @@ parted a x b₁ b₂ y b e₁ e₂ e₃ e₄ e = rw (e₁, e₂, e₃, e₄, e) 
 
 read-all : (ps : List Parameter) (s : List ℕ) {a b : List ℕ} → parametersOf ps s → blanks a → blanks b → map parameterIn (split (code ";") (a ++ (s ++ b))) ≡ ps
 read-all [] s m front back = absurd m
-read-all (p ∷ []) s m front back = rw (split-one (code ";") (parameter-free front (unnamed m) back), read-one front m back)
+read-all (p ∷ []) s m front back = rw (split-one (code ";") (parameter-free front (unnamed p m) back), read-one front m back)
 read-all (p ∷ q ∷ ps) s {a} {b} m front back =
     let (x, r₁, e₁, body, m₁) = m in
     let (b₁, r₂, e₂, after, m₂) = m₁ in
@@ -176,7 +176,7 @@ read-all (p ∷ q ∷ ps) s {a} {b} m front back =
     let (b₂, y, e₄, before, rest) = m₃ in
     rw (
       parted a x b₁ b₂ y b e₁ e₂ e₃ e₄ semicolon,
-      split-more (code ";") (parameter-free front (unnamed body) after) (b₂ ++ (y ++ b)),
+      split-more (code ";") (parameter-free front (unnamed p body) after) (b₂ ++ (y ++ b)),
       read-one front body after,
       read-all (q ∷ ps) y rest before back,
     )
