@@ -76,6 +76,7 @@ admissionEdges =
     ∷ (text "n; accounturis=https://a/2", true)
     ∷ (text "n; xaccounturi=https://a/2", true)
     ∷ (text "n; validationmethod=http-01", true)
+    ∷ (text "n; validationmethodsx=http-01", true)
     ∷ (text "n; methods=http-01", true)
     ∷ (text "n; b=; accounturi=https://a/1; b=2", true)
     ∷ (text "n; b=; accounturi=https://a/2; b=2", false)
