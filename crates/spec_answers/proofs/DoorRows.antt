@@ -8,7 +8,7 @@ use mathlib.Core.List.{List, [], _∷_, List·Memᴰ}
 use lib.Dec.{eqb}
 use borrow.Author.Tests.{eqb-true}
 use Rattle.spec_refusal.specs.declared.Refusal.{Refusal}
-use Rattle.spec_refusal.specs.declared.Refusal.the-variants.{RequestTooLong, BadName, TooManyNames, BadIssuer, BookTooLong, BadRecord, TooManyRecords, NoRoom, BadLine, LineTooLong, BadData}
+use Rattle.spec_refusal.specs.declared.Refusal.the-variants.{RequestTooLong, BadName, TooManyNames, BadIssuer, BookTooLong, BadRecord, TooManyRecords, NoRoom, BadLine, LineTooLong, BadData, BadAccountOrMethod}
 use Rattle.spec_refusal.specs.Refusal.{number, place}
 use Rattle.spec_octets.specs.Lists.{any}
 use Rattle.spec_octets.proofs.ListLaws.{any-true}
@@ -29,6 +29,7 @@ module _ {request book : List ℕ} {four : Type 0} {eight : ℕ → Type 0} wher
   table-of BadLine h = absurd h
   table-of LineTooLong h = absurd h
   table-of BadData h = absurd h
+  table-of BadAccountOrMethod h = absurd h
 
   of-table : {n p : ℕ} → TableRow request book four eight n p → (r : Refusal) × (number r ≡ n) × (place r ≡ p) × Row request book four eight r
   unfolding number place
@@ -88,9 +89,9 @@ module _
   never-refuses none r h = none (number r) (place r) (table-of r (law r .0 h .0))
 
   pub refuses-exactly :
-      (n a : ℕ) → (1 ≤ n → n ≤ 11 → (r : Refusal) × Refuses r × (number r ≡ n) × (place r ≡ a)) →
+      (n a : ℕ) → (1 ≤ n → n ≤ 19 → (r : Refusal) × Refuses r × (number r ≡ n) × (place r ≡ a)) →
       ((r : Refusal) → Refuses r → (n ≡ number r) × (a ≡ place r)) →
-      (m p : ℕ) → 1 ≤ m → m ≤ 11 → ((n ≡ m) × (a ≡ p)) ↔ FirstToHold Table m p
+      (m p : ℕ) → 1 ≤ m → m ≤ 19 → ((n ≡ m) × (a ≡ p)) ↔ FirstToHold Table m p
   refuses-exactly n a read says m p low high = (
     λ (en, ea). first (read (omega arith) (omega arith)) en ea,
     λ (row, lower). refused (of-table row) lower,

@@ -105,7 +105,7 @@ module _ (request book buffer : List ℕ) (request-octets : Octets request) (boo
   passed : None → Unrefused
   passed = never-refuses request book ⊥ (Row-8 request book buffer) Refuses refuses
 
-  refused-word : (n p : ℕ) → 1 ≤ n → n ≤ 11 → ((numberIn W ≡ n) × (fieldA W ≡ p)) ↔ FirstToHold (ListTable request book buffer) n p
+  refused-word : (n p : ℕ) → 1 ≤ n → n ≤ 19 → ((numberIn W ≡ n) × (fieldA W ≡ p)) ↔ FirstToHold (ListTable request book buffer) n p
   unfolding permittedIssuersCode
   refused-word =
       refuses-exactly request book ⊥ (Row-8 request book buffer) Refuses refuses (numberIn W) (fieldA W)

@@ -86,7 +86,7 @@ module _ (request issuer book : List ℕ) where
             let calm : (r : Refusal) → j ≡ Refused r → ⊥ = λ r f. other r (sym e ∙ f) in
             (none-held calm, rule (ruled (accepted calm)) .0 e)
 
-    refused-word : (n p : ℕ) → 1 ≤ n → n ≤ 11 → ((numberIn w ≡ n) × (fieldA w ≡ p)) ↔ FirstToHold (JudgeTable request issuer book) n p
+    refused-word : (n p : ℕ) → 1 ≤ n → n ≤ 19 → ((numberIn w ≡ n) × (fieldA w ≡ p)) ↔ FirstToHold (JudgeTable request issuer book) n p
     unfolding judgementCode
     refused-word =
         refuses-exactly request book (Row-4 issuer) (λ n. ⊥) (λ r. j ≡ Refused r) (judge-refusals request issuer book request-octets book-octets)

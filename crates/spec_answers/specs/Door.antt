@@ -101,7 +101,7 @@ LowestDenied request issuer book k n = LowestNot (λ m. PermittedTo (caaRecords 
 -- caa_judge: may the issuer issue for every name of the request?
 pub record JudgeWord (request issuer book : List ℕ) (word : ℕ) : Type 0 where
   -- Refusal n with place p in a: exactly when row n of the table holds with place p and no row with a lower number holds.
-  pub refused-exactly : (n p : ℕ) → 1 ≤ n → n ≤ 11 →
+  pub refused-exactly : (n p : ℕ) → 1 ≤ n → n ≤ 19 →
       ((numberIn word ≡ n) × (fieldA word ≡ p)) ↔ FirstToHold (JudgeTable request issuer book) n p
   -- 0, permitted: exactly when no row holds and every name is unrestricted or granted to the issuer.
   pub permitted-exactly : (numberIn word ≡ 0) ↔ (NoneHolds (JudgeTable request issuer book) × EveryPermitted request issuer book)
@@ -122,7 +122,7 @@ pub record JudgeWord (request issuer book : List ℕ) (word : ℕ) : Type 0 wher
   -- Field c is always 0.
   pub c-unused : fieldC word ≡ 0
   -- Field b is 0 except for 20 and 21.
-  pub b-unused : numberIn word ≤ 11 → fieldB word ≡ 0
+  pub b-unused : numberIn word ≤ 19 → fieldB word ≡ 0
   -- Field a is 0 if the number is 0.
   pub a-unused : numberIn word ≡ 0 → fieldA word ≡ 0
   -- If no row holds, the request is its names in wire form, one after the other, and each is valid.
@@ -144,10 +144,10 @@ Lists word after ns =
 -- caa_permitted_issuers: who may issue for every name of the request? `after` is the buffer after the call.
 pub record IssuersWord (request book buffer : List ℕ) (word : ℕ) (after : List ℕ) : Type 0 where
   -- Refusal n with place p in a: exactly when row n of the table holds with place p and no row with a lower number holds.
-  pub refused-exactly : (n p : ℕ) → 1 ≤ n → n ≤ 11 →
+  pub refused-exactly : (n p : ℕ) → 1 ≤ n → n ≤ 19 →
       ((numberIn word ≡ n) × (fieldA word ≡ p)) ↔ FirstToHold (ListTable request book buffer) n p
   -- A refusal changes no octet of the buffer.
-  pub refused-unchanged : numberIn word ≤ 11 → after ≡ buffer
+  pub refused-unchanged : numberIn word ≤ 19 → after ≡ buffer
   -- 30, anyone: exactly when no row holds and no requested name is restricted.
   pub anyone-exactly :
       (numberIn word ≡ 30)

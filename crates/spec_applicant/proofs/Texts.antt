@@ -1,4 +1,4 @@
--- The tests of an account text and of a method text are what the requirements say of them.
+-- The tests of an account text and of a method text are what the requirements say of them; both are refused exactly when one fails.
 use Prim.Native.Nat.{ℕ}
 use Prim.Native.Char.{code}
 use mathlib.Core.Path.{_≡_}
@@ -9,13 +9,15 @@ use lib.Dec.{leb, eqb}
 use lib.ListN.{length}
 use borrow.Author.Tests.{leb-true, le-leb, eqb-false, ne-eqb, not-true}
 use Rattle.spec_limits.specs.Limits.{maxAccountOctets}
+use Rattle.spec_refusal.specs.declared.Refusal.the-variants.{BadAccountOrMethod}
+use Rattle.spec_refusal.proofs.Tested.{refused-unless}
 use Rattle.spec_octets.specs.Lists.{all}
 use Rattle.spec_octets.specs.Octets.{between, isParameterOctet}
 use Rattle.spec_octets.proofs.ListLaws.{all-true, All-imp}
 use Rattle.spec_octets.proofs.ParameterOctets.{parameter-octets}
-use Rattle.spec_applicant.specs.Applicant.{isAccount, isMethod, isApplicant}
+use Rattle.spec_applicant.specs.Applicant.{isAccount, isMethod, isApplicant, applicantRefusal}
 use Rattle.spec_applicant.specs.Meaning.{GoodAccount, GoodMethod}
-use Rattle.spec_applicant.specs.Theorems.{Applicant-texts}
+use Rattle.spec_applicant.specs.Theorems.{Applicant-texts, Applicant-refusals}
 
 account : (t : List ℕ) → (isAccount t ≡ true) ↔ GoodAccount t
 unfolding isAccount
@@ -54,3 +56,7 @@ applicant-texts who =
       λ e. (account (who .account) .0 (both .0 e .0), method (who .method) .0 (both .0 e .1)),
       λ k. both .1 (account (who .account) .1 (k .0), method (who .method) .1 (k .1)),
     )
+
+pub applicant-refusals : Applicant-refusals
+unfolding applicantRefusal
+applicant-refusals who = refused-unless BadAccountOrMethod (isApplicant who) (applicant-texts who)

@@ -3,10 +3,13 @@ use mathlib.Core.Path.{_≡_}
 use mathlib.Core.Logic.{_↔_, _⊎_}
 use mathlib.Core.Bool.{true}
 use mathlib.Core.List.{List, map}
+use mathlib.Core.Option.{none, some}
+use Rattle.spec_refusal.specs.declared.Refusal.{Refusal}
+use Rattle.spec_refusal.specs.declared.Refusal.the-variants.{BadAccountOrMethod}
 use Rattle.spec_octets.specs.Lists.{Selects}
 use Rattle.spec_octets.specs.Octets.{text}
 use Rattle.spec_value.specs.Parameters.{Parameter, parametersIn}
-use Rattle.spec_applicant.specs.Applicant.{Applicant, isApplicant}
+use Rattle.spec_applicant.specs.Applicant.{Applicant, isApplicant, applicantRefusal}
 use Rattle.spec_applicant.specs.Admission.{admits}
 use Rattle.spec_applicant.specs.Meaning.{GoodApplicant, Tagged, Admits}
 use Rattle.spec_applicant.specs.ApplicantEdges.{applicantEdges}
@@ -14,6 +17,19 @@ use Rattle.spec_applicant.specs.AdmissionEdges.{someone, admissionEdges}
 
 abbrev pub Applicant-texts : Type 0
 Applicant-texts = (who : Applicant) → (isApplicant who ≡ true) ↔ GoodApplicant who
+
+-- Row 15 of the table: the account text, the method text or both break a rule.
+abbrev pub Row-15 : Applicant → Type 0
+Row-15 who = GoodApplicant who → ⊥
+
+-- The same by refusal.
+abbrev pub ApplicantRow : Applicant → Refusal → Type 0
+ApplicantRow who r = (r ≡ BadAccountOrMethod) × Row-15 who
+
+abbrev pub Applicant-refusals : Type 0
+Applicant-refusals =
+    (who : Applicant) → ((applicantRefusal who ≡ some BadAccountOrMethod) ↔ Row-15 who) × ((applicantRefusal who ≡ none) ↔ GoodApplicant who)
+    × ((r : Refusal) → applicantRefusal who ≡ some r → r ≡ BadAccountOrMethod)
 
 -- Parameters admit an applicant exactly when the account and the method keep to both limits.
 abbrev pub Admits-exactly : Type 0

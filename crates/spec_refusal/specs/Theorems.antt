@@ -8,7 +8,7 @@ use Rattle.spec_limits.specs.Limits.{maxNames, maxRecords}
 use Rattle.spec_refusal.specs.declared.NameNo.{NameNo}
 use Rattle.spec_refusal.specs.declared.RecordNo.{RecordNo}
 use Rattle.spec_refusal.specs.declared.Refusal.{Refusal}
-use Rattle.spec_refusal.specs.declared.Refusal.the-variants.{RequestTooLong, BadName, TooManyNames, BadIssuer, BookTooLong, BadRecord, TooManyRecords, NoRoom, BadLine, LineTooLong, BadData}
+use Rattle.spec_refusal.specs.declared.Refusal.the-variants.{RequestTooLong, BadName, TooManyNames, BadIssuer, BookTooLong, BadRecord, TooManyRecords, NoRoom, BadLine, LineTooLong, BadData, BadAccountOrMethod}
 use Rattle.spec_refusal.specs.declared.Check.the-variants.{Accepted, Refused}
 use Rattle.spec_refusal.specs.Refusal.{number, place}
 use Rattle.spec_refusal.specs.Checks.{checked}
@@ -17,13 +17,13 @@ use Rattle.spec_refusal.specs.Checks.{checked}
 abbrev pub rows : NameNo → RecordNo → ℕ → List Refusal
 rows k r n =
     RequestTooLong ∷ BadName k ∷ TooManyNames ∷ BadIssuer ∷ BookTooLong ∷ BadRecord r ∷ TooManyRecords ∷ NoRoom n ∷ BadLine
-    ∷ LineTooLong ∷ BadData ∷ []
+    ∷ LineTooLong ∷ BadData ∷ BadAccountOrMethod ∷ []
 
 abbrev pub Refusal-table : Type 0
 Refusal-table =
     (k : NameNo) (r : RecordNo) (n : ℕ) →
-    (map number (rows k r n) ≡ 1 ∷ 2 ∷ 3 ∷ 4 ∷ 5 ∷ 6 ∷ 7 ∷ 8 ∷ 9 ∷ 10 ∷ 11 ∷ [])
-    × (map place (rows k r n) ≡ 0 ∷ k .0 ∷ maxNames ∷ 0 ∷ 0 ∷ r .0 ∷ maxRecords ∷ n ∷ 0 ∷ 0 ∷ 0 ∷ [])
+    (map number (rows k r n) ≡ 1 ∷ 2 ∷ 3 ∷ 4 ∷ 5 ∷ 6 ∷ 7 ∷ 8 ∷ 9 ∷ 10 ∷ 11 ∷ 15 ∷ [])
+    × (map place (rows k r n) ≡ 0 ∷ k .0 ∷ maxNames ∷ 0 ∷ 0 ∷ r .0 ∷ maxRecords ∷ n ∷ 0 ∷ 0 ∷ 0 ∷ 0 ∷ [])
 
 -- No two refusals have the same number and the same place.
 abbrev pub Number-and-place-tell : Type 0

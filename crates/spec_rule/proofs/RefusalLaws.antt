@@ -10,7 +10,7 @@ use lib.Dec.{leb}
 use lib.ListN.{length}
 use borrow.Author.Tests.{leb-true, leb-false}
 use Rattle.spec_refusal.specs.declared.Refusal.{Refusal}
-use Rattle.spec_refusal.specs.declared.Refusal.the-variants.{RequestTooLong, BadName, TooManyNames, BadIssuer, BookTooLong, BadRecord, TooManyRecords, NoRoom, BadLine, LineTooLong, BadData}
+use Rattle.spec_refusal.specs.declared.Refusal.the-variants.{RequestTooLong, BadName, TooManyNames, BadIssuer, BookTooLong, BadRecord, TooManyRecords, NoRoom, BadLine, LineTooLong, BadData, BadAccountOrMethod}
 use Rattle.spec_refusal.specs.Refusal.{number}
 use Rattle.spec_octets.specs.Octets.{Octets}
 use Rattle.spec_request.specs.Request.{requestedNames, requestRefusal}
@@ -74,6 +74,7 @@ module _
   checked BadLine = behind (omega arith)
   checked LineTooLong = behind (omega arith)
   checked BadData = behind (omega arith)
+  checked BadAccountOrMethod = behind (omega arith)
 
   in-order :
       (r : Refusal) →

@@ -6,7 +6,7 @@ use mathlib.Core.List.{List, [], _∷_, _++_, map, List·Memᴰ}
 use mathlib.Core.Option.{none}
 use lib.ListN.{length, take, drop}
 use Rattle.spec_refusal.specs.declared.Refusal.{Refusal}
-use Rattle.spec_refusal.specs.declared.Refusal.the-variants.{RequestTooLong, BadName, TooManyNames, BadIssuer, BookTooLong, BadRecord, TooManyRecords, NoRoom, BadLine, LineTooLong, BadData}
+use Rattle.spec_refusal.specs.declared.Refusal.the-variants.{RequestTooLong, BadName, TooManyNames, BadIssuer, BookTooLong, BadRecord, TooManyRecords, NoRoom, BadLine, LineTooLong, BadData, BadAccountOrMethod}
 use Rattle.spec_refusal.specs.Refusal.{number}
 use Rattle.spec_octets.specs.Lists.{All, Any, Distinct, Selects}
 use Rattle.spec_octets.specs.Octets.{Octets, lowered}
@@ -87,6 +87,7 @@ Row request book four eight (NoRoom n) = eight n
 Row request book four eight BadLine = ⊥
 Row request book four eight LineTooLong = ⊥
 Row request book four eight BadData = ⊥
+Row request book four eight BadAccountOrMethod = ⊥
 
 -- The output needs n octets, and the buffer has fewer.
 abbrev pub Row-8 : List ℕ → List ℕ → List ℕ → ℕ → Type 0
