@@ -13,6 +13,7 @@ use Rattle.spec_record.specs.BookEdges.{ofOctets}
 use Rattle.spec_rule.specs.declared.Judgement.{Judgement}
 use Rattle.spec_rule.specs.declared.Judgement.the-variants.{Permitted, UnknownCritical, NotGranted, Refused}
 use Rattle.spec_rule.specs.declared.PermittedIssuers.the-variants.{Anyone, Listed, Refused as ListRefused}
+use Rattle.spec_applicant.specs.AdmissionEdges.{someone}
 use Rattle.spec_rule.specs.Verdicts.{denial}
 use Rattle.spec_rule.specs.Calls.{judge, Listing, listIssuers}
 use Rattle.spec_rule.specs.Edges.{dotted, caa, ca1, ca2, wholeBook}
@@ -36,7 +37,7 @@ pub record CallEdge : Type 0 where
   pub stated : Judgement
 
 abbrev pub callEdge : List ℕ → List ℕ → List ℕ → Judgement → CallEdge
-callEdge request issuer book j = record { answered = judge request issuer book; stated = j }
+callEdge request issuer book j = record { answered = judge request issuer someone book; stated = j }
 
 abbrev pub callEdges : List CallEdge
 callEdges =
@@ -73,7 +74,7 @@ orders =
 
 -- The call on a buffer of n octets, all 95.
 abbrev pub listing : List String → List ℕ → ℕ → Listing
-listing ns book n = listIssuers (asking ns) book (replicate n 95)
+listing ns book n = listIssuers (asking ns) someone book (replicate n 95)
 
 abbrev pub Lists-agree : Type 0
 Lists-agree =

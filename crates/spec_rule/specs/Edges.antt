@@ -15,6 +15,7 @@ use Rattle.spec_issuer.specs.IssuerEdges.{ofLengths}
 use Rattle.spec_record.specs.Property.{wireProperty}
 use Rattle.spec_record.specs.Records.{Record}
 use Rattle.spec_value.specs.IssueValues.{IssueValue, malformed, nameless, named, issueValue}
+use Rattle.spec_applicant.specs.AdmissionEdges.{someone}
 use Rattle.spec_rule.specs.RelevantSet.{caaRecords}
 use Rattle.spec_rule.specs.declared.Judgement.the-variants.{NotGranted}
 use Rattle.spec_rule.specs.Authorizations.{Authorization, unrestricted, forbidden, granted, authorization}
@@ -52,7 +53,7 @@ abbrev pub valueEdge : String → IssueValue → Edge
 valueEdge s v = record { ruled = of-value (issueValue (text s)); stated = of-value v }
 
 abbrev pub nameEdge : List Record → String → Authorization → Edge
-nameEdge book n a = record { ruled = of-name (authorization (caaRecords book) (dotted n)); stated = of-name a }
+nameEdge book n a = record { ruled = of-name (authorization someone (caaRecords book) (dotted n)); stated = of-name a }
 
 abbrev pub flagsEdge : String → Option ℕ → Edge
 flagsEdge s f = record { ruled = of-flags (decimalOctet (text s)); stated = of-flags f }
@@ -67,7 +68,7 @@ abbrev pub below : ℕ → Name
 below n = replicate n (text "a") ++ dotted "c"
 
 abbrev pub climbEdge : List Record → ℕ → Authorization → Edge
-climbEdge book n a = record { ruled = of-name (authorization (caaRecords book) (below n)); stated = of-name a }
+climbEdge book n a = record { ruled = of-name (authorization someone (caaRecords book) (below n)); stated = of-name a }
 
 -- A set of one issue record with this value.
 abbrev pub issuing : String → List Record
@@ -202,7 +203,7 @@ wholeBook =
     ∷ []
 
 abbrev pub wholeCase : List String → List Authorization
-wholeCase ns = map (λ n. authorization (caaRecords wholeBook) (dotted n)) ns
+wholeCase ns = map (λ n. authorization someone (caaRecords wholeBook) (dotted n)) ns
 
 abbrev pub Whole-case : Type 0
 Whole-case =
