@@ -22,6 +22,9 @@ use Rattle.spec_issuer.proofs.Dotted.{issuer-refusals}
 use Rattle.spec_record.specs.Records.{records, bookRefusal}
 use Rattle.spec_record.specs.Theorems.{BookRow}
 use Rattle.spec_record.proofs.Book.{book-refusals, book-faults}
+use Rattle.spec_applicant.specs.Applicant.{Applicant, applicantRefusal}
+use Rattle.spec_applicant.specs.Theorems.{ApplicantRow}
+use Rattle.spec_applicant.proofs.Texts.{applicant-refusals}
 use Rattle.spec_rule.specs.declared.Judgement.{Judgement}
 use Rattle.spec_rule.specs.declared.Judgement.the-variants.{Refused}
 use Rattle.spec_rule.specs.declared.PermittedIssuers.the-variants.{Refused as ListRefused}
@@ -41,6 +44,10 @@ pub issuer-keeps : (d : List ℕ) → Keeps (issuerRefusal d ∷ []) (IssuerRow 
 unfolding number
 issuer-keeps d = let law = issuer-refusals d in one-row (law .0) (law .2) refl
 
+pub applicant-keeps : (who : Applicant) → Keeps (applicantRefusal who ∷ []) (ApplicantRow who) (15 ∷ [])
+unfolding number
+applicant-keeps who = let law = applicant-refusals who in one-row (law .0) (law .2) refl
+
 pub book-keeps : (b : List ℕ) → Octets b → Keeps (bookRefusal b ∷ []) (BookRow b) (5 ∷ 6 ∷ 7 ∷ [])
 unfolding number checkedAt
 book-keeps b o = let law = book-refusals b o in three-rows (law .0) (law .1) (law .2) (book-faults b) refl (λ k. refl) refl refl
@@ -52,32 +59,33 @@ judge-refused (some q) j r n = (λ e. cc, λ e. cc)
 
 -- the numbers of the rows of each call
 abbrev pub judgeNumbers : List ℕ
-judgeNumbers = 1 ∷ 2 ∷ 3 ∷ 4 ∷ 5 ∷ 6 ∷ 7 ∷ []
+judgeNumbers = 1 ∷ 2 ∷ 3 ∷ 4 ∷ 15 ∷ 5 ∷ 6 ∷ 7 ∷ []
 
 abbrev pub listNumbers : List ℕ
-listNumbers = 1 ∷ 2 ∷ 3 ∷ 5 ∷ 6 ∷ 7 ∷ 8 ∷ []
+listNumbers = 1 ∷ 2 ∷ 3 ∷ 15 ∷ 5 ∷ 6 ∷ 7 ∷ 8 ∷ []
 
 pub judge-keeps :
-    (request issuer book : List ℕ) → Octets request → Octets book →
-    Keeps (judgeChecks request issuer book) (JudgeRow request issuer book) judgeNumbers
+    (request issuer : List ℕ) (who : Applicant) (book : List ℕ) → Octets request → Octets book →
+    Keeps (judgeChecks request issuer who book) (JudgeRow request issuer who book) judgeNumbers
 unfolding checkedAt
-judge-keeps request issuer book o p = in-front (request-keeps request o) (in-front (issuer-keeps issuer) (book-keeps book p) refl) refl
+judge-keeps request issuer who book o p =
+    in-front (request-keeps request o) (in-front (issuer-keeps issuer) (in-front (applicant-keeps who) (book-keeps book p) refl) refl) refl
 
 pub judge-refusals : Judge-refusals
 unfolding judge authorizations
-judge-refusals request issuer book o p r =
+judge-refusals request issuer who book o p r =
     Iff·trans
-    (judge-refused _ _ r (verdict-by-the-rule (caaRecords (records book)) (requestedNames request) issuer .3 r))
-    (first-row (judge-keeps request issuer book o p) r)
+    (judge-refused _ _ r (verdict-by-the-rule who (caaRecords (records book)) (requestedNames request) issuer .3 r))
+    (first-row (judge-keeps request issuer who book o p) r)
 
 -- row 8, whoever is to be written
 abbrev TooSmall : Issuers → List ℕ → ℕ → Type 0
-TooSmall who buffer n = (ns : List (List ℕ)) × (who ≡ listed ns) × (length (entries ns) ≡ n) × (length buffer < n)
+TooSmall out buffer n = (ns : List (List ℕ)) × (out ≡ listed ns) × (length (entries ns) ≡ n) × (length buffer < n)
 
 abbrev NoRooms : Issuers → List ℕ → Option Refusal → Type 0
-NoRooms who buffer c = ((n : ℕ) → (c ≡ some (NoRoom n)) ↔ TooSmall who buffer n) × ((r : Refusal) → c ≡ some r → (n : ℕ) × (r ≡ NoRoom n))
+NoRooms out buffer c = ((n : ℕ) → (c ≡ some (NoRoom n)) ↔ TooSmall out buffer n) × ((r : Refusal) → c ≡ some r → (n : ℕ) × (r ≡ NoRoom n))
 
-room-refusals : (who : Issuers) (buffer : List ℕ) → NoRooms who buffer (roomRefusal who buffer)
+room-refusals : (out : Issuers) (buffer : List ℕ) → NoRooms out buffer (roomRefusal out buffer)
 room-refusals anyone buffer = (λ n. (λ e. absurd (Option·none-ne-some _ e), λ (ns, e, l, h). cc), λ r e. absurd (Option·none-ne-some r e))
 room-refusals (listed ns) buffer = go (leb (length (entries ns)) (length buffer)) refl
   where
@@ -97,28 +105,28 @@ room-refusals (listed ns) buffer = go (leb (length (entries ns)) (length buffer)
     )
 
 room-keeps :
-    (who : Issuers) (buffer : List ℕ) → Keeps (roomRefusal who buffer ∷ []) (λ r. (n : ℕ) × (r ≡ NoRoom n) × TooSmall who buffer n) (8 ∷ [])
+    (out : Issuers) (buffer : List ℕ) → Keeps (roomRefusal out buffer ∷ []) (λ r. (n : ℕ) × (r ≡ NoRoom n) × TooSmall out buffer n) (8 ∷ [])
 unfolding number
-room-keeps who buffer = let law = room-refusals who buffer in placed-row (law .0) (law .1) (λ n. refl)
+room-keeps out buffer = let law = room-refusals out buffer in placed-row (law .0) (law .1) (λ n. refl)
 
 pub list-keeps :
-    (request book buffer : List ℕ) → Octets request → Octets book →
-    Keeps (listChecks request book buffer) (ListRow request book buffer) listNumbers
+    (request : List ℕ) (who : Applicant) (book buffer : List ℕ) → Octets request → Octets book →
+    Keeps (listChecks request who book buffer) (ListRow request who book buffer) listNumbers
 unfolding checkedAt
-list-keeps request book buffer o p =
-    let room = room-keeps (issuers (authorizations request book)) buffer in
-    in-front (request-keeps request o) (in-front (book-keeps book p) room refl) refl
+list-keeps request who book buffer o p =
+    let room = room-keeps (issuers (authorizations request who book)) buffer in
+    in-front (request-keeps request o) (in-front (applicant-keeps who) (in-front (book-keeps book p) room refl) refl) refl
 
 -- a listing is refused by a check, and leaves the buffer as it was
 list-refused :
-    (c : Option Refusal) (who : Issuers) (buffer : List ℕ) (r : Refusal) → let l = unlessRefused c (written who buffer) buffer in
+    (c : Option Refusal) (out : Issuers) (buffer : List ℕ) (r : Refusal) → let l = unlessRefused c (written out buffer) buffer in
     ((l .answer ≡ ListRefused r) ↔ (c ≡ some r)) × (l .answer ≡ ListRefused r → l .buffer ≡ buffer)
 list-refused none anyone buffer r = ((λ e. cc, λ e. cc), λ e. refl)
 list-refused none (listed ns) buffer r = ((λ e. cc, λ e. cc), λ e. cc)
-list-refused (some q) who buffer r = ((λ e. cc, λ e. cc), λ e. refl)
+list-refused (some q) out buffer r = ((λ e. cc, λ e. cc), λ e. refl)
 
 pub list-refusals : List-refusals
 unfolding listIssuers
-list-refusals request book buffer o p r =
-    let refused = list-refused (firstRefusal (listChecks request book buffer)) (issuers (authorizations request book)) buffer r in
-    (Iff·trans (refused .0) (first-row (list-keeps request book buffer o p) r), refused .1)
+list-refusals request who book buffer o p r =
+    let refused = list-refused (firstRefusal (listChecks request who book buffer)) (issuers (authorizations request who book)) buffer r in
+    (Iff·trans (refused .0) (first-row (list-keeps request who book buffer o p) r), refused .1)
