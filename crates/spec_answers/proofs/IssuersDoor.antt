@@ -2,7 +2,7 @@
 use Prim.Native.Nat.{ℕ, _≤_, _<_}
 use native.Mathlib.Omega.{arith}
 use mathlib.Core.Path.{_≡_, refl, sym, ap, _∙_}
-use mathlib.Core.Logic.{_↔_, _⊎_, inl, inr, ⊎-elim}
+use mathlib.Core.Logic.{_↔_, _≢_, _⊎_, inl, inr, ⊎-elim}
 use mathlib.Core.List.{List, [], _∷_, _++_, List·Memᴰ}
 use mathlib.Core.Option.{Option, none, some}
 use lib.Dec.{leb}
@@ -29,15 +29,16 @@ use Rattle.spec_rule.specs.IssuerLists.{Issuers, anyone, listed, issuers, entri
 use Rattle.spec_rule.specs.Calls.{Listing, authorizations, listIssuers, permittedIssuersCode}
 use Rattle.spec_rule.specs.Meaning.{Unrestricted}
 use Rattle.spec_rule.specs.Theorems.{total, Row-8, ListRow, FirstRow, ReadsBack, ListsNames, ListingTells}
-use Rattle.spec_rule.proofs.RefusalLaws.{list-refusals}
+use Rattle.spec_rule.proofs.CheckOrder.{not-here}
+use Rattle.spec_rule.proofs.RefusalLaws.{request-keeps, book-keeps, listNumbers, list-keeps, list-refusals}
 use Rattle.spec_rule.proofs.BufferLaws.{entries-read-back, entries-length, list-in-the-buffer}
 use Rattle.spec_rule.proofs.ReadBackLaws.{anyone≢listed, anyone≢refused, listed≢refused, one-count, one-length}
 use Rattle.spec_rule.proofs.CallLaws.{call-lists-the-permitted, book-length-is-room}
 use Rattle.spec_packed.specs.Packed.{numberIn, fieldA, fieldB, fieldC}
 use Rattle.spec_answers.specs.Door.{caaJudge, caaPermittedIssuers, row-8, ListTable, FirstToHold, NoneHolds, Lists, IssuersWord, Caa-permitted-issuers}
 use Rattle.spec_answers.proofs.ListUnpacks.{list-unpacks}
-use Rattle.spec_answers.proofs.DoorRows.{one-of, list-numbers, none-holds, never-refuses, refuses-exactly}
-use Rattle.spec_answers.proofs.DoorWords.{Holds, of-answer, number-range, list-refused, list-30, list-31, list-b, list-a}
+use Rattle.spec_answers.proofs.DoorRows.{list-rows, one-of, among, none-holds, never-refuses, refuses-exactly}
+use Rattle.spec_answers.proofs.DoorWords.{Holds, of-answer, list-refused, list-30, list-31, list-b, list-a}
 use Rattle.spec_answers.proofs.JudgeDoor.{permitted-word}
 
 -- entries at the front of the buffer are read back
@@ -100,33 +101,33 @@ module _ (request book buffer : List ℕ) (request-octets : Octets request) (boo
   None = NoneHolds (ListTable request book buffer)
 
   none-held : Unrefused → None
-  none-held = none-holds request book ⊥ (Row-8 request book buffer) Refuses refuses
+  none-held = none-holds (list-rows request book buffer) Refuses refuses
 
   passed : None → Unrefused
-  passed = never-refuses request book ⊥ (Row-8 request book buffer) Refuses refuses
+  passed = never-refuses (list-rows request book buffer) Refuses refuses
 
   refused-word : (n p : ℕ) → 1 ≤ n → n ≤ 19 → ((numberIn W ≡ n) × (fieldA W ≡ p)) ↔ FirstToHold (ListTable request book buffer) n p
   unfolding permittedIssuersCode
   refused-word =
-      refuses-exactly request book ⊥ (Row-8 request book buffer) Refuses refuses (numberIn W) (fieldA W)
+      refuses-exactly (list-rows request book buffer) Refuses refuses (numberIn W) (fieldA W)
       (λ low. list-refused _ _ _ _ (L .answer) u) (λ r e. let h = of-answer _ _ _ _ permittedIssuersCode e u in (h .0, h .1))
 
   -- a call that is not refused, or with 8, finds nothing wrong with what it was handed
   abbrev Accepted : Type 0
   Accepted = (requestRefusal request ≡ none) × (bookRefusal book ≡ none)
 
-  accepted : ((r : Refusal) → number r < 8 → Refuses r → ⊥) → Accepted
+  accepted : ((r : Refusal) → number r ≢ 8 → Refuses r → ⊥) → Accepted
   unfolding listIssuers
   accepted never = go (requestRefusal request) (bookRefusal book) refl refl
     where
       go : (c d : Option Refusal) → requestRefusal request ≡ c → bookRefusal book ≡ d → Accepted
       go none none e f = (e, f)
-      go (some r) d e f = absurd (never r (omega (arith, request-refusals request request-octets .3 r e)) (rw e))
-      go none (some r) e f = absurd (never r (omega (arith, book-refusals book book-octets .3 r f)) (rw (e, f)))
+      go (some r) d e f = absurd (never r (λ n. omega (arith, request-refusals request request-octets .3 r e)) (rw e))
+      go none (some r) e f = absurd (never r (λ n. omega (arith, book-refusals book book-octets .3 r f)) (rw (e, f)))
 
   tells : Unrefused → ListingTells request book buffer L
   tells never =
-      let (e, f) = accepted (λ r less. never r) in
+      let (e, f) = accepted (λ r other. never r) in
       call-lists-the-permitted request book buffer e f (λ n. never (NoRoom n))
 
   -- anyone, or a list: no refusal
@@ -156,14 +157,14 @@ module _ (request book buffer : List ℕ) (request-octets : Octets request) (boo
 
   -- the entries stand in the buffer
   there : numberIn W ≡ 31 → (ns : List (List ℕ)) × Lists W (L .buffer) ns
-  there n = go (accepted (λ r less. at-31 n .1 r)) (issuers (authorizations request book)) refl
+  there n = go (accepted (λ r other. at-31 n .1 r)) (issuers (authorizations request book)) refl
     where
       go : Accepted → (i : Issuers) → issuers (authorizations request book) ≡ i → (ns : List (List ℕ)) × Lists W (L .buffer) ns
       go (r, b) anyone e = absurd (anyone≢listed (sym (answer-of (list-in-the-buffer request book buffer r b .0 e)) ∙ at-31 n .0))
       go (r, b) (listed ns) e =
           let room : length (entries ns) ≤ length buffer = ⊎-elim
           (leb-true _ _)
-          (λ k. absurd (none-held (at-31 n .1) 8 _ (row-8 _ (ns, e, refl, leb-false _ _ k))))
+          (λ k. absurd (none-held (at-31 n .1) 8 _ (inr (inr (row-8 _ (ns, e, refl, leb-false _ _ k))))))
           (true-or-false (leb (length (entries ns)) (length buffer))) in
           let whole = list-in-the-buffer request book buffer r b .1 ns e (omega (arith, entries-length ns)) in
           let (n, a, c) = listed-word request book buffer book-octets (length ns) (total ns) (answer-of whole) in
@@ -198,17 +199,24 @@ module _ (request book buffer : List ℕ) (request-octets : Octets request) (boo
   unfolding number place
   at-8 n =
       let (r, e, nr, pr) = list-refused _ _ _ _ (L .answer) u (omega arith) in
-      (eight e (number-and-place-tell r (NoRoom (fieldA W)) (nr ∙ n) pr), accepted (λ q less f. omega (arith, ap number (same-refusal f e))))
+      (eight e (number-and-place-tell r (NoRoom (fieldA W)) (nr ∙ n) pr), accepted (λ q other f. other (ap number (same-refusal f e) ∙ nr ∙ n)))
     where
       eight : {r : Refusal} → Refuses r → r ≡ NoRoom (fieldA W) → Refuses (NoRoom (fieldA W))
       eight e same = rw same at e
+
+  -- its row is row 8
+  row-of-8 : (n : ℕ) → ListRow request book buffer (NoRoom n) → Row-8 request book buffer n
+  unfolding number place
+  row-of-8 n (inl h) = absurd (not-here (request-keeps request request-octets) (NoRoom n) refl h)
+  row-of-8 n (inr (inl h)) = absurd (not-here (book-keeps book book-octets) (NoRoom n) refl h)
+  row-of-8 n (inr (inr (m, e, h))) = rw (ap place e) h
 
   -- after which a buffer of that length gets the list
   asked : numberIn W ≡ 8 → (other : List ℕ) → fieldA W ≤ length other →
       (numberIn (w request book other) ≡ 31) × (fieldA (w request book other) ≡ fieldA W)
   asked n other fits =
       let (e, (r, b)) = at-8 n in
-      let (ns, f, size, less) = refuses (NoRoom (fieldA W)) .0 e .0 in
+      let (ns, f, size, less) = row-of-8 (fieldA W) (refuses (NoRoom (fieldA W)) .0 e .0) in
       let whole = list-in-the-buffer request book other r b .1 ns f (omega (arith, entries-length ns)) in
       let (m, a, c) = listed-word request book other book-octets (length ns) (total ns) (answer-of whole) in
       (m, a ∙ sym (entries-length ns) ∙ size)
@@ -223,8 +231,8 @@ module _ (request book buffer : List ℕ) (request-octets : Octets request) (boo
   number-found Anyone e = rw (of-answer _ _ _ _ permittedIssuersCode e u .0) (one-of 30 _ refl)
   number-found (Listed count octets) e = rw (of-answer _ _ _ _ permittedIssuersCode e u .0) (one-of 31 _ refl)
   number-found (Refused r) e =
-      let n = of-answer _ _ _ _ permittedIssuersCode e u .0 in
-      list-numbers (refused-word (numberIn W) (fieldA W) (omega (arith, number-range r)) (omega (arith, number-range r)) .0 (refl, refl) .0)
+      rw (of-answer _ _ _ _ permittedIssuersCode e u .0)
+      (among listNumbers _ refl (list-keeps request book buffer request-octets book-octets .numbered r (refuses r .0 e .0)))
 
   issuers-word : IssuersWord request book buffer W (L .buffer)
   issuers-word = record {

@@ -10,7 +10,6 @@ use Rattle.spec_octets.specs.Octets.{Octets}
 use Rattle.spec_request.specs.Request.{requestedNames, requestRefusal}
 use Rattle.spec_request.proofs.Requests.{request-is-its-names}
 use Rattle.spec_issuer.specs.Issuer.{issuerRefusal}
-use Rattle.spec_issuer.specs.Theorems.{Row-4}
 use Rattle.spec_record.specs.Records.{records, bookRefusal}
 use Rattle.spec_record.proofs.Book.{book-is-its-records}
 use Rattle.spec_rule.specs.declared.Judgement.{Judgement}
@@ -19,13 +18,13 @@ use Rattle.spec_rule.specs.RelevantSet.{caaRecords}
 use Rattle.spec_rule.specs.Verdicts.{denial}
 use Rattle.spec_rule.specs.Calls.{judge, judgementCode}
 use Rattle.spec_rule.specs.Theorems.{Verdict-on}
-use Rattle.spec_rule.proofs.RefusalLaws.{judge-refusals}
+use Rattle.spec_rule.proofs.RefusalLaws.{judgeNumbers, judge-keeps, judge-refusals}
 use Rattle.spec_rule.proofs.VerdictLaws.{judge-accepted}
 use Rattle.spec_packed.specs.Packed.{numberIn, fieldA, fieldB, fieldC}
 use Rattle.spec_answers.specs.Door.{caaJudge, JudgeTable, FirstToHold, NoneHolds, JudgeWord, Caa-judge}
 use Rattle.spec_answers.proofs.JudgementUnpacks.{judgement-unpacks}
-use Rattle.spec_answers.proofs.DoorRows.{one-of, judge-numbers, none-holds, never-refuses, refuses-exactly}
-use Rattle.spec_answers.proofs.DoorWords.{Holds, of-answer, number-range, judge-refused, judge-0, judge-20, judge-21, judge-b, judge-a}
+use Rattle.spec_answers.proofs.DoorRows.{judge-rows, one-of, among, none-holds, never-refuses, refuses-exactly}
+use Rattle.spec_answers.proofs.DoorWords.{Holds, of-answer, judge-refused, judge-0, judge-20, judge-21, judge-b, judge-a}
 
 apart : _≡_ {A = ℕ} 0 1 → ⊥
 apart e = omega arith
@@ -67,12 +66,12 @@ module _ (request issuer book : List ℕ) where
 
   module _ (request-octets : Octets request) (book-octets : Octets book) where
     none-held : ((r : Refusal) → j ≡ Refused r → ⊥) → None
-    none-held = none-holds request book (Row-4 issuer) (λ n. ⊥) (λ r. j ≡ Refused r) (judge-refusals request issuer book request-octets book-octets)
+    none-held = none-holds (judge-rows request issuer book) (λ r. j ≡ Refused r) (judge-refusals request issuer book request-octets book-octets)
 
     passed : None → Accepted
     passed h =
         accepted
-        (never-refuses request book (Row-4 issuer) (λ n. ⊥) (λ r. j ≡ Refused r) (judge-refusals request issuer book request-octets book-octets) h)
+        (never-refuses (judge-rows request issuer book) (λ r. j ≡ Refused r) (judge-refusals request issuer book request-octets book-octets) h)
 
     -- an answer v that is no refusal: A is how the word has it, B is what the rule has for it
     verdict-exactly : {A B : Type 0} (v : Judgement) → ((r : Refusal) → v ≡ Refused r → ⊥) → A ↔ (j ≡ v) → (Ruled → (j ≡ v) ↔ B) → A ↔ (None × B)
@@ -89,7 +88,7 @@ module _ (request issuer book : List ℕ) where
     refused-word : (n p : ℕ) → 1 ≤ n → n ≤ 19 → ((numberIn w ≡ n) × (fieldA w ≡ p)) ↔ FirstToHold (JudgeTable request issuer book) n p
     unfolding judgementCode
     refused-word =
-        refuses-exactly request book (Row-4 issuer) (λ n. ⊥) (λ r. j ≡ Refused r) (judge-refusals request issuer book request-octets book-octets)
+        refuses-exactly (judge-rows request issuer book) (λ r. j ≡ Refused r) (judge-refusals request issuer book request-octets book-octets)
         (numberIn w) (fieldA w) (judge-refused _ _ _ _ j u) (λ r e. let h = of-answer _ _ _ _ judgementCode e u in (h .0, h .1))
 
     number-found : (j′ : Judgement) → j ≡ j′ → List·Memᴰ (numberIn w) (0 ∷ 1 ∷ 2 ∷ 3 ∷ 4 ∷ 5 ∷ 6 ∷ 7 ∷ 20 ∷ 21 ∷ [])
@@ -98,8 +97,9 @@ module _ (request issuer book : List ℕ) where
     number-found (UnknownCritical d) e = rw (of-answer _ _ _ _ judgementCode e u .0) (one-of 20 _ refl)
     number-found (NotGranted d) e = rw (of-answer _ _ _ _ judgementCode e u .0) (one-of 21 _ refl)
     number-found (Refused r) e =
-        let n = of-answer _ _ _ _ judgementCode e u .0 in
-        judge-numbers (refused-word (numberIn w) (fieldA w) (omega (arith, number-range r)) (omega (arith, number-range r)) .0 (refl, refl) .0)
+        let row = judge-refusals request issuer book request-octets book-octets r .0 e .0 in
+        rw (of-answer _ _ _ _ judgementCode e u .0)
+        (among judgeNumbers _ refl (judge-keeps request issuer book request-octets book-octets .numbered r row))
 
     pub judge-word : JudgeWord request issuer book (caaJudge request issuer book)
     unfolding judgementCode

@@ -4,6 +4,7 @@
 --
 -- Where the terms of the statements are defined, in specs/ of the crate named:
 --   Row-1 to Row-8                   the rows of the table of refusals: Theorems.antt of spec_request, spec_issuer, spec_record, spec_rule
+--   order                            the order of checks, as refusal numbers: Order.antt of spec_refusal
 --   WellFormed                       a valid issuer domain name: Issuer.antt of spec_issuer
 --   PermittedTo, Unrestricted, ..    the rule of issue for one name: Meaning.antt of spec_rule
 --   Writable, smallTag               which data has a line, and data with its tag in lower case: Theorems.antt of spec_line
@@ -14,6 +15,7 @@ use mathlib.Core.Logic.{_↔_, _≢_, _⊎_}
 use mathlib.Core.List.{List, [], _∷_, map, List·Memᴰ}
 use lib.ListN.{length, take, drop}
 use Rattle.spec_limits.specs.Limits.{maxNames, maxRecords, maxDataOctets, maxLineOctets}
+use Rattle.spec_refusal.specs.Order.{order, standsAt}
 use Rattle.spec_octets.specs.Lists.{All, Distinct, flatten}
 use Rattle.spec_octets.specs.Octets.{Octets, lowered}
 use Rattle.spec_octets.specs.Items.{whole, items}
@@ -58,34 +60,42 @@ caaWriteLine d buffer = record { word = packedLine (writeLine d buffer .answer);
 abbrev pub caaReadLine : List ℕ → List ℕ → Returned
 caaReadLine s buffer = record { word = packedLine (parseLine s buffer .answer); buffer = parseLine s buffer .buffer }
 
--- The table of refusals 1 to 8: row n holds, with the place p, which the word has in field a.
-pub data TableRow (request book : List ℕ) (four : Type 0) (eight : ℕ → Type 0) : ℕ → ℕ → Type 0 where
-  -- The request is over its limit of octets.
-  row-1 : Row-1 request → TableRow request book four eight 1 0
-  -- The request is empty, or name k breaks a rule.
-  row-2 : (k : ℕ) → Row-2 request k → TableRow request book four eight 2 k
-  -- Octets are left after the maximum number of valid names.
-  row-3 : Row-3 request → TableRow request book four eight 3 maxNames
-  -- The issuer domain name breaks a rule (caa_judge only).
-  row-4 : four → TableRow request book four eight 4 0
-  -- The book is over its limit of octets.
-  row-5 : Row-5 book → TableRow request book four eight 5 0
-  -- Record k is malformed.
-  row-6 : (k : ℕ) → Row-6 book k → TableRow request book four eight 6 k
-  -- Octets are left after the maximum number of valid records.
-  row-7 : Row-7 book → TableRow request book four eight 7 maxRecords
-  -- The output needs n octets, and the buffer has fewer (caa_permitted_issuers only).
-  row-8 : (n : ℕ) → eight n → TableRow request book four eight 8 n
+-- The table of refusals, a part for each input: row n holds, with the place p, which the word has in field a.
 
+pub data RequestTable (request : List ℕ) : ℕ → ℕ → Type 0 where
+  -- The request is over its limit of octets.
+  row-1 : Row-1 request → RequestTable request 1 0
+  -- The request is empty, or name k breaks a rule.
+  row-2 : (k : ℕ) → Row-2 request k → RequestTable request 2 k
+  -- Octets are left after the maximum number of valid names.
+  row-3 : Row-3 request → RequestTable request 3 maxNames
+
+pub data IssuerTable (issuer : List ℕ) : ℕ → ℕ → Type 0 where
+  -- The issuer domain name breaks a rule.
+  row-4 : Row-4 issuer → IssuerTable issuer 4 0
+
+pub data BookTable (book : List ℕ) : ℕ → ℕ → Type 0 where
+  -- The book is over its limit of octets.
+  row-5 : Row-5 book → BookTable book 5 0
+  -- Record k is malformed.
+  row-6 : (k : ℕ) → Row-6 book k → BookTable book 6 k
+  -- Octets are left after the maximum number of valid records.
+  row-7 : Row-7 book → BookTable book 7 maxRecords
+
+pub data RoomTable (request book buffer : List ℕ) : ℕ → ℕ → Type 0 where
+  -- The output needs n octets, and the buffer has fewer.
+  row-8 : (n : ℕ) → Row-8 request book buffer n → RoomTable request book buffer 8 n
+
+-- The rows of caa_judge, and those of caa_permitted_issuers.
 abbrev pub JudgeTable : List ℕ → List ℕ → List ℕ → ℕ → ℕ → Type 0
-JudgeTable request issuer book = TableRow request book (Row-4 issuer) (λ n. ⊥)
+JudgeTable request issuer book n p = RequestTable request n p ⊎ IssuerTable issuer n p ⊎ BookTable book n p
 
 abbrev pub ListTable : List ℕ → List ℕ → List ℕ → ℕ → ℕ → Type 0
-ListTable request book buffer = TableRow request book ⊥ (Row-8 request book buffer)
+ListTable request book buffer n p = RequestTable request n p ⊎ BookTable book n p ⊎ RoomTable request book buffer n p
 
--- Row n holds with the place p, and no row with a lower number holds.
+-- Row n holds with the place p, and no row holds that comes before n in the order of checks.
 abbrev pub FirstToHold : (ℕ → ℕ → Type 0) → ℕ → ℕ → Type 0
-FirstToHold row n p = row n p × ((m q : ℕ) → m < n → row m q → ⊥)
+FirstToHold row n p = row n p × ((m q : ℕ) → standsAt m order < standsAt n order → row m q → ⊥)
 
 abbrev pub NoneHolds : (ℕ → ℕ → Type 0) → Type 0
 NoneHolds row = (n p : ℕ) → row n p → ⊥
@@ -100,7 +110,7 @@ LowestDenied request issuer book k n = LowestNot (λ m. PermittedTo (caaRecords 
 
 -- caa_judge: may the issuer issue for every name of the request?
 pub record JudgeWord (request issuer book : List ℕ) (word : ℕ) : Type 0 where
-  -- Refusal n with place p in a: exactly when row n of the table holds with place p and no row with a lower number holds.
+  -- Refusal n with place p in a: exactly when row n of the table holds with place p and no row before it in the order of checks holds.
   pub refused-exactly : (n p : ℕ) → 1 ≤ n → n ≤ 19 →
       ((numberIn word ≡ n) × (fieldA word ≡ p)) ↔ FirstToHold (JudgeTable request issuer book) n p
   -- 0, permitted: exactly when no row holds and every name is unrestricted or granted to the issuer.
@@ -143,7 +153,7 @@ Lists word after ns =
 
 -- caa_permitted_issuers: who may issue for every name of the request? `after` is the buffer after the call.
 pub record IssuersWord (request book buffer : List ℕ) (word : ℕ) (after : List ℕ) : Type 0 where
-  -- Refusal n with place p in a: exactly when row n of the table holds with place p and no row with a lower number holds.
+  -- Refusal n with place p in a: exactly when row n of the table holds with place p and no row before it in the order of checks holds.
   pub refused-exactly : (n p : ℕ) → 1 ≤ n → n ≤ 19 →
       ((numberIn word ≡ n) × (fieldA word ≡ p)) ↔ FirstToHold (ListTable request book buffer) n p
   -- A refusal changes no octet of the buffer.

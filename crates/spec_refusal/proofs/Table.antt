@@ -1,4 +1,4 @@
--- The table of refusals, by computing; and a refusal from its number and place.
+-- The table of refusals and the order of checks, by computing; and a refusal from its number and place.
 use Prim.Native.Nat.{ℕ}
 use mathlib.Core.Path.{_≡_, refl, sym, ap₂, _∙_}
 use mathlib.Core.Bool.{cond}
@@ -6,11 +6,15 @@ use lib.Dec.{eqb}
 use Rattle.spec_refusal.specs.declared.Refusal.{Refusal}
 use Rattle.spec_refusal.specs.declared.Refusal.the-variants.{RequestTooLong, BadName, TooManyNames, BadIssuer, BookTooLong, BadRecord, TooManyRecords, NoRoom, BadLine, LineTooLong, BadData, BadAccountOrMethod}
 use Rattle.spec_refusal.specs.Refusal.{number, place}
-use Rattle.spec_refusal.specs.Theorems.{Refusal-table, Number-and-place-tell}
+use Rattle.spec_refusal.specs.Theorems.{Refusal-table, Number-and-place-tell, Order-printed}
 
 pub refusal-table : Refusal-table
 unfolding number place
 refusal-table k r n = (refl, refl)
+
+pub order-printed : Order-printed
+unfolding number
+order-printed = (refl, λ k r n. (refl, refl))
 
 -- the refusal of a number and a place
 back : ℕ → ℕ → Refusal

@@ -4,11 +4,12 @@ use Prim.Native.String.{String}
 use mathlib.Core.Path.{_≡_}
 use mathlib.Core.List.{List, [], _∷_, _++_, map}
 use lib.ListN.{replicate}
-use Rattle.spec_refusal.specs.declared.Refusal.the-variants.{BadName, BadIssuer, BadRecord, NoRoom}
+use Rattle.spec_refusal.specs.declared.Refusal.the-variants.{BadName, BadIssuer, BookTooLong, BadRecord, NoRoom}
 use Rattle.spec_octets.specs.Lists.{flatten}
 use Rattle.spec_octets.specs.Octets.{text}
 use Rattle.spec_name.specs.Names.{wire}
 use Rattle.spec_record.specs.Records.{Record, wireRecord}
+use Rattle.spec_record.specs.BookEdges.{ofOctets}
 use Rattle.spec_rule.specs.declared.Judgement.{Judgement}
 use Rattle.spec_rule.specs.declared.Judgement.the-variants.{Permitted, UnknownCritical, NotGranted, Refused}
 use Rattle.spec_rule.specs.declared.PermittedIssuers.the-variants.{Anyone, Listed, Refused as ListRefused}
@@ -48,7 +49,7 @@ callEdges =
     -- A critical record with an unknown tag for the second name; if the first name is not granted, that is reported instead.
     ∷ callEdge both ca1 (bookOf (caa "example.com" 0 "issue" "ca1.example.net" ∷ caa "pay.example.com" 128 "tbs" "x" ∷ [])) (UnknownCritical (denial 1 1))
     ∷ callEdge both ca2 (bookOf (caa "example.com" 0 "issue" "ca1.example.net" ∷ caa "pay.example.com" 128 "tbs" "x" ∷ [])) (NotGranted (denial 0 0))
-    -- The order of the checks: request, issuer domain name, book.
+    -- The order of the checks: request, issuer domain name, book. Where one breaks its rule, so do all that are checked after it.
     ∷ callEdge [] [] (64 ∷ []) (Refused (BadName (record { 0 = 0 })))
     ∷ callEdge www [] (64 ∷ []) (Refused BadIssuer)
     ∷ callEdge www (text "n") (64 ∷ []) (Refused (BadRecord (record { 0 = 0 })))
@@ -89,3 +90,6 @@ Lists-agree =
     × (listing ("www.example.com" ∷ "*.bad.example.com" ∷ []) orders 3 ≡ record { answer = Listed 0 0; buffer = replicate 3 95 })
     × (listing [] (64 ∷ []) 3 ≡ record { answer = ListRefused (BadName (record { 0 = 0 })); buffer = replicate 3 95 })
     × (listing ("www.example.com" ∷ []) (64 ∷ []) 0 ≡ record { answer = ListRefused (BadRecord (record { 0 = 0 })); buffer = [] })
+    -- The order of the checks: the book before the buffer. A record that grants, behind it one that makes the book too long, and no buffer.
+    × (listing ("www.example.com" ∷ []) (bookOf (caa "example.com" 0 "issue" "ca1.example.net" ∷ []) ++ ofOctets 49152) 0
+    ≡ record { answer = ListRefused BookTooLong; buffer = [] })

@@ -6,18 +6,18 @@ use mathlib.Core.List.{List, [], _∷_, _++_, map, List·Memᴰ}
 use mathlib.Core.Option.{none}
 use lib.ListN.{length, take, drop}
 use Rattle.spec_refusal.specs.declared.Refusal.{Refusal}
-use Rattle.spec_refusal.specs.declared.Refusal.the-variants.{RequestTooLong, BadName, TooManyNames, BadIssuer, BookTooLong, BadRecord, TooManyRecords, NoRoom, BadLine, LineTooLong, BadData, BadAccountOrMethod}
-use Rattle.spec_refusal.specs.Refusal.{number}
+use Rattle.spec_refusal.specs.declared.Refusal.the-variants.{NoRoom}
+use Rattle.spec_refusal.specs.Order.{rank}
 use Rattle.spec_octets.specs.Lists.{All, Any, Distinct, Selects}
 use Rattle.spec_octets.specs.Octets.{Octets, lowered}
 use Rattle.spec_octets.specs.Items.{whole, items}
 use Rattle.spec_name.specs.Names.{Name}
 use Rattle.spec_request.specs.Request.{requestedNames, requestRefusal}
-use Rattle.spec_request.specs.Theorems.{Row-1, Row-2, Row-3}
+use Rattle.spec_request.specs.Theorems.{RequestRow}
 use Rattle.spec_issuer.specs.Issuer.{issuerRefusal, WellFormed}
-use Rattle.spec_issuer.specs.Theorems.{Row-4}
+use Rattle.spec_issuer.specs.Theorems.{IssuerRow}
 use Rattle.spec_record.specs.Records.{Record, records, bookRefusal, GoodRecord}
-use Rattle.spec_record.specs.Theorems.{Row-5, Row-6, Row-7}
+use Rattle.spec_record.specs.Theorems.{BookRow}
 use Rattle.spec_rule.specs.declared.Judgement.{Judgement}
 use Rattle.spec_rule.specs.declared.Judgement.the-variants.{Permitted, UnknownCritical, NotGranted, Refused}
 use Rattle.spec_rule.specs.declared.PermittedIssuers.the-variants.{Anyone, Listed, Refused as ListRefused}
@@ -74,35 +74,25 @@ Judge-accepted =
     (request issuer book : List ℕ) → requestRefusal request ≡ none → issuerRefusal issuer ≡ none → bookRefusal book ≡ none →
     Verdict-on (caaRecords (records book)) (requestedNames request) issuer (judge request issuer book)
 
--- The requirements' table: the condition of each refusal. Row 4 belongs to the judging call only, row 8 to the listing call only.
-abbrev pub Row : List ℕ → List ℕ → Type 0 → (ℕ → Type 0) → Refusal → Type 0
-Row request book four eight RequestTooLong = Row-1 request
-Row request book four eight (BadName k) = Row-2 request (k .0)
-Row request book four eight TooManyNames = Row-3 request
-Row request book four eight BadIssuer = four
-Row request book four eight BookTooLong = Row-5 book
-Row request book four eight (BadRecord r) = Row-6 book (r .0)
-Row request book four eight TooManyRecords = Row-7 book
-Row request book four eight (NoRoom n) = eight n
-Row request book four eight BadLine = ⊥
-Row request book four eight LineTooLong = ⊥
-Row request book four eight BadData = ⊥
-Row request book four eight BadAccountOrMethod = ⊥
-
 -- The output needs n octets, and the buffer has fewer.
 abbrev pub Row-8 : List ℕ → List ℕ → List ℕ → ℕ → Type 0
 Row-8 request book buffer n =
     (ns : List (List ℕ)) × (issuers (authorizations request book) ≡ listed ns) × (length (entries ns) ≡ n) × (length buffer < n)
 
+-- The same by refusal.
+abbrev pub RoomRow : List ℕ → List ℕ → List ℕ → Refusal → Type 0
+RoomRow request book buffer r = (n : ℕ) × (r ≡ NoRoom n) × Row-8 request book buffer n
+
+-- The requirements' table: the row of r holds. Each call has the rows of its inputs; the order of checks is stated in `FirstRow`.
 abbrev pub JudgeRow : List ℕ → List ℕ → List ℕ → Refusal → Type 0
-JudgeRow request issuer book r = Row request book (Row-4 issuer) (λ n. ⊥) r
+JudgeRow request issuer book r = RequestRow request r ⊎ IssuerRow issuer r ⊎ BookRow book r
 
 abbrev pub ListRow : List ℕ → List ℕ → List ℕ → Refusal → Type 0
-ListRow request book buffer r = Row request book ⊥ (Row-8 request book buffer) r
+ListRow request book buffer r = RequestRow request r ⊎ BookRow book r ⊎ RoomRow request book buffer r
 
--- The checks are ordered by number: row r holds, and no row with a lower number.
+-- The row of r holds, and no row that comes before it in the order of checks (`order` of spec_refusal).
 abbrev pub FirstRow : (Refusal → Type 0) → Refusal → Type 0
-FirstRow rows r = rows r × ((q : Refusal) → number q < number r → rows q → ⊥)
+FirstRow rows r = rows r × ((q : Refusal) → rank q < rank r → rows q → ⊥)
 
 -- Each refusal is returned exactly when the table says so.
 abbrev pub Judge-refusals : Type 0
