@@ -6,7 +6,7 @@ use mathlib.Core.List.{List, [], _∷_}
 use lib.Dec.{leb, ltb}
 use lib.ListN.{length, getD, set, replicate}
 use Rattle.spec_limits.specs.Limits.{maxRecords}
-use Rattle.book_places.specs.Table.{tabled, tableOf, ownerAt}
+use Rattle.book_places.specs.Table.{tabled, roomFor, tableOf, ownerAt}
 use Rattle.book_places.specs.Keys.{keyOf}
 
 pub record Chains : Type 0 where
@@ -27,13 +27,17 @@ abbrev pub linkedBelow : List ℕ → List ℕ → ℕ → Chains → Chains
 linkedBelow book table zero c = c
 linkedBelow book table (suc i) c = linkedBelow book table i (linked book table i c)
 
--- no record yet: every chain ends at once
-abbrev pub unlinked : Chains
-unlinked = record { links = replicate maxRecords maxRecords; heads = replicate maxRecords maxRecords }
+-- the number that ends a chain: no book has a record of this number
+unfoldable pub noRecord : ℕ
+noRecord = 65535
+
+-- no record yet, and room for so many: every chain ends at once
+abbrev pub unlinked : ℕ → Chains
+unlinked room = record { links = replicate room noRecord; heads = replicate maxRecords noRecord }
 
 -- the chains of a book
 unfoldable pub chainsOf : List ℕ → Chains
-chainsOf book = linkedBelow book (tableOf book) (length (tabled book)) unlinked
+chainsOf book = linkedBelow book (tableOf book) (length (tabled book)) (unlinked (roomFor book))
 
 -- where a chain goes on behind record i; a link that does not lead to a later record ends it
 unfoldable pub behind : List ℕ → ℕ → ℕ

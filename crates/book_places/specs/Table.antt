@@ -23,9 +23,20 @@ rowsFrom at (r ∷ rs) = row at r ++ rowsFrom (at + length (wireRecord r)) rs
 unfoldable pub tabled : List ℕ → List Record
 tabled book = cond (leb (length book) maxBookOctets) (readable maxRecords book) []
 
--- the rows of a book, and behind them zeros, as many as make room for every record that a book may have
+-- a record takes eleven octets at least: an owner of one octet, ten octets of fixed fields, and its data. So a short book has few records
+unfoldable pub fewRecords : ℕ
+fewRecords = 64
+
+unfoldable pub shortBook : ℕ
+shortBook = 11 * fewRecords
+
+-- for how many records a call makes room: few in a short book, else as many as a book may have
+unfoldable pub roomFor : List ℕ → ℕ
+roomFor book = cond (leb (length book) shortBook) fewRecords maxRecords
+
+-- the rows of a book, and behind them zeros, as many as make up that room
 unfoldable pub tableOf : List ℕ → List ℕ
-tableOf book = rowsFrom 0 (tabled book) ++ replicate (6 * (maxRecords - length (tabled book))) 0
+tableOf book = rowsFrom 0 (tabled book) ++ replicate (6 * (roomFor book - length (tabled book))) 0
 
 -- one number of the row of record i; 0 of a record that no book has
 unfoldable pub cell : List ℕ → ℕ → ℕ → ℕ

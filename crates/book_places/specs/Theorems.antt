@@ -17,7 +17,7 @@ use Rattle.spec_record.specs.Property.{Property, property, tagOf, isCritical}
 use Rattle.spec_record.specs.Records.{Record, isCaa, records, bookRefusal}
 use Rattle.spec_rule.specs.RelevantSet.{CaaRecord, caaRecords, Lookup, empty, found, lookup, relevantSet}
 use Rattle.spec_rule.specs.Authorizations.{authorizationFrom}
-use Rattle.book_places.specs.Table.{tabled, tableOf, ownerAt, dataAt, isCaaAt}
+use Rattle.book_places.specs.Table.{tabled, roomFor, tableOf, ownerAt, dataAt, isCaaAt}
 use Rattle.book_places.specs.Keys.{keyOf}
 use Rattle.book_places.specs.Chains.{chainsOf}
 use Rattle.book_places.specs.Sets.{isOwned, ownedFrom, firstOf, firstOwned, nearestRecord, setAt, dataHasTag, dataIsUnknownCritical, dataGrants, setGrants}
@@ -41,13 +41,17 @@ pub record RowTells (book table : List ℕ) (i : ℕ) (r : Record) : Type 0 wher
 abbrev pub Table-tells : Type 0
 Table-tells = (book : List ℕ) (i : ℕ) (r : Record) → getElem? (tabled book) i ≡ some r → RowTells book (tableOf book) i r
 
--- the table has six numbers for each record that a book may have, and no book has more records
-abbrev pub Table-fits : Type 0
-Table-fits = (book : List ℕ) → (length (tableOf book) ≡ 6 * maxRecords) × (length (tabled book) ≤ maxRecords)
+-- the room for the records of a book is enough for all that have a row, and no more than for as many as a book may have
+abbrev pub Room-enough : Type 0
+Room-enough = (book : List ℕ) → (length (tabled book) ≤ roomFor book) × (roomFor book ≤ maxRecords)
 
--- there are as many links as a book may have records, and as many heads as there are keys
+-- the table has six numbers for each record that there is room for, and no book has more records than a book may have
+abbrev pub Table-fits : Type 0
+Table-fits = (book : List ℕ) → (length (tableOf book) ≡ 6 * roomFor book) × (length (tabled book) ≤ maxRecords)
+
+-- there are as many links as there is room for records, and as many heads as there are keys
 abbrev pub Chains-fit : Type 0
-Chains-fit = (book : List ℕ) → (length (chainsOf book .links) ≡ maxRecords) × (length (chainsOf book .heads) ≡ maxRecords)
+Chains-fit = (book : List ℕ) → (length (chainsOf book .links) ≡ roomFor book) × (length (chainsOf book .heads) ≡ maxRecords)
 
 -- so many numbers, from k on
 abbrev pub numbersFrom : ℕ → ℕ → List ℕ

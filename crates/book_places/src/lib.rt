@@ -9,8 +9,16 @@ pub const ROW: usize = 6;
 // The numbers of a whole table.
 pub const TABLE: usize = 6 * MAX_RECORDS;
 
-// No record: the end of a chain.
-pub const END: u16 = MAX_RECORDS as u16;
+// A short book has few records, since each takes eleven octets at least: an owner of one octet, ten octets of fixed fields, and its data.
+pub const FEW_RECORDS: usize = 64;
+
+pub const SHORT_BOOK: usize = 11 * FEW_RECORDS;
+
+// The numbers of the table of a short book.
+pub const SHORT_TABLE: usize = 6 * FEW_RECORDS;
+
+// No record: the end of a chain. An array of this number is cleared as fast as one of zeros, since both its octets are the same.
+pub const END: u16 = 65535;
 
 // The first record that was asked for, if there is one.
 pub enum FirstRecord {

@@ -24,6 +24,12 @@ use Rattle.spec_rule.specs.declared.PermittedIssuers.the-variants.{Anyone, List
 use Rattle.spec_rule.specs.IssuerLists.{anyone, listed, issuers}
 use Rattle.spec_rule.specs.Calls.{authorizations, firstRefusal, Listing, listIssuers}
 use Rattle.spec_rule.proofs.PermittedLaws.{permitted-issuers}
+use Rattle.book_places.specs.Table.{fewRecords, shortBook, roomFor}
+use Rattle.book_places.specs.Chains.{noRecord}
+use Rattle.book_places.proofs.StandingRecords.{room-short, room-long}
+use Rattle.book_fill.specs.Filled.{filledTable}
+use Rattle.book_index.specs.Indexes.{indexedChains}
+use Rattle.book_index.proofs.Indexed.{table-of-book, links-of-book, heads-of-book, blank-short, blank-long}
 use Rattle.list_places.specs.declared.Permitted.{Permitted}
 use Rattle.list_places.specs.Rounds.{keptNames}
 use Rattle.list_places.specs.PermittedBy.{permittedIn, issuersIn}
@@ -31,6 +37,7 @@ use Rattle.list_places.proofs.ByOffset.{permitted-by-offset}
 use Rattle.list_entry.specs.declared.ListSize.{ListSize}
 use Rattle.list_entry.specs.Entries.{entriesOf, sizeOf}
 use Rattle.list_entry.proofs.ShortNames.{entries-short}
+use Rattle.list_call.specs.Lent.{Lent, HeadsLent}
 
 -- the call's two ensures from one equation
 pub halves :
@@ -50,24 +57,68 @@ both-good none (some q) e = let z : _≡_ {A = ℕ} 0 1 = cc in absurd (omega ar
 both-good (some q) d e = let z : _≡_ {A = ℕ} 0 1 = cc in absurd (omega arith)
 
 -- c is what the checks of request and book say
-module _ (request book buffer : List ℕ) (c : Check) (f : c ≡ checked (firstRefusal (requestRefusal request ∷ bookRefusal book ∷ []))) where
-  pub call-refused : (r : Refusal) → c ≡ CheckRefused r → listIssuers request book buffer ≡ record { answer = Refused r; buffer = buffer }
+module _ (request book : List ℕ) (c : Check) (f : c ≡ checked (firstRefusal (requestRefusal request ∷ bookRefusal book ∷ []))) where
+  pub call-refused : (buffer : List ℕ) (r : Refusal) → c ≡ CheckRefused r → listIssuers request book buffer ≡ record { answer = Refused r; buffer = buffer }
   unfolding listIssuers
-  call-refused r g =
+  call-refused buffer r g =
       rw (refused-first (requestRefusal request) (bookRefusal book) _ r (checks.refused (firstRefusal (requestRefusal request ∷ bookRefusal book ∷ [])) f r g))
 
-  -- p, names and rounds are what find_permitted left, by the sizes of the arrays
-  module _ (g : c ≡ Accepted) (m k : ℕ) (room : m ≡ 2 * maxRecords) (places : k ≡ maxRecords) (p : Permitted) (names rounds : List ℕ)
-      (told : p ≡ permittedIn request book (replicate m 0) (replicate k 0) .answer)
-      (left : names ≡ permittedIn request book (replicate m 0) (replicate k 0) .names)
-      (last : rounds ≡ permittedIn request book (replicate m 0) (replicate k 0) .rounds) where
+  pub heads-lent : c ≡ Accepted → (heads : List ℕ) → heads ≡ replicate maxRecords noRecord → HeadsLent request book heads
+  heads-lent g heads e =
+      let good = both-good (requestRefusal request) (bookRefusal book) (checks.accepted (firstRefusal (requestRefusal request ∷ bookRefusal book ∷ [])) f g) in
+      record { names-good = good .0; records-good = good .1; headed = e }
+
+-- by the sizes of the arrays
+module _ (request book heads : List ℕ) (lent : HeadsLent request book heads) (m k n : ℕ) where
+  pub lent-short :
+      length book ≤ shortBook → m ≡ 6 * fewRecords → k ≡ fewRecords → n ≡ 2 * fewRecords →
+      Lent request book (replicate m 0) (replicate k noRecord) heads (replicate n 0) (replicate k 0)
+  lent-short h rows links names = record {
+    names-good = lent .names-good;
+    records-good = lent .records-good;
+    blank = blank-short book m k heads (lent .headed) h rows links;
+    candidates = rw (names, room-short book h);
+    first-round = rw (links, room-short book h);
+  }
+
+  pub lent-long :
+      shortBook < length book → m ≡ 6 * maxRecords → k ≡ maxRecords → n ≡ 2 * maxRecords →
+      Lent request book (replicate m 0) (replicate k noRecord) heads (replicate n 0) (replicate k 0)
+  lent-long h rows links names = record {
+    names-good = lent .names-good;
+    records-good = lent .records-good;
+    blank = blank-long book m k heads (lent .headed) h rows links;
+    candidates = rw (names, room-long book h);
+    first-round = rw (links, room-long book h);
+  }
+
+-- what was lent
+module _ (request book table₀ links₀ heads₀ names₀ rounds₀ buffer : List ℕ) (lent : Lent request book table₀ links₀ heads₀ names₀ rounds₀) where
+  -- what index_book and find_permitted made of it
+  module _ (table links heads : List ℕ) (t : table ≡ filledTable book table₀)
+      (l : links ≡ indexedChains book table₀ (record { links = links₀; heads = heads₀ }) .links)
+      (h : heads ≡ indexedChains book table₀ (record { links = links₀; heads = heads₀ }) .heads) (p : Permitted) (names rounds : List ℕ)
+      (told : p ≡ permittedIn request book table links heads names₀ rounds₀ .answer)
+      (left : names ≡ permittedIn request book table links heads names₀ rounds₀ .names)
+      (last : rounds ≡ permittedIn request book table links heads names₀ rounds₀ .rounds) where
     good : (requestRefusal request ≡ none) × (bookRefusal book ≡ none)
-    good = both-good (requestRefusal request) (bookRefusal book) (checks.accepted (firstRefusal (requestRefusal request ∷ bookRefusal book ∷ [])) f g)
+    good = (lent .names-good, lent .records-good)
+
+    enough : 2 * roomFor book ≤ length names₀
+    enough = rw (lent .candidates) (omega (arith, length-replicate {A = ℕ} (2 * roomFor book) 0))
 
     found : issuersIn book (record { answer = p; names = names; rounds = rounds }) ≡ issuers (authorizations request book)
     found =
-        rw (told, left, last, places)
-        (permitted-by-offset request book (replicate m 0) (good .0) (good .1) (rw (length-replicate {A = ℕ} m 0, room) (omega arith)))
+        rw (
+          told,
+          left,
+          last,
+          table-of-book book table₀ links₀ heads₀ (lent .blank) table t,
+          links-of-book book table₀ links₀ heads₀ (lent .blank) links l,
+          heads-of-book book table₀ links₀ heads₀ (lent .blank) heads h,
+          lent .first-round,
+        )
+        (permitted-by-offset request book names₀ (good .0) (good .1) enough)
 
     pub anyone-may : not (p .restricted) ≡ true → listIssuers request book buffer ≡ record { answer = Anyone; buffer = buffer }
     unfolding listIssuers
