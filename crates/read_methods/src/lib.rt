@@ -1,12 +1,10 @@
 // The list of methods in the value of a validationmethods parameter (RFC 8657 section 4).
-ghost use Prim.Native.Char.{code};
 ghost use mathlib.Core.Path.{_≡_};
-ghost use Rattle.spec_octets.specs.Pieces.{split};
-ghost use Rattle.spec_applicant.specs.Admission.{namesMethod};
+ghost use Rattle.read_methods.specs.Methods.{namesMethodIn};
 
 // Whether the method is one of the items between the commas, and no item is empty.
 pub fn names_method(value: &[u8], method: &[u8]) -> bool
-    ensures { λ r. ⌜ r ≡ namesMethod (now (method .entry)) (split (code ",") (now (value .entry))) ⌝ }
+    ensures { λ r. ⌜ r ≡ namesMethodIn (now (method .entry)) (now (value .entry)) ⌝ }
 {
     let mut found: bool = false;
     let mut at: usize = 0;

@@ -18,7 +18,7 @@ pub fn parameter_value(s: &[u8]) -> &[u8]
     let p = text_classes::trim_start(text_classes::trim_end(s));
     let e = text_compare::piece_end(p, 0, b'=');
     if p.len() <= e {
-        return &p[e..];
+        return &p[0..0];
     }
     text_classes::trim_start(&p[e + 1..])
 }

@@ -1,9 +1,8 @@
+-- `parameter_value` meets its contract.
 use borrow.Author.Needs.{needs}
+use Rattle.read_parts.proofs.PartTests.{no-value, value-found}
 use Rattle.read_parts.proofs.parameter_value.Statement.{statement}
 use Rattle.read_parts.proofs.parameter_value.Tie as tie
-use Rattle.text_classes.proofs.trim_end.Reads as trim-end-reads
-use Rattle.text_classes.proofs.trim_start.Reads as trim-start-reads
-use Rattle.text_compare.proofs.piece_end.Reads as piece-end-reads
 
 trim-end-requires : tie.Need-trim-end-requires
 trim-end-requires c κs = search needs
@@ -24,7 +23,7 @@ part-result-end : tie.Need-part-result-end
 part-result-end c = search needs
 
 returns : tie.Need-returns
-returns c = search needs
+returns c = search (needs, no-value)
 
 add-trim-start : tie.Need-add-trim-start
 add-trim-start c = search needs
@@ -42,7 +41,7 @@ trim-start-requires-2 : tie.Need-trim-start-requires-2
 trim-start-requires-2 c κs = search needs
 
 returns-2 : tie.Need-returns-2
-returns-2 c = search needs
+returns-2 c = search (needs, value-found)
 
 pub parameter-value-spec : {M : Type 1} → statement M
 parameter-value-spec =
