@@ -4,7 +4,7 @@ use Prim.Native.Char.{code}
 use native.Mathlib.Omega.{arith}
 use mathlib.Core.Path.{_≡_, refl, sym, _∙_}
 use mathlib.Core.Bool.{Bool, true, false, not, and-false, and-true, and-eq-true-iff}
-use mathlib.Core.List.{List, [], cons-eq-cons}
+use mathlib.Core.List.{List, cons-eq-cons}
 use lib.Dec.{eqb}
 use lib.ListN.{length, drop}
 use borrow.Author.Tests.{le-leb, lt-leb, eqb-false, ne-eqb, not-true}
@@ -13,7 +13,6 @@ use Rattle.spec_refusal.specs.Checks.{checked}
 use Rattle.spec_refusal.specs.declared.Refusal.the-variants.{BadAccountOrMethod}
 use Rattle.spec_refusal.specs.declared.Check.the-variants.{Accepted, Refused}
 use Rattle.spec_octets.specs.Lists.{all}
-use Rattle.spec_octets.specs.Pieces.{split}
 use Rattle.spec_octets.proofs.ListLaws.{all-true, All-head, All-imp, not-passed}
 use Rattle.spec_octets.proofs.PieceLaws.{pieces-join}
 use Rattle.text_classes.specs.declared.Class.the-variants.{ParameterOctet}

@@ -2,7 +2,6 @@
 use read_value::NameAt;
 use read_value::ValueRead;
 ghost use mathlib.Core.Path.{_≡_};
-ghost use Rattle.spec_applicant.specs.Applicant.{Applicant};
 ghost use Rattle.read_grantee.specs.Places.{issuerAt, granteeAt};
 
 // The offsets of an issuer domain name in the data, and of the parameters after it; or nobody.

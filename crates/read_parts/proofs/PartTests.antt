@@ -4,12 +4,12 @@ use Prim.Native.Char.{code}
 use mathlib.Core.Path.{_≡_, refl, ap, sym, _∙_}
 use mathlib.Core.Logic.{⊎-elim}
 use mathlib.Core.Bool.{true, false}
-use mathlib.Core.List.{List, [], _∷_}
+use mathlib.Core.List.{List}
 use lib.Dec.{ltb}
 use lib.ListN.{length, take, drop}
 use borrow.Author.Tests.{ltb-true, ltb-false}
 use Rattle.spec_octets.specs.Octets.{trimStart, trimEnd}
-use Rattle.spec_octets.specs.Pieces.{split, join}
+use Rattle.spec_octets.specs.Pieces.{split}
 use Rattle.spec_octets.proofs.ListLaws.{true-or-false}
 use Rattle.spec_octets.proofs.PieceLaws.{pieces-join}
 use Rattle.spec_octets.proofs.Walks.{rest-whole}
