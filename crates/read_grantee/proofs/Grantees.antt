@@ -4,7 +4,7 @@ use native.Mathlib.Omega.{arith}
 use mathlib.Core.Path.{_≡_, refl, sym, ap, _∙_}
 use mathlib.Core.Logic.{_⊎_, inl, inr}
 use mathlib.Core.Bool.{Bool, true, false, cond, not}
-use mathlib.Core.List.{List}
+use mathlib.Core.List.{List, []}
 use mathlib.Core.Option.{Option, none, some}
 use lib.ListN.{length, take, drop}
 use lib.Seq.{drop-drop}
@@ -34,14 +34,14 @@ use Rattle.read_grantee.specs.declared.GranteeRead.{GranteeRead}
 use Rattle.read_grantee.specs.declared.GranteeRead.the-variants.{At, Nobody}
 use Rattle.read_grantee.proofs.ValueEnd.{value-short, value-ends}
 
-nobody-anyway : (t : Bool) → cond t none none ≡ none {A = List ℕ}
+nobody-anyway : (t : Bool) → _≡_ {A = Option (List ℕ)} (cond t none none) none
 nobody-anyway true = refl
 nobody-anyway false = refl
 
 -- data laid out wrongly has an empty value, which grants nobody
 pub grantee-of-data : Grantee-of-data
 unfolding granteeOfData grantee valuePart issueValue areParameters
-grantee-of-data who d = (λ c e. rw e, λ e. rw e (nobody-anyway _))
+grantee-of-data who d = (λ c e. rw e, λ e. rw e (nobody-anyway (admits who (parametersIn []))))
 
 module _ (d : List ℕ) where
   abbrev start : ℕ
@@ -63,7 +63,7 @@ module _ (d : List ℕ) where
 -- what the answer o of issuer_in says: the value names an issuer, which stands at the offsets, or it grants nobody
 module _ (d : List ℕ) where
   pub record Issuer (n : NameAt) : Type 0 where
-    pub some : n .from ≤ n .to
+    pub ordered : n .from ≤ n .to
     pub within : n .to ≤ length d
     pub ended : n .parameters ≤ length d
     pub there : granteeOfValue (issueValue (valuePart d)) ≡ some (lowered (nameAt d n))
@@ -87,7 +87,7 @@ module _ (d : List ℕ) where
         where
           by : (t : Bool) → isIssuer (nameAt v n) ≡ t → Told (cond t (At (shifted d n)) Nobody)
           by true t = record {
-            some = omega (arith, name-from v (valueAt v) refl n e);
+            ordered = omega (arith, name-from v (valueAt v) refl n e);
             within = omega (arith, name-to v (valueAt v) refl n e, value-short d);
             ended = omega (arith, parameters-within v (valueAt v) refl n e, value-short d);
             there = rw (read-named v (valueAt v) refl n e _ refl, t) (ap (λ l. some (lowered l)) (sym (shifted-name d n)));
@@ -99,14 +99,16 @@ module _ (d : List ℕ) where
 module _ (d : List ℕ) (o : GranteeRead) (f : o ≡ issuerAt d) where
   pub nobody-named : o ≡ Nobody → (who : Applicant) → granteeOfData who d ≡ none
   unfolding granteeOfData
-  nobody-named g who = let none : granteeOfValue (issueValue (valuePart d)) ≡ none = rw (← f, g) at (told d) in rw none (nobody-anyway _)
+  nobody-named g who =
+      let nobody : granteeOfValue (issueValue (valuePart d)) ≡ none = rw (← f, g) at (told d) in
+      rw nobody (nobody-anyway (admits who (parametersIn (valuePart d))))
 
   module _ (n : NameAt) (g : o ≡ At n) where
     issuer : Issuer d n
     issuer = rw (← f, g) at (told d)
 
     pub issuer-from : n .from ≤ n .to
-    issuer-from = issuer .some
+    issuer-from = issuer .ordered
 
     pub issuer-to : n .to ≤ length d
     issuer-to = issuer .within

@@ -67,7 +67,7 @@ module _ (who : Applicant) (seen : Seen) (p : Parameter) (ps : List Parameter) w
         where
           go : (t : Bool) →
               ((t && isEmpty (valuesOf (text "accounturi") ps))
-                && stillMet (seen .methods) (namesMethodIn (who .method)) (valuesOf (text "validationmethods") ps))
+              && stillMet (seen .methods) (namesMethodIn (who .method)) (valuesOf (text "validationmethods") ps))
               ≡ leftAfter who (cond t (Admitted (record { account = true; methods = seen .methods })) NotAdmitted) ps
           go true = refl
           go false = refl
@@ -85,7 +85,7 @@ module _ (who : Applicant) (seen : Seen) (p : Parameter) (ps : List Parameter) w
             where
               go : (t : Bool) →
                   (stillMet (seen .account) (same (who .account)) (valuesOf (text "accounturi") ps)
-                    && (t && isEmpty (valuesOf (text "validationmethods") ps)))
+                  && (t && isEmpty (valuesOf (text "validationmethods") ps)))
                   ≡ leftAfter who (cond t (Admitted (record { account = seen .account; methods = true })) NotAdmitted) ps
               go true = refl
               go false = and-false (stillMet (seen .account) (same (who .account)) (valuesOf (text "accounturi") ps))

@@ -50,8 +50,8 @@ module _ (s : List ℕ) where
   parameters-there = ⊎-elim
       (λ h. let from : parametersFrom s ≡ e + 1 = rw h in rw (from, cut-more (code ";") s e refl (ltb-true e (length s) h)))
       (λ h. let from : parametersFrom s ≡ length s = rw h in
-          let none : drop (length s) s ≡ [] = drop-of-length-le s {i = length s} (omega arith) in
-          rw (from, cut-last (code ";") s e refl (ltb-false e (length s) h), none))
+      let none : drop (length s) s ≡ [] = drop-of-length-le s {i = length s} (omega arith) in
+      rw (from, cut-last (code ";") s e refl (ltb-false e (length s) h), none))
       (true-or-false (ltb e (length s)))
 
 module _ (s : List ℕ) where
