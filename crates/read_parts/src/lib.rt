@@ -1,0 +1,24 @@
+// The tag and the value of one parameter of an issue value (RFC 8659 section 4.2), as slices of its text.
+ghost use mathlib.Core.Path.{_≡_};
+ghost use Rattle.spec_value.specs.Parameters.{parameterIn};
+
+// The tag: the octets before the first "=", without the white space around them.
+pub fn parameter_tag(s: &[u8]) -> &[u8]
+    ensures { λ r. ⌜ now r ≡ parameterIn (now (s .entry)) .tag ⌝ }
+{
+    let p = text_classes::trim_start(text_classes::trim_end(s));
+    let e = text_compare::piece_end(p, 0, b'=');
+    text_classes::trim_end(&p[..e])
+}
+
+// The value: the octets after the first "=", without the white space around them; empty without a "=".
+pub fn parameter_value(s: &[u8]) -> &[u8]
+    ensures { λ r. ⌜ now r ≡ parameterIn (now (s .entry)) .value ⌝ }
+{
+    let p = text_classes::trim_start(text_classes::trim_end(s));
+    let e = text_compare::piece_end(p, 0, b'=');
+    if p.len() <= e {
+        return &p[0..0];
+    }
+    text_classes::trim_start(&p[e + 1..])
+}
