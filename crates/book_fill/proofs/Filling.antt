@@ -15,8 +15,8 @@ use Rattle.read_record.specs.declared.RecordRead.{RecordRead}
 use Rattle.read_record.specs.declared.RecordRead.the-variants.{Good, Fault}
 use Rattle.read_record.proofs.RecordPlaces.{RecordTo, no-fields, fields-there}
 use Rattle.book_places.specs.Readable.{readable}
-use Rattle.book_places.specs.Table.{row, rowsFrom, tabled, tableOf}
-use Rattle.book_places.proofs.StandingRecords.{ends, few-tabled}
+use Rattle.book_places.specs.Table.{row, rowsFrom, tabled, roomFor, tableOf}
+use Rattle.book_places.proofs.StandingRecords.{ends, room-enough}
 use Rattle.book_fill.specs.Filled.{fillable, filledRows, filledTable, rowAt}
 use Rattle.book_fill.specs.Theorems.{emptyTable, Book-tabled}
 use Rattle.book_fill.proofs.RowLaws.{row-told}
@@ -143,14 +143,14 @@ drop-replicate zero n a = rw sub-zero
 drop-replicate (suc k) zero a = let none : 0 - suc k ≡ 0 = omega arith in rw none
 drop-replicate (suc k) (suc n) a = let one : suc n - suc k ≡ n - k = omega arith in rw one (drop-replicate k n a)
 
-all-fillable : (book : List ℕ) → fillable book (length emptyTable) ≡ tabled book
+all-fillable : (book : List ℕ) → fillable book (length (emptyTable (roomFor book))) ≡ tabled book
 unfolding fillable
 all-fillable book =
-    let room : length emptyTable / 6 ≡ maxRecords = omega (arith, length-replicate {A = ℕ} (6 * maxRecords) 0) in
-    rw room (take-all maxRecords (tabled book) (few-tabled book))
+    let room : length (emptyTable (roomFor book)) / 6 ≡ roomFor book = omega (arith, length-replicate {A = ℕ} (6 * roomFor book) 0) in
+    rw room (take-all (roomFor book) (tabled book) (room-enough book .0))
 
 pub book-tabled : Book-tabled
 unfolding filledTable filledRows tableOf
 book-tabled book =
-    let left : 6 * maxRecords - 6 * length (tabled book) ≡ 6 * (maxRecords - length (tabled book)) = omega arith in
+    let left : 6 * roomFor book - 6 * length (tabled book) ≡ 6 * (roomFor book - length (tabled book)) = omega arith in
     rw (all-fillable book) (rw (drop-replicate, left), refl)

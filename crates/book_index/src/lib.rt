@@ -3,7 +3,7 @@ ghost use mathlib.Core.Path.{_≡_};
 ghost use Rattle.book_fill.specs.Filled.{filledTable};
 ghost use Rattle.book_index.specs.Indexes.{indexedChains};
 
-// The caller lends a table of zeros, and links and heads that hold `MAX_RECORDS` everywhere. Each has room for `MAX_RECORDS` records.
+// The caller lends a table of zeros, and links and heads that hold `END` everywhere, with room for the records of the book.
 pub fn index_book(book: &[u8], table: &mut [u16], links: &mut [u16], heads: &mut [u16])
     ensures rows { λ _. ⌜ now (table .exit) ≡ filledTable (now (book .entry)) (now (table .entry)) ⌝ }
     ensures links { λ _. ⌜ now (links .exit) ≡ indexedChains (now (book .entry)) (now (table .entry)) (record { links = now (links .entry); heads = now (heads .entry) }) .links ⌝ }

@@ -1,16 +1,19 @@
 -- The records whose fields can be read stand in the book end to end, and each has its parts where a row of the table says.
-use Prim.Native.Nat.{ℕ, zero, suc, _+_, _-_, _≤_}
+use Prim.Native.Nat.{ℕ, zero, suc, _+_, _-_, _*_, _≤_, _<_}
 use native.Mathlib.Omega.{arith}
 use mathlib.Core.Path.{_≡_, refl, subst}
+use mathlib.Core.Logic.{⊎-elim}
 use mathlib.Core.Bool.{Bool, true, false, cond}
 use mathlib.Core.List.{List, [], _∷_}
 use mathlib.Core.Option.{Option, none, some}
 use lib.Dec.{leb}
 use lib.ListN.{length, drop, length-append}
+use borrow.Author.Tests.{le-leb, lt-leb, leb-true}
 use Rattle.spec_limits.specs.Limits.{maxBookOctets, maxRecords}
+use Rattle.spec_octets.proofs.ListLaws.{true-or-false}
 use Rattle.spec_octets.proofs.ReaderLaws.{bind-some}
 use Rattle.spec_name.specs.Names.{name, wire, GoodName}
-use Rattle.spec_name.proofs.NameLaws.{name-is-its-labels}
+use Rattle.spec_name.proofs.NameLaws.{fewer-labels, name-is-its-labels}
 use Rattle.read_name.proofs.PlaceLaws.{name-to}
 use Rattle.read_record.specs.Places.{recordFields}
 use Rattle.read_record.specs.declared.RecordAt.{RecordAt}
@@ -18,7 +21,8 @@ use Rattle.read_record.proofs.RecordFields.{placesFrom, fields-read}
 use Rattle.read_record.proofs.RecordPlaces.{RecordTo, record-to, data-long}
 use Rattle.spec_record.specs.Records.{Record, wireRecord}
 use Rattle.book_places.specs.Readable.{before, readable}
-use Rattle.book_places.specs.Table.{tabled, octetsAt}
+use Rattle.book_places.specs.Table.{tabled, fewRecords, shortBook, roomFor, octetsAt}
+use Rattle.book_places.specs.Theorems.{Room-enough}
 
 module _ (book : List ℕ) where
   -- the record r stands in the book from an offset on
@@ -72,6 +76,34 @@ module _ (book : List ℕ) where
       go none e rest = tt
       go (some x) e rest = let (p, t, behind) = places at (x .0) (x .1) e in first (x .0) (x .1) p t behind rest
 
+  -- each takes eleven octets at least
+  abbrev ElevenEach : ℕ → Type 0
+  ElevenEach room = (at : ℕ) → at ≤ length book → at + 11 * length (readable room (drop at book)) ≤ length book
+
+  eleven-each : (room : ℕ) → ElevenEach room
+  eleven-each zero at h = omega arith
+  eleven-each (suc room) at h = go (recordFields (drop at book)) refl (eleven-each room)
+    where
+      first :
+          (r : Record) (rest : List ℕ) (p : RecordAt) → RecordTo book at p r → drop (p .next) book ≡ rest → ElevenEach room →
+          at + 11 * length (r ∷ readable room rest) ≤ length book
+      first r rest p t behind more =
+          rw (← behind) (omega (arith, more (p .next) (t .inside), t .owner .long, t .ten, t .order, fewer-labels (r .owner)))
+
+      go :
+          (o : Option (Record × List ℕ)) → recordFields (drop at book) ≡ o → ElevenEach room →
+          at + 11 * length (before o (readable room)) ≤ length book
+      go none e more = omega arith
+      go (some x) e more = let (p, t, behind) = places at (x .0) (x .1) e in first (x .0) (x .1) p t behind more
+
+  tabled-octets : 11 * length (tabled book) ≤ length book
+  unfolding tabled
+  tabled-octets = go (leb (length book) maxBookOctets)
+    where
+      go : (t : Bool) → 11 * length (cond t (readable maxRecords book) []) ≤ length book
+      go true = omega (arith, eleven-each maxRecords 0 (omega arith))
+      go false = omega arith
+
   pub tabled-stand : StandFrom 0 (tabled book)
   unfolding tabled
   tabled-stand = go (leb (length book) maxBookOctets)
@@ -95,3 +127,28 @@ few-tabled book = go (leb (length book) maxBookOctets)
     go : (t : Bool) → length (cond t (readable maxRecords book) []) ≤ maxRecords
     go true = few-readable maxRecords book
     go false = omega arith
+
+-- the room for the records of a short book, and of any other
+pub room-short : (book : List ℕ) → length book ≤ shortBook → roomFor book ≡ fewRecords
+unfolding roomFor
+room-short book h = rw (le-leb (length book) shortBook h)
+
+pub room-long : (book : List ℕ) → shortBook < length book → roomFor book ≡ maxRecords
+unfolding roomFor
+room-long book h = rw (lt-leb (length book) shortBook h)
+
+short-few : (book : List ℕ) → length book ≤ shortBook → length (tabled book) ≤ fewRecords
+unfolding shortBook
+short-few book h = omega (arith, tabled-octets book)
+
+few-most : fewRecords ≤ maxRecords
+unfolding fewRecords maxRecords
+few-most = omega arith
+
+pub room-enough : Room-enough
+unfolding roomFor
+room-enough book =
+    ⊎-elim
+    (λ e. rw e (short-few book (leb-true (length book) shortBook e), few-most))
+    (λ e. rw e (few-tabled book, omega arith))
+    (true-or-false (leb (length book) shortBook))

@@ -11,9 +11,9 @@ use Rattle.spec_limits.specs.Limits.{maxRecords}
 use Rattle.spec_octets.specs.Lists.{All, all-nil, all-cons}
 use Rattle.spec_name.specs.Names.{GoodName}
 use Rattle.spec_record.specs.Records.{Record, wireRecord}
-use Rattle.book_places.specs.Table.{row, rowsFrom, tabled, tableOf, cell, ownerAt, dataAt, isCaaAt}
+use Rattle.book_places.specs.Table.{row, rowsFrom, tabled, roomFor, tableOf, cell, ownerAt, dataAt, isCaaAt}
 use Rattle.book_places.specs.Theorems.{RowTells, Table-tells, Table-fits}
-use Rattle.book_places.proofs.StandingRecords.{Standing, StandFrom, tabled-stand, few-tabled}
+use Rattle.book_places.proofs.StandingRecords.{Standing, StandFrom, tabled-stand, few-tabled, room-enough}
 
 module _ (book table : List ℕ) where
   -- the rows from k on tell of the records rs
@@ -66,7 +66,7 @@ rows-tell book =
     (tableOf book)
     (tabled book)
     []
-    (replicate (6 * (maxRecords - length (tabled book))) 0)
+    (replicate (6 * (roomFor book - length (tabled book))) 0)
     0
     0
     refl
@@ -84,7 +84,7 @@ rows-long at (r ∷ rs) = omega (arith, rows-long (at + length (wireRecord r)) r
 pub table-fits : Table-fits
 unfolding tableOf
 table-fits book = (
-  rw (length-append, rows-long 0 (tabled book), length-replicate) (omega (arith, few-tabled book)),
+  rw (length-append, rows-long 0 (tabled book), length-replicate) (omega (arith, room-enough book .0)),
   few-tabled book,
 )
 

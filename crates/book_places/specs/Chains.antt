@@ -7,7 +7,7 @@ use mathlib.Core.List.{List, [], _∷_}
 use lib.Dec.{leb, ltb}
 use lib.ListN.{length, getD, set, replicate}
 use Rattle.spec_limits.specs.Limits.{maxRecords}
-use Rattle.book_places.specs.Table.{tabled, tableOf, ownerAt}
+use Rattle.book_places.specs.Table.{tabled, roomFor, tableOf, ownerAt}
 use Rattle.book_places.specs.Keys.{keyOf}
 
 pub record Chains : Type 0 where
@@ -28,13 +28,17 @@ abbrev pub linkedBelow : List ℕ → List ℕ → ℕ → Chains → Chains
 linkedBelow book table zero c = c
 linkedBelow book table (suc i) c = linkedBelow book table i (linked book table i c)
 
--- Chains without a record: every head and every link is the limit, which is no record's number.
-abbrev pub unlinked : Chains
-unlinked = record { links = replicate maxRecords maxRecords; heads = replicate maxRecords maxRecords }
+-- The number that ends a chain. No record has it.
+unfoldable pub noRecord : ℕ
+noRecord = 65535
+
+-- Chains without a record: every head and every link ends its chain. There is room for so many records.
+abbrev pub unlinked : ℕ → Chains
+unlinked room = record { links = replicate room noRecord; heads = replicate maxRecords noRecord }
 
 -- The chains of a book, with all records of its table.
 unfoldable pub chainsOf : List ℕ → Chains
-chainsOf book = linkedBelow book (tableOf book) (length (tabled book)) unlinked
+chainsOf book = linkedBelow book (tableOf book) (length (tabled book)) (unlinked (roomFor book))
 
 -- The record after record i in its chain. The chain ends at a link that does not lead to a later record; the answer then is the number of links.
 unfoldable pub behind : List ℕ → ℕ → ℕ

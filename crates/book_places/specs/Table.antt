@@ -24,9 +24,20 @@ rowsFrom at (r ∷ rs) = row at r ++ rowsFrom (at + length (wireRecord r)) rs
 unfoldable pub tabled : List ℕ → List Record
 tabled book = cond (leb (length book) maxBookOctets) (readable maxRecords book) []
 
--- The table: the rows of a book, then zeros. Its size is the same for every book, and has room for `maxRecords` rows.
+-- A record takes at least 11 octets: an owner of one octet, and ten octets of fixed fields. So a short book has few records.
+unfoldable pub fewRecords : ℕ
+fewRecords = 64
+
+unfoldable pub shortBook : ℕ
+shortBook = 11 * fewRecords
+
+-- How many records a call makes room for: few for a short book, otherwise `maxRecords`.
+unfoldable pub roomFor : List ℕ → ℕ
+roomFor book = cond (leb (length book) shortBook) fewRecords maxRecords
+
+-- The table: the rows of a book, then zeros, up to that room.
 unfoldable pub tableOf : List ℕ → List ℕ
-tableOf book = rowsFrom 0 (tabled book) ++ replicate (6 * (maxRecords - length (tabled book))) 0
+tableOf book = rowsFrom 0 (tabled book) ++ replicate (6 * (roomFor book - length (tabled book))) 0
 
 -- The number in one column of the row of record i; 0 if i is not below `maxRecords`.
 unfoldable pub cell : List ℕ → ℕ → ℕ → ℕ

@@ -17,7 +17,7 @@ use Rattle.spec_record.specs.Property.{Property, property, tagOf, isCritical}
 use Rattle.spec_record.specs.Records.{Record, isCaa, records, bookRefusal}
 use Rattle.spec_rule.specs.RelevantSet.{CaaRecord, caaRecords, Lookup, empty, found, lookup, relevantSet}
 use Rattle.spec_rule.specs.Authorizations.{authorizationFrom}
-use Rattle.book_places.specs.Table.{tabled, tableOf, ownerAt, dataAt, isCaaAt}
+use Rattle.book_places.specs.Table.{tabled, roomFor, tableOf, ownerAt, dataAt, isCaaAt}
 use Rattle.book_places.specs.Keys.{keyOf}
 use Rattle.book_places.specs.Chains.{chainsOf}
 use Rattle.book_places.specs.Sets.{isOwned, ownedFrom, firstOf, firstOwned, nearestRecord, setAt, dataHasTag, dataIsUnknownCritical, dataGrants, setGrants}
@@ -41,13 +41,17 @@ pub record RowTells (book table : List ℕ) (i : ℕ) (r : Record) : Type 0 wher
 abbrev pub Table-tells : Type 0
 Table-tells = (book : List ℕ) (i : ℕ) (r : Record) → getElem? (tabled book) i ≡ some r → RowTells book (tableOf book) i r
 
--- The table has room for `maxRecords` rows of six numbers, and no more records than that get a row.
-abbrev pub Table-fits : Type 0
-Table-fits = (book : List ℕ) → (length (tableOf book) ≡ 6 * maxRecords) × (length (tabled book) ≤ maxRecords)
+-- There is room for every record of a book that gets a row, and never for more than `maxRecords`.
+abbrev pub Room-enough : Type 0
+Room-enough = (book : List ℕ) → (length (tabled book) ≤ roomFor book) × (roomFor book ≤ maxRecords)
 
--- There are `maxRecords` links and `maxRecords` heads.
+-- The table has six numbers for each record that there is room for, and at most `maxRecords` records get a row.
+abbrev pub Table-fits : Type 0
+Table-fits = (book : List ℕ) → (length (tableOf book) ≡ 6 * roomFor book) × (length (tabled book) ≤ maxRecords)
+
+-- There is a link for each record that there is room for, and `maxRecords` heads, one for each key.
 abbrev pub Chains-fit : Type 0
-Chains-fit = (book : List ℕ) → (length (chainsOf book .links) ≡ maxRecords) × (length (chainsOf book .heads) ≡ maxRecords)
+Chains-fit = (book : List ℕ) → (length (chainsOf book .links) ≡ roomFor book) × (length (chainsOf book .heads) ≡ maxRecords)
 
 -- n numbers in a row, from k on.
 abbrev pub numbersFrom : ℕ → ℕ → List ℕ

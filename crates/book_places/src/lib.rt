@@ -10,8 +10,16 @@ pub const ROW: usize = 6;
 // How many numbers a table has.
 pub const TABLE: usize = 6 * MAX_RECORDS;
 
-// The number that ends a chain. No record has it.
-pub const END: u16 = MAX_RECORDS as u16;
+// A short book has few records, because a record takes at least 11 octets: an owner of one octet, and ten octets of fixed fields.
+pub const FEW_RECORDS: usize = 64;
+
+pub const SHORT_BOOK: usize = 11 * FEW_RECORDS;
+
+// How many numbers the table of a short book has.
+pub const SHORT_TABLE: usize = 6 * FEW_RECORDS;
+
+// The number that ends a chain. No record has it. Both its octets are the same, so an array of it is cleared as fast as one of zeros.
+pub const END: u16 = 65535;
 
 // The first record that a search found, if there is one.
 pub enum FirstRecord {

@@ -5,16 +5,17 @@ use mathlib.Core.Path.{_≡_}
 use mathlib.Core.Bool.{Bool, true, false}
 use mathlib.Core.List.{List, [], _∷_}
 use mathlib.Core.Option.{none}
-use lib.ListN.{length, getD}
+use lib.ListN.{length, getD, replicate}
 use Rattle.spec_limits.specs.Limits.{maxRecords}
 use Rattle.spec_refusal.specs.declared.RecordNo.{RecordNo}
 use Rattle.spec_rule.specs.declared.Judgement.{Judgement}
 use Rattle.spec_rule.specs.Authorizations.{permits}
 use Rattle.spec_rule.specs.Verdicts.{verdictFrom}
 use Rattle.spec_rule.specs.Calls.{firstRefusal, judgeChecks}
-use Rattle.book_places.specs.Table.{tableOf}
-use Rattle.book_places.specs.Chains.{chainsOf}
+use Rattle.book_places.specs.Table.{roomFor, tableOf}
+use Rattle.book_places.specs.Chains.{noRecord, chainsOf}
 use Rattle.book_places.specs.NameAuthorizations.{setAuthorization, answerTo, meaning}
+use Rattle.book_index.specs.Indexes.{Blank}
 
 pub record Ready (request issuer book table links heads : List ℕ) : Type 0 where
   pub accepted : firstRefusal (judgeChecks request issuer book) ≡ none
@@ -33,5 +34,15 @@ module _ (issuer book table links : List ℕ) where
 
   -- The array has one note for each question, which is two for each record. If a note is set, the answer to that question permits the issuer.
   pub record Asked (asked : List Bool) : Type 0 where
-    pub long : length asked ≡ 2 * maxRecords
+    pub long : length asked ≡ 2 * roomFor book
     pub permit : (question : ℕ) → getD asked question false ≡ true → answerPermits question ≡ true
+
+-- accepted inputs, and arrays with nothing in them that have room for the records of the book; and before, the heads of the chains alone
+pub record Lent (request issuer book table links heads : List ℕ) (asked : List Bool) : Type 0 where
+  pub accepted : firstRefusal (judgeChecks request issuer book) ≡ none
+  pub blank : Blank book table links heads
+  pub unasked : asked ≡ replicate (2 * roomFor book) false
+
+pub record HeadsLent (request issuer book heads : List ℕ) : Type 0 where
+  pub accepted : firstRefusal (judgeChecks request issuer book) ≡ none
+  pub headed : heads ≡ replicate maxRecords noRecord

@@ -9,8 +9,6 @@ use Rattle.spec_rule.specs.IssuerLists.{Issuers, anyone, listed}
 use Rattle.book_places.specs.declared.Governing.{Governing}
 use Rattle.book_places.specs.declared.NameAuthorization.{NameAuthorization}
 use Rattle.book_places.specs.declared.NameAuthorization.the-variants.{Unrestricted, Forbidden, Governed}
-use Rattle.book_places.specs.Table.{tableOf}
-use Rattle.book_places.specs.Chains.{chainsOf}
 use Rattle.book_places.specs.NameAuthorizations.{answerTo}
 use Rattle.list_places.specs.declared.TaggedSet.{TaggedSet}
 use Rattle.list_places.specs.declared.RelevantSets.{RelevantSets}
@@ -79,14 +77,14 @@ module _ (book table links : List ℕ) where
   byNoted Unknown numbers names rounds = nobodyIn names rounds
   byNoted (Noted n) numbers names rounds = allAsked (once (take n numbers)) names rounds
 
--- The questions of a request, noted by the table of the book and its chains.
-unfoldable pub notedIn : List ℕ → List ℕ → NotedQuestions
-notedIn request book = noted (replicate maxNames 0) (questions request book (tableOf book) (chainsOf book .links) (chainsOf book .heads))
+-- The questions of a request, noted by a table of the book and its chains.
+unfoldable pub notedIn : List ℕ → List ℕ → List ℕ → List ℕ → List ℕ → NotedQuestions
+notedIn request book table links heads = noted (replicate maxNames 0) (questions request book table links heads)
 
 -- The issuers for all names of a request, and the two arrays.
-unfoldable pub permittedIn : List ℕ → List ℕ → List ℕ → List ℕ → PermittedIn
-permittedIn request book names rounds =
-    byNoted book (tableOf book) (chainsOf book .links) (notedIn request book .answer) (notedIn request book .numbers) names rounds
+unfoldable pub permittedIn : List ℕ → List ℕ → List ℕ → List ℕ → List ℕ → List ℕ → List ℕ → PermittedIn
+permittedIn request book table links heads names rounds =
+    byNoted book table links (notedIn request book table links heads .answer) (notedIn request book table links heads .numbers) names rounds
 
 -- The list of issuers that such an answer stands for, or anyone.
 abbrev pub issuersIn : List ℕ → PermittedIn → Issuers

@@ -4,13 +4,15 @@ use mathlib.Core.Path.{_≡_}
 use mathlib.Core.List.{List, map}
 use mathlib.Core.Option.{none}
 use lib.ListN.{length, replicate}
-use Rattle.spec_limits.specs.Limits.{maxBookOctets, maxRecords}
+use Rattle.spec_limits.specs.Limits.{maxBookOctets}
 use Rattle.spec_octets.specs.Lists.{any, select, All}
 use Rattle.spec_octets.specs.Octets.{same, lowered}
 use Rattle.spec_request.specs.Request.{requestRefusal}
 use Rattle.spec_record.specs.Records.{bookRefusal}
 use Rattle.spec_rule.specs.IssuerLists.{distinct, issuers}
 use Rattle.spec_rule.specs.Calls.{authorizations}
+use Rattle.book_places.specs.Table.{roomFor, tableOf}
+use Rattle.book_places.specs.Chains.{chainsOf}
 use Rattle.book_places.specs.NameAuthorizations.{setGrantees}
 use Rattle.list_places.specs.declared.TaggedSet.{TaggedSet}
 use Rattle.list_places.specs.Grants.{grantsBy, grantOctets}
@@ -38,9 +40,10 @@ Narrowed-by-offset =
     ≡ select (λ m. any (same m) (setGrantees book table links (s .tag) (s .set))) (keptNames book names count rounds t))
     × All (λ r. r ≤ suc t) (narrowed book names table links s count t rounds)
 
--- The answer is the rule's: anyone, or the issuers that the rule lists, in the rule's order. An array with two numbers for each of `maxRecords`
--- records is enough for the candidates. Every candidate starts in round 0.
+-- The answer is the rule's: anyone, or the issuers that the rule lists, in the rule's order. An array with two numbers for each record that
+-- there is room for is enough for the candidates. Every candidate starts in round 0.
 abbrev pub Permitted-by-offset : Type 0
 Permitted-by-offset =
-    (request book names : List ℕ) → requestRefusal request ≡ none → bookRefusal book ≡ none → 2 * maxRecords ≤ length names →
-    issuersIn book (permittedIn request book names (replicate maxRecords 0)) ≡ issuers (authorizations request book)
+    (request book names : List ℕ) → requestRefusal request ≡ none → bookRefusal book ≡ none → 2 * roomFor book ≤ length names →
+    issuersIn book (permittedIn request book (tableOf book) (chainsOf book .links) (chainsOf book .heads) names (replicate (roomFor book) 0))
+    ≡ issuers (authorizations request book)
