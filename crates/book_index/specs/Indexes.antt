@@ -1,4 +1,4 @@
--- The chains that are made of a book, by the table that is filled from it, and the arrays that both are made in.
+-- The chains that `index_book` makes: it fills the table from the book, then links the records that got a row. And the arrays that it needs.
 use Prim.Native.Nat.{ℕ}
 use mathlib.Core.Path.{_≡_}
 use mathlib.Core.List.{List}

@@ -37,7 +37,7 @@ use Rattle.list_places.proofs.ByOffset.{permitted-by-offset}
 use Rattle.list_entry.specs.declared.ListSize.{ListSize}
 use Rattle.list_entry.specs.Entries.{entriesOf, sizeOf}
 use Rattle.list_entry.proofs.ShortNames.{entries-short}
-use Rattle.list_call.specs.Lent.{Lent, HeadsLent}
+use Rattle.list_call.specs.Lent.{Lent, HeadsLent, Found}
 
 -- the call's two ensures from one equation
 pub halves :
@@ -92,81 +92,83 @@ module _ (request book heads : List ℕ) (lent : HeadsLent request book heads) (
     first-round = rw (links, room-long book h);
   }
 
--- what was lent
-module _ (request book table₀ links₀ heads₀ names₀ rounds₀ buffer : List ℕ) (lent : Lent request book table₀ links₀ heads₀ names₀ rounds₀) where
-  -- what index_book and find_permitted made of it
-  module _ (table links heads : List ℕ) (t : table ≡ filledTable book table₀)
-      (l : links ≡ indexedChains book table₀ (record { links = links₀; heads = heads₀ }) .links)
-      (h : heads ≡ indexedChains book table₀ (record { links = links₀; heads = heads₀ }) .heads) (p : Permitted) (names rounds : List ℕ)
-      (told : p ≡ permittedIn request book table links heads names₀ rounds₀ .answer)
-      (left : names ≡ permittedIn request book table links heads names₀ rounds₀ .names)
-      (last : rounds ≡ permittedIn request book table links heads names₀ rounds₀ .rounds) where
-    good : (requestRefusal request ≡ none) × (bookRefusal book ≡ none)
-    good = (lent .names-good, lent .records-good)
-
+-- what index_book and find_permitted made of what was lent
+pub found :
+    (request book table₀ links₀ heads₀ names₀ rounds₀ : List ℕ) → Lent request book table₀ links₀ heads₀ names₀ rounds₀ → (table links heads : List ℕ) →
+    table ≡ filledTable book table₀ → links ≡ indexedChains book table₀ (record { links = links₀; heads = heads₀ }) .links →
+    heads ≡ indexedChains book table₀ (record { links = links₀; heads = heads₀ }) .heads → (p : Permitted) (names rounds : List ℕ) →
+    p ≡ permittedIn request book table links heads names₀ rounds₀ .answer → names ≡ permittedIn request book table links heads names₀ rounds₀ .names →
+    rounds ≡ permittedIn request book table links heads names₀ rounds₀ .rounds → Found request book names rounds p
+found request book table₀ links₀ heads₀ names₀ rounds₀ lent table links heads t l h p names rounds told left last = record {
+  names-good = lent .names-good;
+  records-good = lent .records-good;
+  issuers-found =
+      rw (
+        told,
+        left,
+        last,
+        table-of-book book table₀ links₀ heads₀ (lent .blank) table t,
+        links-of-book book table₀ links₀ heads₀ (lent .blank) links l,
+        heads-of-book book table₀ links₀ heads₀ (lent .blank) heads h,
+        lent .first-round,
+      )
+      (permitted-by-offset request book names₀ (lent .names-good) (lent .records-good) enough);
+}
+  where
     enough : 2 * roomFor book ≤ length names₀
     enough = rw (lent .candidates) (omega (arith, length-replicate {A = ℕ} (2 * roomFor book) 0))
 
-    found : issuersIn book (record { answer = p; names = names; rounds = rounds }) ≡ issuers (authorizations request book)
-    found =
-        rw (
-          told,
-          left,
-          last,
-          table-of-book book table₀ links₀ heads₀ (lent .blank) table t,
-          links-of-book book table₀ links₀ heads₀ (lent .blank) links l,
-          heads-of-book book table₀ links₀ heads₀ (lent .blank) heads h,
-          lent .first-round,
-        )
-        (permitted-by-offset request book names₀ (good .0) (good .1) enough)
+module _ (book names rounds buffer : List ℕ) (p : Permitted) (request : List ℕ) (k : Found request book names rounds p) where
+  good : (requestRefusal request ≡ none) × (bookRefusal book ≡ none)
+  good = (k .names-good, k .records-good)
 
-    pub anyone-may : not (p .restricted) ≡ true → listIssuers request book buffer ≡ record { answer = Anyone; buffer = buffer }
-    unfolding listIssuers
-    anyone-may e = let answer : issuers (authorizations request book) ≡ anyone = sym (rw (not-true (p .restricted) e) at found) in rw (good .0, good .1, answer)
+  pub anyone-may : not (p .restricted) ≡ true → listIssuers request book buffer ≡ record { answer = Anyone; buffer = buffer }
+  unfolding listIssuers
+  anyone-may e = let answer : issuers (authorizations request book) ≡ anyone = sym (rw (not-true (p .restricted) e) at (k .issuers-found)) in rw (good .0, good .1, answer)
 
-    module _ (e : not (p .restricted) ≡ false) where
-      abbrev kept : List (List ℕ)
-      kept = keptNames book names (p .count) rounds (p .round)
+  module _ (e : not (p .restricted) ≡ false) where
+    abbrev kept : List (List ℕ)
+    kept = keptNames book names (p .count) rounds (p .round)
 
-      may-sign : issuers (authorizations request book) ≡ listed kept
-      may-sign = sym (rw (not-false (p .restricted) e) at found)
+    may-sign : issuers (authorizations request book) ≡ listed kept
+    may-sign = sym (rw (not-false (p .restricted) e) at (k .issuers-found))
 
-      names-short : All (λ n. length n < 256) kept
-      unfolding maxIssuerOctets
-      names-short = All-imp (λ n w. omega (arith, w .0 .1)) (permitted-issuers request book (good .0) (good .1) .well-formed kept may-sign)
+    names-short : All (λ n. length n < 256) kept
+    unfolding maxIssuerOctets
+    names-short = All-imp (λ n w. omega (arith, w .0 .1)) (permitted-issuers request book (good .0) (good .1) .well-formed kept may-sign)
 
-      -- s is the size of the list, and the buffer behind the call of put_entries is `after`
-      module _ (s : ListSize) (h : s ≡ sizeOf (keptNames book names (p .count) rounds (p .round))) (after : List ℕ)
-          (w : after ≡ filled (entriesOf (keptNames book names (p .count) rounds (p .round))) buffer) (same : length after ≡ length buffer) where
-        octets-told : s .octets ≡ length (entriesOf kept)
-        octets-told = ap (λ (z : ListSize). z .octets) h
+    -- s is the size of the list, and the buffer behind the call of put_entries is `after`
+    module _ (s : ListSize) (h : s ≡ sizeOf (keptNames book names (p .count) rounds (p .round))) (after : List ℕ)
+        (w : after ≡ filled (entriesOf (keptNames book names (p .count) rounds (p .round))) buffer) (same : length after ≡ length buffer) where
+      octets-told : s .octets ≡ length (entriesOf kept)
+      octets-told = ap (λ (z : ListSize). z .octets) h
 
-        count-told : s .count ≡ length kept
-        count-told = ap (λ (z : ListSize). z .count) h
+      count-told : s .count ≡ length kept
+      count-told = ap (λ (z : ListSize). z .count) h
 
-        pub no-room : length after < s .octets → listIssuers request book buffer ≡ record { answer = Refused (NoRoom (s .octets)); buffer = after }
-        unfolding listIssuers filled
-        no-room short =
-            rw (
-              good .0,
-              good .1,
-              may-sign,
-              ← entries-short kept names-short,
-              w,
-              octets-told,
-              lt-leb (length (entriesOf kept)) (length buffer) (omega (arith, octets-told)),
-            )
+      pub no-room : length after < s .octets → listIssuers request book buffer ≡ record { answer = Refused (NoRoom (s .octets)); buffer = after }
+      unfolding listIssuers filled
+      no-room short =
+          rw (
+            good .0,
+            good .1,
+            may-sign,
+            ← entries-short kept names-short,
+            w,
+            octets-told,
+            lt-leb (length (entriesOf kept)) (length buffer) (omega (arith, octets-told)),
+          )
 
-        pub names-listed : s .octets ≤ length after → listIssuers request book buffer ≡ record { answer = Listed (s .count) (s .octets); buffer = after }
-        unfolding listIssuers filled
-        names-listed fits =
-            rw (
-              good .0,
-              good .1,
-              may-sign,
-              ← entries-short kept names-short,
-              w,
-              count-told,
-              octets-told,
-              le-leb (length (entriesOf kept)) (length buffer) (omega (arith, octets-told)),
-            )
+      pub names-listed : s .octets ≤ length after → listIssuers request book buffer ≡ record { answer = Listed (s .count) (s .octets); buffer = after }
+      unfolding listIssuers filled
+      names-listed fits =
+          rw (
+            good .0,
+            good .1,
+            may-sign,
+            ← entries-short kept names-short,
+            w,
+            count-told,
+            octets-told,
+            le-leb (length (entriesOf kept)) (length buffer) (omega (arith, octets-told)),
+          )

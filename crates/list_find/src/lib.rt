@@ -1,12 +1,13 @@
-// Who may sign for all names of a request, found in the table of the book: the candidates, and the round that those on the list are in.
+// Finds who may issue for all names of a request, by the table of the book. The answer is the candidates, and the last round: the candidates
+// in it are the list.
 use list_places::Permitted;
 use list_places::RelevantSets;
 use spec_limits::MAX_NAMES;
 ghost use mathlib.Core.Path.{_≡_};
 ghost use Rattle.list_places.specs.PermittedBy.{permittedIn};
 
-// The issuers for all names of a request, by a table of the book and its chains. The names of the candidates and their rounds are left in two
-// lent arrays.
+// The issuers for all names of a request, by a table of the book and its chains. The candidates and their rounds are written into two arrays
+// of the caller.
 pub fn find_permitted(
     request: &[u8],
     book: &[u8],

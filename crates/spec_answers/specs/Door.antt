@@ -64,7 +64,8 @@ caaWriteLine d buffer = record { word = packedLine (writeLine d buffer .answer);
 abbrev pub caaReadLine : List ℕ → List ℕ → Returned
 caaReadLine s buffer = record { word = packedLine (parseLine s buffer .answer); buffer = parseLine s buffer .buffer }
 
--- The table of refusals, a part for each input: row n holds, with the place p, which the word has in field a.
+-- The table of refusals, a part for each input: row n holds with the place p. The place of a refusal is the number of a name or record, the
+-- octets needed, or 0; the word has it in field a.
 
 pub data RequestTable (request : List ℕ) : ℕ → ℕ → Type 0 where
   -- The request is over its limit of octets.
