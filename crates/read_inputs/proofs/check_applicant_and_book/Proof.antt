@@ -1,11 +1,11 @@
--- `check_request_and_book` meets its contract.
+-- `check_applicant_and_book` meets its contract.
 use borrow.Author.Needs.{needs}
 use Rattle.read_inputs.proofs.CheckLaws.{refused-here, accepted-here, last-check}
-use Rattle.read_inputs.proofs.check_request_and_book.Statement.{statement}
-use Rattle.read_inputs.proofs.check_request_and_book.Tie as tie
+use Rattle.read_inputs.proofs.check_applicant_and_book.Statement.{statement}
+use Rattle.read_inputs.proofs.check_applicant_and_book.Tie as tie
 
-check-request-requires : tie.Need-check-request-requires
-check-request-requires c κs = search needs
+check-applicant-requires : tie.Need-check-applicant-requires
+check-applicant-requires c κs = search needs
 
 enum-known-r : tie.Need-enum-known-r
 enum-known-r c = search needs
@@ -22,7 +22,7 @@ returns c = search (needs, refused-here)
 returns-2 : tie.Need-returns-2
 returns-2 c = search (needs, accepted-here, last-check)
 
-pub check-request-and-book-spec : {M : Type 1} → statement M
-check-request-and-book-spec =
+pub check-applicant-and-book-spec : {M : Type 1} → statement M
+check-applicant-and-book-spec =
     tie.close
-    (tie.spec check-request-requires enum-known-r enum-told check-book-requires returns returns-2)
+    (tie.spec check-applicant-requires enum-known-r enum-told check-book-requires returns returns-2)
