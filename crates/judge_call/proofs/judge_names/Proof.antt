@@ -1,23 +1,28 @@
 -- `judge_names` meets its contract. The loop's invariant: with k names permitted, those left from `at` on give the answer, and each note is right.
-use Prim.Native.Nat.{_-_}
+use Prim.Native.Nat.{_-_, _*_}
+use mathlib.Core.Path.{_≡_}
 use lib.ListN.{length}
 use borrow.Author.Needs.{needs}
 use Rattle.spec_limits.specs.Limits.{maxNames}
 use Rattle.read_request.proofs.RequestPlaces.{next-inside, left-less}
+use Rattle.book_places.specs.Table.{roomFor}
 use Rattle.judge_call.specs.Asked.{Asked}
-use Rattle.judge_call.proofs.AskedLaws.{same-notes}
+use Rattle.judge_call.proofs.AskedLaws.{notes-length, same-notes}
 use Rattle.judge_call.proofs.NameWalk.{Judged, names-start, few, no-bad-name, base-first, name-unrestricted, question-inside, asked-before, name-denied, name-permitted, name-noted, all-passed}
 use Rattle.judge_call.proofs.judge_names.Statement.{statement}
 use Rattle.judge_call.proofs.judge_names.Tie as tie
 
 abbrev Inv-loop : tie.InvT-loop
-Inv-loop request issuer book table links heads asked₀ at₀ k₀ asked at k = Judged request issuer book table links heads at k × Asked issuer book table links asked
+Inv-loop request issuer account method book table links heads asked₀ at₀ k₀ asked at k =
+    Judged (record { account = account; method = method }) request issuer book table links heads at k
+    × Asked (record { account = account; method = method }) issuer book table links asked
+    × (length asked₀ ≡ 2 * roomFor book)
 
 abbrev μ-loop : tie.MeasureT-loop
-μ-loop request issuer book table links heads asked₀ at₀ k₀ asked at k = length request - at
+μ-loop request issuer account method book table links heads asked₀ at₀ k₀ asked at k = length request - at
 
 loop-holds : tie.Need-loop-holds Inv-loop μ-loop
-loop-holds c = search (needs, names-start)
+loop-holds c = search (needs, names-start, notes-length)
 
 requested-name-requires : tie.Need-requested-name-requires Inv-loop μ-loop
 requested-name-requires c κs = search needs

@@ -12,7 +12,7 @@ same-length : tie.Need-same-length
 same-length c = search needs
 
 returns : tie.Need-returns
-returns c = kept-parts _ _ _ _ _ _ _ (search (needs, not-true, first-governs))
+returns c = kept-parts _ _ _ _ _ _ _ _ (search (needs, not-true, first-governs))
 
 narrow-requires : tie.Need-narrow-requires
 narrow-requires c κs = search needs
@@ -27,7 +27,7 @@ same-length-3 : tie.Need-same-length-3
 same-length-3 c = search needs
 
 returns-2 : tie.Need-returns-2
-returns-2 c = kept-parts _ _ _ _ _ _ _ (search (needs, not-false, further-governs))
+returns-2 c = kept-parts _ _ _ _ _ _ _ _ (search (needs, not-false, further-governs))
 
 pub keep-granted-spec : {M : Type 1} → statement M
 keep-granted-spec =

@@ -1,8 +1,8 @@
--- `caa_judge` meets its contract, case by case of the judgement.
+-- `caa_judge_for` meets its contract, case by case of the judgement.
 use borrow.Author.Needs.{needs}
 use Rattle.splinepearl.proofs.PackedAnswers.{permitted-packed, critical-packed, not-granted-packed, refused-packed}
-use Rattle.splinepearl.proofs.caa_judge.Statement.{statement}
-use Rattle.splinepearl.proofs.caa_judge.Tie as tie
+use Rattle.splinepearl.proofs.caa_judge_for.Statement.{statement}
+use Rattle.splinepearl.proofs.caa_judge_for.Tie as tie
 
 judge-requires : tie.Need-judge-requires
 judge-requires c κs = search needs
@@ -40,8 +40,8 @@ returns-3 c = search (needs, not-granted-packed)
 returns-4 : tie.Need-returns-4
 returns-4 c = search (needs, refused-packed)
 
-pub caa-judge-spec : {M : Type 1} → statement M
-caa-judge-spec =
+pub caa-judge-for-spec : {M : Type 1} → statement M
+caa-judge-for-spec =
     tie.close
     (tie.spec
     judge-requires

@@ -1,8 +1,8 @@
--- `caa_permitted_issuers` meets its contract, case by case of the answer.
+-- `caa_permitted_issuers_for` meets its contract, case by case of the answer.
 use borrow.Author.Needs.{needs}
 use Rattle.splinepearl.proofs.ListAnswers.{anyone-packed, list-packed, list-refusal-packed}
-use Rattle.splinepearl.proofs.caa_permitted_issuers.Statement.{statement}
-use Rattle.splinepearl.proofs.caa_permitted_issuers.Tie as tie
+use Rattle.splinepearl.proofs.caa_permitted_issuers_for.Statement.{statement}
+use Rattle.splinepearl.proofs.caa_permitted_issuers_for.Tie as tie
 
 permitted-issuers-requires : tie.Need-permitted-issuers-requires
 permitted-issuers-requires c κs = search needs
@@ -43,8 +43,8 @@ same-length-3 c = search needs
 returns-3 : tie.Need-returns-3
 returns-3 c = search (needs, list-refusal-packed)
 
-pub caa-permitted-issuers-spec : {M : Type 1} → statement M
-caa-permitted-issuers-spec =
+pub caa-permitted-issuers-for-spec : {M : Type 1} → statement M
+caa-permitted-issuers-for-spec =
     tie.close
     (tie.spec
     permitted-issuers-requires
