@@ -60,12 +60,9 @@ module _ (who : Applicant) (issuer book table links : List ℕ) where
     permit = λ q f. absurd (true≢false (sym f ∙ none-set (2 * roomFor book) q));
   })
 
-  pub notes-length : (asked : List Bool) → Asked who issuer book table links asked → length asked ≡ 2 * roomFor book
-  notes-length asked k = k .long
-
   pub same-notes :
-      (asked before : List Bool) → Asked who issuer book table links asked → length before ≡ 2 * roomFor book → length asked ≡ length before
-  same-notes asked before k e = k .long ∙ sym e
+      (asked before : List Bool) → Asked who issuer book table links asked → Asked who issuer book table links before → length asked ≡ length before
+  same-notes asked before k l = k .long ∙ sym (l .long)
 
   one-asked :
       (asked : List Bool) → Asked who issuer book table links asked → (n : ℕ) → answerPermits who issuer book table links n ≡ true →

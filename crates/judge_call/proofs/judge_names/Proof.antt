@@ -1,13 +1,11 @@
 -- `judge_names` meets its contract. The loop's invariant: with k names permitted, those left from `at` on give the answer, and each note is right.
-use Prim.Native.Nat.{_-_, _*_}
-use mathlib.Core.Path.{_≡_}
+use Prim.Native.Nat.{_-_}
 use lib.ListN.{length}
 use borrow.Author.Needs.{needs}
 use Rattle.spec_limits.specs.Limits.{maxNames}
 use Rattle.read_request.proofs.RequestPlaces.{next-inside, left-less}
-use Rattle.book_places.specs.Table.{roomFor}
 use Rattle.judge_call.specs.Asked.{Asked}
-use Rattle.judge_call.proofs.AskedLaws.{notes-length, same-notes}
+use Rattle.judge_call.proofs.AskedLaws.{same-notes}
 use Rattle.judge_call.proofs.NameWalk.{Judged, names-start, few, no-bad-name, base-first, name-unrestricted, question-inside, asked-before, name-denied, name-permitted, name-noted, all-passed}
 use Rattle.judge_call.proofs.judge_names.Statement.{statement}
 use Rattle.judge_call.proofs.judge_names.Tie as tie
@@ -16,13 +14,12 @@ abbrev Inv-loop : tie.InvT-loop
 Inv-loop request issuer account method book table links heads asked₀ at₀ k₀ asked at k =
     Judged (record { account = account; method = method }) request issuer book table links heads at k
     × Asked (record { account = account; method = method }) issuer book table links asked
-    × (length asked₀ ≡ 2 * roomFor book)
 
 abbrev μ-loop : tie.MeasureT-loop
 μ-loop request issuer account method book table links heads asked₀ at₀ k₀ asked at k = length request - at
 
 loop-holds : tie.Need-loop-holds Inv-loop μ-loop
-loop-holds c = search (needs, names-start, notes-length)
+loop-holds c = search (needs, names-start)
 
 requested-name-requires : tie.Need-requested-name-requires Inv-loop μ-loop
 requested-name-requires c κs = search needs
@@ -86,7 +83,10 @@ enum-told-3 : tie.Need-enum-told-3 Inv-loop μ-loop
 enum-told-3 c = search needs
 
 same-length-2 : tie.Need-same-length-2 Inv-loop μ-loop
-same-length-2 c = search (needs, same-notes)
+same-length-2 c =
+    let walk = c .before .before .before .before .before .before .before .before .before .before .before .before .before .before .before in
+    let start = walk .before .before .before .before .before .before .before .before .before .before in
+    search (needs, same-notes _ _ _ _ _ _ _ (walk .loop .inv .1) (start .pre .1))
 
 returns-2 : tie.Need-returns-2 Inv-loop μ-loop
 returns-2 c = search (needs, name-denied)
