@@ -32,7 +32,7 @@ shared-slice-read-question : tie.Need-shared-slice-read-question Inv-loop μ-loo
 shared-slice-read-question c = search needs
 
 cast-question : tie.Need-cast-question Inv-loop μ-loop
-cast-question c = omega (arith, c .shared-slice-known5 .given (c .before .before .before .loop .i))
+cast-question c = omega (arith, c .shared-slice-known7 .given (c .before .before .before .loop .i))
 
 add-i : tie.Need-add-i Inv-loop μ-loop
 add-i c = search needs

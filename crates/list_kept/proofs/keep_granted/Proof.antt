@@ -17,8 +17,8 @@ returns c = kept-parts _ _ _ _ _ _ _ _ (search (needs, not-true, first-governs))
 narrow-requires : tie.Need-narrow-requires
 narrow-requires c κs = search needs
 
-add-t23 : tie.Need-add-t23
-add-t23 c = search needs
+add-t25 : tie.Need-add-t25
+add-t25 c = search needs
 
 same-length-2 : tie.Need-same-length-2
 same-length-2 c = search needs
@@ -37,7 +37,7 @@ keep-granted-spec =
     same-length
     returns
     narrow-requires
-    add-t23
+    add-t25
     same-length-2
     same-length-3
     returns-2)
