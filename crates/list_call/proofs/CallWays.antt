@@ -76,7 +76,7 @@ module _ (who : Applicant) (request book heads : List ℕ) (lent : HeadsLent who
       Lent who request book (replicate m 0) (replicate k noRecord) heads (replicate n 0) (replicate k 0)
   lent-short h rows links names = record {
     names-good = lent .names-good;
-  applicant-good = lent .applicant-good;
+    applicant-good = lent .applicant-good;
     records-good = lent .records-good;
     blank = blank-short book m k heads (lent .headed) h rows links;
     candidates = rw (names, room-short book h);
@@ -88,7 +88,7 @@ module _ (who : Applicant) (request book heads : List ℕ) (lent : HeadsLent who
       Lent who request book (replicate m 0) (replicate k noRecord) heads (replicate n 0) (replicate k 0)
   lent-long h rows links names = record {
     names-good = lent .names-good;
-  applicant-good = lent .applicant-good;
+    applicant-good = lent .applicant-good;
     records-good = lent .records-good;
     blank = blank-long book m k heads (lent .headed) h rows links;
     candidates = rw (names, room-long book h);
@@ -128,7 +128,7 @@ module _ (book names rounds buffer : List ℕ) (p : Permitted) (who : Applicant)
 
   pub anyone-may : not (p .restricted) ≡ true → listIssuers request who book buffer ≡ record { answer = Anyone; buffer = buffer }
   unfolding listIssuers
-  anyone-may e = let answer : issuers (authorizations request who book) ≡ anyone = sym (rw (not-true (p .restricted) e) at (k .issuers-found)) in rw (good .0, good .1 .0, good .1 .1, answer)
+  anyone-may e = let answer : issuers (authorizations request who book) ≡ anyone = sym (rw (not-true (p .restricted) e) at (k .issuers-found)) in rw (good .0, good .1, good .2, answer)
 
   module _ (e : not (p .restricted) ≡ false) where
     abbrev kept : List (List ℕ)
@@ -139,7 +139,7 @@ module _ (book names rounds buffer : List ℕ) (p : Permitted) (who : Applicant)
 
     names-short : All (λ n. length n < 256) kept
     unfolding maxIssuerOctets
-    names-short = All-imp (λ n w. omega (arith, w .0 .1)) (permitted-issuers request who book (good .0) (good .1 .0) (good .1 .1) .well-formed kept may-sign)
+    names-short = All-imp (λ n w. omega (arith, w .0 .1)) (permitted-issuers request who book (good .0) (good .1) (good .2) .well-formed kept may-sign)
 
     -- s is the size of the list, and the buffer behind the call of put_entries is `after`
     module _ (s : ListSize) (h : s ≡ sizeOf (keptNames book names (p .count) rounds (p .round))) (after : List ℕ)
@@ -155,8 +155,8 @@ module _ (book names rounds buffer : List ℕ) (p : Permitted) (who : Applicant)
       no-room short =
           rw (
             good .0,
-            good .1 .0,
-            good .1 .1,
+            good .1,
+            good .2,
             may-sign,
             ← entries-short kept names-short,
             w,
@@ -169,8 +169,8 @@ module _ (book names rounds buffer : List ℕ) (p : Permitted) (who : Applicant)
       names-listed fits =
           rw (
             good .0,
-            good .1 .0,
-            good .1 .1,
+            good .1,
+            good .2,
             may-sign,
             ← entries-short kept names-short,
             w,
