@@ -97,7 +97,17 @@ fn judge_names(
         if asked[question] {
             continue;
         }
-        let judgement = judge_by_set(issuer, account, method, book, table, links, name, set, n.wildcard);
+        let judgement = judge_by_set(
+            issuer,
+            account,
+            method,
+            book,
+            table,
+            links,
+            name,
+            set,
+            n.wildcard,
+        );
         let Judgement::Permitted = judgement else {
             return judgement;
         };
@@ -122,11 +132,28 @@ fn judge_in(
     ensures { λ r. ⌜ r ≡ judge (now (request .entry)) (now (issuer .entry)) (record { account = now (account .entry); method = now (method .entry) }) (now (book .entry)) ⌝ }
 {
     book_index::index_book(book, table, links, heads);
-    judge_names(request, issuer, account, method, book, table, links, heads, asked)
+    judge_names(
+        request,
+        issuer,
+        account,
+        method,
+        book,
+        table,
+        links,
+        heads,
+        asked,
+    )
 }
 
 // For a short book small arrays are enough, and are cleared faster.
-fn judge_short(request: &[u8], issuer: &[u8], account: &[u8], method: &[u8], book: &[u8], heads: &mut [u16]) -> Judgement
+fn judge_short(
+    request: &[u8],
+    issuer: &[u8],
+    account: &[u8],
+    method: &[u8],
+    book: &[u8],
+    heads: &mut [u16],
+) -> Judgement
     requires { ⌜ HeadsLent (record { account = now account; method = now method }) (now request) (now issuer) (now book) (now heads) × (length (now book) ≤ shortBook) ⌝ }
     ensures { λ r. ⌜ r ≡ judge (now (request .entry)) (now (issuer .entry)) (record { account = now (account .entry); method = now (method .entry) }) (now (book .entry)) ⌝ }
 {
@@ -147,7 +174,14 @@ fn judge_short(request: &[u8], issuer: &[u8], account: &[u8], method: &[u8], boo
 }
 
 // For any other book.
-fn judge_long(request: &[u8], issuer: &[u8], account: &[u8], method: &[u8], book: &[u8], heads: &mut [u16]) -> Judgement
+fn judge_long(
+    request: &[u8],
+    issuer: &[u8],
+    account: &[u8],
+    method: &[u8],
+    book: &[u8],
+    heads: &mut [u16],
+) -> Judgement
     requires { ⌜ HeadsLent (record { account = now account; method = now method }) (now request) (now issuer) (now book) (now heads) × (shortBook < length (now book)) ⌝ }
     ensures { λ r. ⌜ r ≡ judge (now (request .entry)) (now (issuer .entry)) (record { account = now (account .entry); method = now (method .entry) }) (now (book .entry)) ⌝ }
 {
@@ -168,7 +202,13 @@ fn judge_long(request: &[u8], issuer: &[u8], account: &[u8], method: &[u8], book
 }
 
 // Judges accepted inputs.
-fn judge_accepted(request: &[u8], issuer: &[u8], account: &[u8], method: &[u8], book: &[u8]) -> Judgement
+fn judge_accepted(
+    request: &[u8],
+    issuer: &[u8],
+    account: &[u8],
+    method: &[u8],
+    book: &[u8],
+) -> Judgement
     requires { ⌜ firstRefusal (judgeChecks (now request) (now issuer) (record { account = now account; method = now method }) (now book)) ≡ none ⌝ }
     ensures { λ r. ⌜ r ≡ judge (now (request .entry)) (now (issuer .entry)) (record { account = now (account .entry); method = now (method .entry) }) (now (book .entry)) ⌝ }
 {

@@ -63,12 +63,29 @@ fn list_in(
     ensures octets { λ r. ⌜ now (buffer .exit) ≡ listIssuers (now (request .entry)) (record { account = now (account .entry); method = now (method .entry) }) (now (book .entry)) (now (buffer .entry)) .buffer ⌝ }
 {
     book_index::index_book(book, table, links, heads);
-    let found = list_find::find_permitted(request, account, method, book, table, links, heads, names, rounds);
+    let found = list_find::find_permitted(
+        request,
+        account,
+        method,
+        book,
+        table,
+        links,
+        heads,
+        names,
+        rounds,
+    );
     put_list(book, names, rounds, found, buffer)
 }
 
 // A short book has few records, and small arrays have room for all of them: less has to be cleared first.
-fn list_short(request: &[u8], account: &[u8], method: &[u8], book: &[u8], heads: &mut [u16], buffer: &mut [u8]) -> PermittedIssuers
+fn list_short(
+    request: &[u8],
+    account: &[u8],
+    method: &[u8],
+    book: &[u8],
+    heads: &mut [u16],
+    buffer: &mut [u8],
+) -> PermittedIssuers
     requires { ⌜ HeadsLent (record { account = now account; method = now method }) (now request) (now book) (now heads) × (length (now book) ≤ shortBook) ⌝ }
     ensures answer { λ r. ⌜ r ≡ listIssuers (now (request .entry)) (record { account = now (account .entry); method = now (method .entry) }) (now (book .entry)) (now (buffer .entry)) .answer ⌝ }
     ensures octets { λ r. ⌜ now (buffer .exit) ≡ listIssuers (now (request .entry)) (record { account = now (account .entry); method = now (method .entry) }) (now (book .entry)) (now (buffer .entry)) .buffer ⌝ }
@@ -92,7 +109,14 @@ fn list_short(request: &[u8], account: &[u8], method: &[u8], book: &[u8], heads:
 }
 
 // Any other book.
-fn list_long(request: &[u8], account: &[u8], method: &[u8], book: &[u8], heads: &mut [u16], buffer: &mut [u8]) -> PermittedIssuers
+fn list_long(
+    request: &[u8],
+    account: &[u8],
+    method: &[u8],
+    book: &[u8],
+    heads: &mut [u16],
+    buffer: &mut [u8],
+) -> PermittedIssuers
     requires { ⌜ HeadsLent (record { account = now account; method = now method }) (now request) (now book) (now heads) × (shortBook < length (now book)) ⌝ }
     ensures answer { λ r. ⌜ r ≡ listIssuers (now (request .entry)) (record { account = now (account .entry); method = now (method .entry) }) (now (book .entry)) (now (buffer .entry)) .answer ⌝ }
     ensures octets { λ r. ⌜ now (buffer .exit) ≡ listIssuers (now (request .entry)) (record { account = now (account .entry); method = now (method .entry) }) (now (book .entry)) (now (buffer .entry)) .buffer ⌝ }
@@ -116,7 +140,13 @@ fn list_long(request: &[u8], account: &[u8], method: &[u8], book: &[u8], heads: 
 }
 
 // The list stands at the front of the buffer, and the rest stays.
-pub fn permitted_issuers(request: &[u8], account: &[u8], method: &[u8], book: &[u8], buffer: &mut [u8]) -> PermittedIssuers
+pub fn permitted_issuers(
+    request: &[u8],
+    account: &[u8],
+    method: &[u8],
+    book: &[u8],
+    buffer: &mut [u8],
+) -> PermittedIssuers
     ensures answer { λ r. ⌜ r ≡ listIssuers (now (request .entry)) (record { account = now (account .entry); method = now (method .entry) }) (now (book .entry)) (now (buffer .entry)) .answer ⌝ }
     ensures octets { λ r. ⌜ now (buffer .exit) ≡ listIssuers (now (request .entry)) (record { account = now (account .entry); method = now (method .entry) }) (now (book .entry)) (now (buffer .entry)) .buffer ⌝ }
 {

@@ -23,7 +23,8 @@ pub fn collect(
     let mut count: usize = 0;
     let mut at: usize = by.set;
     loop {
-        let NextGrant::At(g) = list_grants::next_grant(account, method, book, table, links, by, at) else {
+        let NextGrant::At(g) = list_grants::next_grant(account, method, book, table, links, by, at)
+        else {
             return count;
         };
         at = book_chains::behind(links, g.rr);
@@ -52,7 +53,8 @@ pub fn narrow(
 {
     let mut at: usize = by.set;
     loop {
-        let NextGrant::At(g) = list_grants::next_grant(account, method, book, table, links, by, at) else {
+        let NextGrant::At(g) = list_grants::next_grant(account, method, book, table, links, by, at)
+        else {
             return;
         };
         at = book_chains::behind(links, g.rr);

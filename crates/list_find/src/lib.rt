@@ -39,5 +39,15 @@ pub fn find_permitted(
         };
     };
     let n = list_sets::ask_once(&mut numbers, noted);
-    list_kept::ask_sets(account, method, book, table, links, &numbers, n, names, rounds)
+    list_kept::ask_sets(
+        account,
+        method,
+        book,
+        table,
+        links,
+        &numbers,
+        n,
+        names,
+        rounds,
+    )
 }

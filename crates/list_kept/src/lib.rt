@@ -37,7 +37,18 @@ fn keep_granted(
     }
     let count = p.count;
     let round = p.round;
-    list_collect::narrow(account, method, book, table, links, by, names, count, rounds, round);
+    list_collect::narrow(
+        account,
+        method,
+        book,
+        table,
+        links,
+        by,
+        names,
+        count,
+        rounds,
+        round,
+    );
     Permitted {
         restricted: true,
         count,

@@ -152,9 +152,7 @@ fn run(
     book: &[u8],
     buffer: &mut [u8],
 ) {
-    print_answer(answer(
-        call, request, issuer, account, method, book, buffer,
-    ));
+    print_answer(answer(call, request, issuer, account, method, book, buffer));
     if call != 1 {
         print_buffer(buffer);
     }
