@@ -1,7 +1,7 @@
 #!/usr/bin/env bash
 # All tests. The documents come first, which takes seconds. Then `rt ci` checks the proofs, the deliberately wrong versions and the stored
-# runs. The rest works on the library and the program that `rt ci` has just proved. The last line of `rt ci` is held back until all else
-# has passed.
+# runs; what needs no proof runs beside it. The rest works on the library and the program that `rt ci` has just proved. The last line of
+# `rt ci` is held back until all else has passed.
 set -euo pipefail
 script='test'
 cd "$(dirname "$0")"
@@ -49,16 +49,29 @@ python3 tools/test_check_docs.py
 python3 tools/check-docs.py
 python3 tools/figures.py --check
 
+# What needs nothing of target/. It fills the time in which rt waits for the slowest of its checks.
+beside() {
+    set -e
+    note "the independent implementation on its stored cases"
+    cargo test --quiet --offline --locked --manifest-path compare/Cargo.toml
+    independent -- cases
+    note "the tools and the stored runs"
+    python3 tools/test_caa_files.py
+    python3 crates/test_runs/make.py --check
+}
+
 said=$(mktemp)
-trap 'rm -f "$said"' EXIT
+said_beside=$(mktemp)
+beside > "$said_beside" 2>&1 &
+beside=$!
+trap 'kill "$beside" 2> /dev/null || :; rm -f "$said" "$said_beside"' EXIT
 crates=$(crates_for "")
 edits=$(find crates -path '*/must-fail/*.edit' | wc -l)
 note "proving $crates crates from scratch and trying $edits wrong versions; about 20 minutes"
 rt ci 2>&1 | tee "$said" | progress "$crates" "$edits" | sed '$d' || { tail -n 1 "$said"; exit 1; }
 
-note "the independent implementation on its stored cases"
-cargo test --quiet --offline --locked --manifest-path compare/Cargo.toml
-independent -- cases
+wait "$beside" || { cat "$said_beside"; note "the tests beside the proofs have failed"; exit 1; }
+cat "$said_beside"
 note "the library against the independent implementation"
 rt staticlib test_readers
 rt staticlib splinepearl
@@ -67,9 +80,7 @@ note "linking"
 bash examples/link.sh
 note "the desk program and the scripts"
 bash desk-runs/test.sh
-note "the tools and the stored runs"
-python3 tools/test_caa_files.py
+note "the frauds that a reader tries"
 python3 tools/test_try_fraud.py
-python3 crates/test_runs/make.py --check
 
 tail -n 1 "$said"

@@ -248,6 +248,15 @@ begin 'a tag past the data'
 { name example.com; fields 257 7; octets 0 6; printf issue; } > book.bin
 expect 'refused 6 at 0'
 
+# A tag is letters and digits.
+begin 'a tag octet that is no letter or digit'
+{ caa elsewhere.example 0 T0z x; caa elsewhere.example 0 tb_s x; } > book.bin
+expect 'refused 6 at 1'
+
+begin 'a hyphen in a tag, critical'
+caa example.com 128 a-b x > book.bin
+expect 'refused 6 at 0'
+
 # The critical flag is the bit worth 128.
 begin 'an unknown tag with flags 128'
 caa example.com 128 tbs Unknown > book.bin

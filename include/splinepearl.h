@@ -46,7 +46,8 @@ enum caa_answer {
     CAA_TOO_MANY_NAMES = 3,    /* octets are left after 250 valid names; a = 250 */
     CAA_BAD_ISSUER = 4,        /* issuer domain name breaks a rule */
     CAA_BOOK_TOO_LONG = 5,     /* book over 49,152 octets */
-    CAA_BAD_RECORD = 6,        /* a record or its CAA data is malformed; a = number of the record */
+    CAA_BAD_RECORD = 6,        /* a record or its CAA data is malformed, or a tag isn't letters and digits only;
+                                  a = number of the record */
     CAA_TOO_MANY_RECORDS = 7,  /* octets are left after 1,024 valid records; a = 1,024 */
     CAA_NO_ROOM = 8,           /* buffer shorter than the output; a = octets needed */
     CAA_BAD_LINE = 9,          /* line breaks a rule */

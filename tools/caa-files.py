@@ -77,6 +77,7 @@ DEFAULT_TTL = 3600
 
 LETTERS_DIGITS = frozenset((string.ascii_letters + string.digits).encode())
 RECORD_FORM = 'a record is: owner [TTL] [IN] CAA flags tag "value"'
+TAG_ADVICE = "A book with any other tag is refused. Don't leave the record out: its owner has to correct it"
 LOOKUP = "dig +noall +comments +question +answer NAME CAA"
 
 
@@ -317,7 +318,8 @@ def caa_data(text):
     if not re.fullmatch("[0-9]{1,3}", flags) or int(flags) > 255:
         raise Fault(f"flags are a number from 0 to 255, not {flags or 'nothing'}; {RECORD_FORM}")
     if not re.fullmatch("[A-Za-z0-9]{1,255}", tag):
-        raise Fault(f"a tag is 1 to 255 letters and digits, not {tag or 'nothing'}; {RECORD_FORM}")
+        advice = f". {TAG_ADVICE}" if tag else ""
+        raise Fault(f"a tag is 1 to 255 letters and digits, not {tag or 'nothing'}; {RECORD_FORM}{advice}")
     if not value:
         raise Fault('the value is missing: write "" for an empty one')
     return bytes([int(flags), len(tag)]) + tag.encode() + value_of(value)
@@ -346,7 +348,11 @@ def property_of(data):
         raise Fault("the tag of the CAA data is empty")
     if length + 2 > len(data):
         raise Fault(f"CAA data of {len(data)} octets has no room for a tag of {length}")
-    return data[0], data[2 : 2 + length], data[2 + length :]
+    tag = data[2 : 2 + length]
+    if not LETTERS_DIGITS.issuperset(tag):
+        shown_tag = "".join(octet_text(octet, "\\") for octet in tag)
+        raise Fault(f"the tag of the CAA data is {shown_tag}, and a tag is letters and digits. {TAG_ADVICE}")
+    return data[0], tag, data[2 + length :]
 
 
 # ---- The lines of a text file
@@ -862,12 +868,10 @@ def record_text(labels, rr_type, rr_class, ttl, data):
 
 
 def caa_text(data):
-    """None where the data has no such text: laid out wrongly, or a tag with other octets."""
+    """None where the data is malformed, and has no such text."""
     try:
         flags, tag, value = property_of(data)
     except Fault:
-        return None
-    if not LETTERS_DIGITS.issuperset(tag):
         return None
     quoted = "".join(" " if octet == 32 else octet_text(octet, '\\"') for octet in value)
     return f'CAA {flags} {tag.decode()} "{quoted}"'
@@ -925,6 +929,20 @@ def names_shown(file, octets):
 
 def records_shown(file, octets):
     return shown(file, octets, lambda reader: record_text(*reader.record()), "record")
+
+
+def refused_records(file, octets):
+    """Of records that can be shown, the reason for each whose CAA data is malformed: the desk program refuses a book at the first."""
+    reader = Reader(octets)
+    number = 0
+    while reader.at < len(octets):
+        _, rr_type, rr_class, _, data = reader.record()
+        try:
+            if (rr_type, rr_class) == (TYPE_CAA, CLASS_IN):
+                property_of(data)
+        except Fault as fault:
+            yield f"{file}: record {number} is refused: {fault}"
+        number += 1
 
 
 # ---- Files and commands
@@ -1080,13 +1098,16 @@ def show(options):
     ]:
         path = os.path.join(options.folder, file)
         try:
-            texts = texts_of(path, file_octets(path))
+            octets = file_octets(path)
+            texts = texts_of(path, octets)
         except Fault as fault:
             faults.append(str(fault))
             continue
         print(f"{file}:" if texts else f"{file}: empty")
         for number, text in enumerate(texts):
             print(f"  {what} {number}: {text}" if what else f"  {text}")
+        if what == "record":
+            faults += refused_records(path, octets)
     if faults:
         raise Fault("\n".join(faults))
 
@@ -1099,12 +1120,17 @@ def issuer_shown(path, octets):
     return [octets.decode()]
 
 
-def print_texts(texts_of):
-    def command(options):
-        for text in texts_of(options.file, file_octets(options.file)):
-            print(text)
+def print_names(options):
+    for text in names_shown(options.file, file_octets(options.file)):
+        print(text)
 
-    return command
+
+def print_records(options):
+    octets = file_octets(options.file)
+    for text in records_shown(options.file, octets):
+        print(text)
+    if faults := list(refused_records(options.file, octets)):
+        raise Fault("\n".join(faults))
 
 
 class Parser(argparse.ArgumentParser):
@@ -1151,8 +1177,8 @@ def arguments():
     command = add("show", "Shows the request.bin, issuer.txt and book.bin of FOLDER as text.", show)
     command.add_argument("folder", metavar="FOLDER", help="the folder that has the three files")
 
-    for name, texts_of, file in [("names", names_shown, "request.bin"), ("records", records_shown, "book.bin")]:
-        command = add(name, f"Prints a {file} as a {name}.txt.", print_texts(texts_of))
+    for name, print_all, file in [("names", print_names, "request.bin"), ("records", print_records, "book.bin")]:
+        command = add(name, f"Prints a {file} as a {name}.txt.", print_all)
         command.add_argument("file", metavar="FILE", help=f"a {file}; - is standard input")
     return parser
 

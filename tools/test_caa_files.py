@@ -142,7 +142,13 @@ class Faults(unittest.TestCase):
                 (r"a CAA \# 3 000241", "no room for a tag of 2"),
                 ("a CAA 256 issue x", "0 to 255"),
                 ("a CAA issue x", "0 to 255"),
-                ("a CAA 0 tb_s x", "letters and digits"),
+                (r"a CAA \# 6 0004 74625F73", "tag of the CAA data is tb_s, and a tag is letters and digits. A book with any other tag is ref"),
+                (r"a CAA \# 6 8004 74625F73", "tb_s"),
+                (r"a TYPE257 \# 5 0003 612D62", "a-b"),
+                (r"a TYPE257 \# 5 0003 005CFF", r"is \\000\\\\\\255,"),
+                ("a CAA 0 tb_s x", 'letters and digits, not tb_s; a record is: .*"value". A book with any other tag is refused'),
+                ("a CAA 128 a-b x", "letters and digits, not a-b"),
+                ('a CAA 0 "issue" x', 'letters and digits, not "issue"'),
                 ("a CAA 0 issue", "value is missing"),
                 ('a CAA 0 issue "x', "closing quote"),
                 ('a CAA 0 issue "x" ; mine', "; mine stands behind"),
@@ -220,7 +226,7 @@ class ThereAndBack(unittest.TestCase):
         rr_type, rr_class = chance.choice([(257, 1), (257, 1), (1, 1), (257, 3), (65_535, 65_535)])
         data = chance.randbytes(chance.randrange(40))
         if (rr_type, rr_class) == (257, 1):
-            tag = chance.choice([b"issue", b"IssueWild", b"tb_s", b"\0"])
+            tag = chance.choice([b"issue", b"IssueWild", b"T0Z", b"9"])
             data = chance.randbytes(1) + bytes([len(tag)]) + tag + data
         numbers = rr_type.to_bytes(2, "big") + rr_class.to_bytes(2, "big") + chance.randbytes(4)
         return caa.wire_name(labels) + numbers + len(data).to_bytes(2, "big") + data
@@ -736,6 +742,39 @@ class Commands(unittest.TestCase):
         self.assertEqual((status, out), (1, "book.bin: empty\n"))
         self.assertIn("request.bin: No such file", error)
         self.assertIn("issuer.txt: the issuer name has a line end", error)
+
+    def test_show_tells_why_a_record_is_refused(self):
+        def caa_record(data, rr_class=1):
+            return b"\1a\0\1\1\0" + bytes([rr_class]) + bytes(5) + bytes([len(data)]) + data
+
+        good, tag, short = caa_record(b"\0\1t_"), caa_record(b"\0\4tb_s"), caa_record(b"\0")
+        self.write("book.bin", good + tag + caa_record(b"\0\4tb_s", 3) + short)
+        texts = [r'a 0 IN CAA 0 t "_"', r"a 0 IN TYPE257 \# 6 000474625F73", r"a 0 CLASS3 TYPE257 \# 6 000474625F73", r"a 0 IN TYPE257 \# 1 00"]
+        reasons = [
+            "record 1 is refused: the tag of the CAA data is tb_s, and a tag is letters and digits. A book with any other tag is refused.",
+            "record 3 is refused: CAA data of 1 octets; it has at least flags and the tag's length",
+        ]
+        status, out, error = self.run_tool("show", self.folder)
+        self.assertEqual((status, out), (1, "book.bin:\n" + "".join(f"  record {n}: {text}\n" for n, text in enumerate(texts))))
+        for command, path in [("show", self.folder), ("records", self.path("book.bin"))]:
+            status, out, error = self.run_tool(command, path)
+            self.assertEqual(status, 1)
+            for text in texts:
+                self.assertIn(text + "\n", out)
+            lines = [line for line in error.splitlines() if "record" in line]
+            self.assertEqual(len(lines), 2, error)
+            for line, reason in zip(lines, reasons):
+                self.assertIn(self.path("book.bin") + ": " + reason, line)
+        # Written as such lines, the records are refused too.
+        self.write("names.txt", "a\n")
+        for text, reason in [(texts[1], "tb_s"), (texts[3], "at least")]:
+            self.write("records.txt", texts[0] + "\n" + text + "\n")
+            status, out, error = self.make("--force")
+            self.assertEqual((status, out), (1, ""))
+            self.assertIn("records.txt:2: ", error)
+            self.assertIn(reason, error)
+        self.write("records.txt", texts[0] + "\n" + texts[2] + "\n")
+        self.assertEqual(self.make("--force")[0], 0)
 
     def test_nothing_is_overwritten(self):
         self.whole_case()

@@ -37,6 +37,11 @@ impl Property<'_> {
         self.flags & CRITICAL != 0
     }
 
+    /// RFC 8659 section 4.1 has letters and digits in a tag and nothing else.
+    pub fn has_good_tag(&self) -> bool {
+        self.tag.iter().all(u8::is_ascii_alphanumeric)
+    }
+
     /// Property tags match whatever their letter case.
     pub fn has_tag(&self, tag: &str) -> bool {
         self.tag.eq_ignore_ascii_case(tag.as_bytes())
@@ -78,13 +83,18 @@ pub struct RawRecord<'a> {
 }
 
 impl<'a> RawRecord<'a> {
-    /// `None` when CAA data is laid out wrongly.
+    /// `None` when CAA data is laid out wrongly, or its tag holds another octet than letters and
+    /// digits.
     pub fn data(&self) -> Option<RecordData<'a>> {
-        if self.class == CLASS_IN && self.rtype == TYPE_CAA {
-            read_property(self.rdata).map(RecordData::Caa)
-        } else {
-            Some(RecordData::Other)
+        if !self.is_caa() {
+            return Some(RecordData::Other);
         }
+        let property = read_property(self.rdata)?;
+        property.has_good_tag().then_some(RecordData::Caa(property))
+    }
+
+    pub fn is_caa(&self) -> bool {
+        self.class == CLASS_IN && self.rtype == TYPE_CAA
     }
 }
 
@@ -110,7 +120,7 @@ fn read_number(octets: &[u8]) -> Option<(u16, &[u8])> {
     Some((u16::from_be_bytes(*number), rest))
 }
 
-/// Reads CAA data.
+/// Reads the layout of CAA data. Which octets its tag holds is for the caller.
 pub fn read_property(rdata: &[u8]) -> Option<Property<'_>> {
     let (&[flags, tag_length], rest) = rdata.split_first_chunk()?;
     let (tag, value) = rest.split_at_checked(usize::from(tag_length))?;
@@ -171,6 +181,27 @@ mod tests {
                 read_book(&octets).unwrap_err(),
                 Refusal::BadRecord { record: 0 }
             );
+        }
+    }
+
+    #[test]
+    fn a_tag_octet_that_is_no_letter_or_digit_is_refused() {
+        for octet in 0..=255_u8 {
+            for place in 2..5 {
+                for flags in [0, 128] {
+                    let mut rdata = [flags, 3, b'T', b'0', b'Z', b'_', octet];
+                    rdata[place] = octet;
+                    let octets = [record(16, 1, b""), record(257, 1, &rdata)].concat();
+                    assert_eq!(
+                        read_book(&octets).err(),
+                        match octet {
+                            b'0'..=b'9' | b'A'..=b'Z' | b'a'..=b'z' => None,
+                            _ => Some(Refusal::BadRecord { record: 1 }),
+                        }
+                    );
+                    assert!(read_book(&record(257, 3, &rdata)).is_ok());
+                }
+            }
         }
     }
 

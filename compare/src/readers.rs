@@ -1,7 +1,7 @@
 //! The readers under the two calls, each answering in one word, so that those of another
 //! implementation can be tried by themselves. A place counts octets from 0 over the octets given.
 
-use crate::book::{read_property, read_raw_record};
+use crate::book::{read_property, read_raw_record, Property};
 use crate::name::read_name;
 use crate::request::read_requested_name;
 use crate::rule::KNOWN_TAGS;
@@ -45,9 +45,17 @@ impl Readers {
         value,
     };
 
-    /// The same, but a record with wrong CAA data is a fault.
+    /// The same, but a record whose CAA data is laid out wrongly is a fault.
     pub const OWN_WITH_CAA_DATA: Readers = Readers {
         record: |octets, at| record_with_caa_data(octets, at).unwrap_or(Word::FAULT),
+        ..Readers::OWN
+    };
+
+    /// The same, but a tag with another octet than letters and digits is a fault of CAA data and of
+    /// its record.
+    pub const OWN_WITH_TAGS: Readers = Readers {
+        property: |octets| property_with_tag(octets).unwrap_or(Word::FAULT),
+        record: |octets, at| record_with_tag(octets, at).unwrap_or(Word::FAULT),
         ..Readers::OWN
     };
 }
@@ -73,6 +81,11 @@ fn property(octets: &[u8]) -> Option<Word> {
     Some(Word::with(1, [value_begins, property.flags.into(), 0]))
 }
 
+fn property_with_tag(octets: &[u8]) -> Option<Word> {
+    read_property(octets).filter(Property::has_good_tag)?;
+    property(octets)
+}
+
 fn tag(octets: &[u8]) -> Word {
     let known = KNOWN_TAGS
         .iter()
@@ -91,6 +104,14 @@ fn record(octets: &[u8], at: usize) -> Option<Word> {
 }
 
 fn record_with_caa_data(octets: &[u8], at: usize) -> Option<Word> {
+    let (raw, _) = read_raw_record(octets.get(at..)?)?;
+    if raw.is_caa() {
+        read_property(raw.rdata)?;
+    }
+    record(octets, at)
+}
+
+fn record_with_tag(octets: &[u8], at: usize) -> Option<Word> {
     let (raw, _) = read_raw_record(octets.get(at..)?)?;
     raw.data()?;
     record(octets, at)
@@ -135,6 +156,23 @@ mod tests {
         assert_eq!((OWN.record)(octets, 1), Word::with(1, [16, 4, 14]));
         let with_caa_data = Readers::OWN_WITH_CAA_DATA.record;
         assert_eq!(with_caa_data(octets, 1), Word::FAULT);
+    }
+
+    #[test]
+    fn a_tag_is_looked_into_or_not() {
+        let record = b"\x00\x01\x01\x00\x01\x00\x00\x00\x00\x00\x03\x80\x01_";
+        let of_class_3 = b"\x00\x01\x01\x00\x03\x00\x00\x00\x00\x00\x03\x80\x01_";
+        let good = Word::with(1, [14, 1, 11]);
+        let with_tags = Readers::OWN_WITH_TAGS;
+        assert_eq!((Readers::OWN_WITH_CAA_DATA.record)(record, 0), good);
+        assert_eq!((with_tags.record)(record, 0), Word::FAULT);
+        assert_eq!((with_tags.record)(of_class_3, 0), good);
+        assert_eq!((OWN.property)(b"\x80\x01_"), Word::with(1, [3, 128, 0]));
+        assert_eq!((with_tags.property)(b"\x80\x01_"), Word::FAULT);
+        assert_eq!(
+            (with_tags.property)(b"\x80\x01a_"),
+            Word::with(1, [3, 128, 0])
+        );
     }
 
     #[test]

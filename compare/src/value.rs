@@ -4,8 +4,8 @@
 //! issue-value = *WSP [issuer-domain-name *WSP] [";" *WSP [parameters *WSP]]
 //! ```
 //!
-//! Parameter tags are letters and digits only: the requirements take them as they were before
-//! RFC 8659 let hyphens in.
+//! A parameter tag follows the same rule as a label of the name: letters and digits, and hyphens
+//! between them.
 
 use crate::issuer::{read_issuer, IssuerName};
 use crate::name::is_ldh_label;
@@ -51,9 +51,7 @@ fn is_parameter(octets: &[u8]) -> bool {
     };
     let tag = trim_blanks(&octets[..equals]);
     let value = trim_blanks(&octets[equals + 1..]);
-    !tag.is_empty()
-        && tag.iter().all(u8::is_ascii_alphanumeric)
-        && value.iter().all(u8::is_ascii_graphic)
+    is_ldh_label(tag) && value.iter().all(u8::is_ascii_graphic)
 }
 
 fn trim_blanks(octets: &[u8]) -> &[u8] {
@@ -95,6 +93,29 @@ mod tests {
             read_value(b"\t CA1.example.net ; a=1"),
             IssueValue::Name(b"CA1.example.net")
         );
+    }
+
+    #[test]
+    fn hyphens_stand_inside_a_parameter_tag_only() {
+        let reads = |parameters: &str| {
+            read_value(format!("ca.net;{parameters}").as_bytes()) == IssueValue::Name(b"ca.net")
+        };
+        for good in [
+            "a-b=1",
+            "a--b=",
+            " 0-9 = -",
+            "a-b-c=1 ; d-e=2",
+            "a=-",
+            "a=1-",
+        ] {
+            assert!(reads(good), "{good}");
+        }
+        for bad in [
+            "-t=1", "t-=1", "-=1", "--=1", "t--=1", "--t=1", "t- =1", "t -u=1", "t- u=1",
+            "a=1;-t=1", "a=1;t-=1", "-t=1;a=1", "t-", "-",
+        ] {
+            assert!(!reads(bad), "{bad}");
+        }
     }
 
     #[test]

@@ -64,6 +64,17 @@ fn a_record_may_be_read_with_or_without_its_caa_data() {
     let comparison = compared(other, 1_000);
     assert!(comparison.is_good(), "{comparison}");
     assert!(comparison.to_string().contains("wrong CAA data is a fault"));
+    assert!(comparison.to_string().contains("a wrong tag is not one"));
+
+    let other = Other {
+        readers: Some(Readers::OWN_WITH_TAGS),
+        ..Other::NOTHING
+    };
+    let comparison = compared(other, 1_000);
+    assert!(comparison.is_good(), "{comparison}");
+    assert!(comparison
+        .to_string()
+        .contains("a wrong tag is one, and is one of the data"));
 
     let now_and_then = |octets: &[u8], at| match octets.len() {
         ..=20 => (Readers::OWN_WITH_CAA_DATA.record)(octets, at),
@@ -74,6 +85,20 @@ fn a_record_may_be_read_with_or_without_its_caa_data() {
             record: now_and_then,
             ..OWN
         }),
+        ..Other::NOTHING
+    };
+    assert!(!compared(other, 1_000).differences.is_empty());
+
+    // Takes a hyphen for a letter.
+    let property = |octets: &[u8]| {
+        let without: Vec<u8> = octets
+            .iter()
+            .map(|o| if *o == b'-' { b'a' } else { *o })
+            .collect();
+        (Readers::OWN_WITH_TAGS.property)(&without)
+    };
+    let other = Other {
+        readers: Some(Readers { property, ..OWN }),
         ..Other::NOTHING
     };
     assert!(!compared(other, 1_000).differences.is_empty());

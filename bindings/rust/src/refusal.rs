@@ -25,7 +25,8 @@ pub enum Refusal {
     BadIssuer,
     /// 5: the book is over 49,152 octets.
     BookTooLong,
-    /// 6: a record, or its CAA data, is malformed.
+    /// 6: a record, or its CAA data, is malformed, or the tag of its CAA data has other octets than
+    /// letters and digits.
     BadRecord {
         /// The number of that record, from 0.
         record: usize,
@@ -116,7 +117,9 @@ impl Refusal {
             Refusal::TooManyNames { .. } => "octets are left after the most names allowed",
             Refusal::BadIssuer => "the issuer domain name breaks a rule",
             Refusal::BookTooLong => "the book is over 49,152 octets",
-            Refusal::BadRecord { .. } => "this record, or its CAA data, is malformed",
+            Refusal::BadRecord { .. } => {
+                "this record or its CAA data is malformed, or its tag isn't letters and digits only"
+            }
             Refusal::TooManyRecords { .. } => "octets are left after the most records allowed",
             Refusal::NoRoom { .. } => "the buffer is shorter than the octets needed",
             Refusal::BadLine => "the line breaks a rule",

@@ -77,6 +77,14 @@ fn books() {
     );
     let empty_tag = record("b", 257, &data(0, "", b"x"));
     refused(&request, &empty_tag, Refusal::BadRecord { record: 0 });
+    // A tag octet that is no letter or digit, critical or not, at an owner that nobody asks for.
+    for flags in [0, 128] {
+        let tagged = |tag| [good.clone(), record("b", 257, &data(flags, tag, b"_"))].concat();
+        judged(&request, &tagged("T0z"));
+        for tag in ["tb_s", "_tbs", "tbs_", "a-b", "issue "] {
+            refused(&request, &tagged(tag), Refusal::BadRecord { record: 1 });
+        }
+    }
     // 256 records were the limit before.
     for records in [256, 257, 1_024] {
         judged(&request, &good.repeat(records));

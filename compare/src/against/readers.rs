@@ -56,11 +56,14 @@ const EXHAUSTED: [(&[u8], usize); 2] = [(b"a-.; =%", 6), (b"\x00\x01\x02a-*@", 5
 
 /// A CAA record of the root that is laid out rightly, with data too short for CAA data.
 const WRONG_CAA_DATA: &[u8] = b"\x00\x01\x01\x00\x01\x00\x00\x00\x00\x00\x00";
+/// The same with CAA data that is laid out rightly, but for the octet of its tag.
+const WRONG_TAG: &[u8] = b"\x00\x01\x01\x00\x01\x00\x00\x00\x00\x00\x03\x00\x01_";
+const WRONG_TAG_DATA: &[u8] = b"\x00\x01_";
 
 pub struct ReadersComparison {
     theirs: Readers,
     ours: Readers,
-    caa_data_is_read: bool,
+    remark: String,
     generator: Generator,
     of_octets: [Tally; 3],
     at_place: [Tally; 3],
@@ -69,17 +72,34 @@ pub struct ReadersComparison {
 
 impl ReadersComparison {
     pub fn new(theirs: Readers, seed: u64) -> ReadersComparison {
-        // A book with wrong CAA data is refused; whether the reader of one record does that or
-        // another is not in the requirements. What it does here it has to do always.
+        // A book with wrong CAA data or a wrong tag is refused; whether the reader of one record
+        // does that, that of CAA data or another is not in the requirements. What one does here it
+        // has to do always.
         let caa_data_is_read = (theirs.record)(WRONG_CAA_DATA, 0) == Word::FAULT;
+        let tag_is_read = (theirs.record)(WRONG_TAG, 0) == Word::FAULT;
+        let tag_is_read_in_data = (theirs.property)(WRONG_TAG_DATA) == Word::FAULT;
+        let is = |fault: bool| if fault { "is" } else { "is not" };
         ReadersComparison {
             theirs,
-            ours: if caa_data_is_read {
-                Readers::OWN_WITH_CAA_DATA
-            } else {
-                Readers::OWN
+            ours: Readers {
+                record: match (caa_data_is_read, tag_is_read) {
+                    (_, true) => Readers::OWN_WITH_TAGS.record,
+                    (true, false) => Readers::OWN_WITH_CAA_DATA.record,
+                    (false, false) => Readers::OWN.record,
+                },
+                property: match tag_is_read_in_data {
+                    true => Readers::OWN_WITH_TAGS.property,
+                    false => Readers::OWN.property,
+                },
+                ..Readers::OWN
             },
-            caa_data_is_read,
+            remark: format!(
+                "record: wrong CAA data {} a fault of the record, a wrong tag {} one, \
+                 and {} one of the data",
+                is(caa_data_is_read),
+                is(tag_is_read),
+                is(tag_is_read_in_data)
+            ),
             generator: Generator::new(seed ^ 0x5EAD),
             of_octets: OF_OCTETS.each_ref().map(Tally::new),
             at_place: AT_PLACE.each_ref().map(Tally::new),
@@ -216,12 +236,7 @@ impl Part for ReadersComparison {
     }
 
     fn remark(&self) -> Option<String> {
-        let is = if self.caa_data_is_read {
-            "is"
-        } else {
-            "is not"
-        };
-        Some(format!("record: wrong CAA data {is} a fault of the record"))
+        Some(self.remark.clone())
     }
 
     fn into_tallies(self: Box<Self>) -> Vec<Tally> {

@@ -197,9 +197,7 @@ fn is_parameter(parameter: &[u8]) -> bool {
         return false;
     };
     let (tag, value) = (trim(&parameter[..equals]), trim(&parameter[equals + 1..]));
-    !tag.is_empty()
-        && tag.iter().all(u8::is_ascii_alphanumeric)
-        && value.iter().all(u8::is_ascii_graphic)
+    is_label(tag) && value.iter().all(u8::is_ascii_graphic)
 }
 
 /// The text without the spaces and tabs around it.
@@ -220,7 +218,7 @@ fn is_issuer_name(text: &[u8]) -> bool {
             .all(|label| label.len() <= LABEL_OCTETS && is_label(label))
 }
 
-/// Letters, digits and hyphens, no hyphen first or last.
+/// Letters, digits and hyphens, no hyphen first or last. A parameter tag has the same rule.
 fn is_label(label: &[u8]) -> bool {
     let is_good = |octet: &u8| octet.is_ascii_alphanumeric() || *octet == b'-';
     label.iter().all(is_good)
@@ -297,7 +295,7 @@ fn take_record<'a>(rest: &mut &'a [u8], number: usize) -> Option<Option<Record<'
     }
     let (&[flags, tag_length], tag_and_value) = data.split_first_chunk()?;
     let (tag, value) = tag_and_value.split_at_checked(usize::from(tag_length))?;
-    if tag.is_empty() {
+    if tag.is_empty() || !tag.iter().all(u8::is_ascii_alphanumeric) {
         return None;
     }
     Some(Some(Record {

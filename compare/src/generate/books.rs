@@ -5,10 +5,16 @@ use super::Generator;
 use crate::limits::{BOOK_OCTETS, BOOK_RECORDS, ISSUER_OCTETS, LABEL_OCTETS};
 
 pub(super) const KNOWN_TAGS: [&[u8]; 3] = [b"issue", b"issuewild", b"iodef"];
-pub(super) const UNKNOWN_TAGS: [&[u8]; 5] = [b"tbs", b"issu", b"issues", b"issuewil", b"tb_s"];
+pub(super) const UNKNOWN_TAGS: [&[u8]; 5] = [b"tbs", b"issu", b"issues", b"issuewil", b"T0Z"];
+/// Those that look like letters or digits, those next to them, and the ends.
+pub(super) const WRONG_TAG_OCTETS: [u8; 14] = *b"-_ /:@[`{\x00\x11\x80\xE1\xFF";
 pub(super) const FLAGS: [u8; 6] = [0, 1, 127, 128, 129, 255];
-const PARAMETERS: [&[u8]; 6] = [b"", b" ", b"a=1", b" a = 1 ; b=", b"a=;", b"a-b=1"];
 const BLANKS: [&[u8]; 4] = [b"", b"", b" ", b"\t "];
+const PARAMETER_TAGS: [&[u8]; 6] = [b"a", b"b0", b"0", b"a-b", b"a--0", b"0-a-b"];
+const WRONG_PARAMETER_TAGS: [&[u8]; 12] = [
+    b"-a", b"a-", b"--a", b"a--", b"-", b"--", b"a -b", b"a- b", b"a b", b"a_b", b"a.b", b"",
+];
+const PARAMETER_VALUES: [&[u8]; 6] = [b"1", b"", b"a", b"-", b"a-b", b"=!~"];
 const NOISE: [&[u8]; 6] = [b".", b"-", b"%", b";", b"\n", b" z"];
 
 impl Generator {
@@ -111,17 +117,39 @@ impl Generator {
         (0..records).flat_map(grant).collect()
     }
 
+    /// A good book but for one record, or two, whose tags hold a wrong octet. Now and then it is cut
+    /// off somewhere behind them or before.
+    pub(super) fn book_with_wrong_tag(&mut self) -> Vec<u8> {
+        let few = |generator: &mut Generator| {
+            let records = generator.near_front(&[0, 1, 2, 3]);
+            (0..records).flat_map(|_| generator.record()).collect()
+        };
+        let mut book: Vec<u8> = few(self);
+        for _ in 0..self.near_front(&[1, 2]) {
+            let owner = self.owner();
+            let rdata = self.caa_data_with_wrong_tag();
+            book.extend(self.record_of(owner, 257, 1, &rdata));
+            book.extend(few(self));
+        }
+        if self.once_in(4) {
+            book.truncate(1 + self.below(book.len()));
+        }
+        book
+    }
+
     /// One good record, CAA or not.
     pub fn record(&mut self) -> Vec<u8> {
         let owner = self.owner();
         if self.once_in(8) {
             let (rtype, class) = self.one_of(&[(1, 1), (257, 3), (1, 257), (5, 1)]);
-            // Often what would count in a CAA record.
-            let rdata = if self.once_in(2) {
-                self.caa_data()
-            } else {
-                let length = self.below(4);
-                self.buffer(length)
+            // Often what would count, or be wrong, in a CAA record.
+            let rdata = match self.below(4) {
+                0 => self.caa_data(),
+                1 => self.caa_data_with_wrong_tag(),
+                _ => {
+                    let length = self.below(4);
+                    self.buffer(length)
+                }
             };
             self.record_of(owner, rtype, class, &rdata)
         } else {
@@ -158,6 +186,20 @@ impl Generator {
         rdata
     }
 
+    /// CAA data that is good but for one octet of its tag.
+    pub(super) fn caa_data_with_wrong_tag(&mut self) -> Vec<u8> {
+        let mut rdata = self.caa_data();
+        let place = 2 + self.below(usize::from(rdata[1]));
+        let octet = self.one_of(&WRONG_TAG_OCTETS);
+        if self.once_in(2) {
+            rdata[place] = octet;
+        } else {
+            rdata.insert(place + self.below(2), octet);
+            rdata[1] += 1;
+        }
+        rdata
+    }
+
     /// An issue value that mostly fits, and sometimes holds a name beyond the limits.
     pub(super) fn value(&mut self) -> Vec<u8> {
         let mut value = self.one_of(&BLANKS).to_vec();
@@ -169,11 +211,39 @@ impl Generator {
         value.extend(self.one_of(&BLANKS));
         if self.once_in(3) {
             value.push(b';');
-            value.extend(self.one_of(&PARAMETERS));
+            value.extend(self.parameters());
         }
         if self.once_in(12) {
             value.extend(self.one_of(&NOISE));
         }
         value
+    }
+
+    /// What stands behind the `;` of a value: no parameter, or one or two that mostly fit.
+    fn parameters(&mut self) -> Vec<u8> {
+        let count = self.near_front(&[1, 2, 0]);
+        let mut text = self.one_of(&BLANKS).to_vec();
+        for number in 0..count {
+            if number > 0 {
+                text.push(b';');
+                text.extend(self.one_of(&BLANKS));
+            }
+            text.extend(self.parameter());
+            text.extend(self.one_of(&BLANKS));
+        }
+        if self.once_in(16) {
+            text.push(b';');
+        }
+        text
+    }
+
+    fn parameter(&mut self) -> Vec<u8> {
+        let tag = match self.below(6) {
+            0 => self.one_of(&WRONG_PARAMETER_TAGS),
+            _ => self.one_of(&PARAMETER_TAGS),
+        };
+        let value = self.one_of(&PARAMETER_VALUES);
+        let [before, behind] = [(); 2].map(|()| self.one_of(&BLANKS));
+        [tag, before, b"=", behind, value].concat()
     }
 }

@@ -71,6 +71,7 @@ impl Generator {
             }
             8 | 9 => self.crowded_book(),
             10 => self.book_of_long_list(),
+            11 | 12 => self.book_with_wrong_tag(),
             _ => self.book(),
         }
     }

@@ -1,6 +1,6 @@
 //! Lines, and the CAA data that lines are written from.
 
-use super::books::{FLAGS, KNOWN_TAGS, UNKNOWN_TAGS};
+use super::books::{FLAGS, KNOWN_TAGS, UNKNOWN_TAGS, WRONG_TAG_OCTETS};
 use super::Generator;
 use crate::limits::{DATA_OCTETS, LINE_OCTETS};
 
@@ -24,7 +24,6 @@ const WRONG_PIECES: [&[u8]; 12] = [
 ];
 /// Octets that stand in a line as they are, with a backslash or by number, and those next to them.
 const VALUE_OCTETS: [u8; 16] = *b"aZ09 !~\"\\\x00\x09\x1F\x7F\x80\xC8\xFF";
-const WRONG_TAG_OCTETS: [u8; 12] = *b"-_ /:@[`{\x00\x11\xE1";
 
 impl Generator {
     /// A line of any kind: good or nearly good, around its limit, or of data around its own.
@@ -67,6 +66,7 @@ impl Generator {
         line.extend(self.near_front(&FIELD_BLANKS));
         line.extend(match self.below(32) {
             0 => vec![b'a'; 254 + self.below(3)],
+            1 if self.once_in(4) => b"tb_s".to_vec(),
             1 => self.one_of(&UNKNOWN_TAGS).to_vec(),
             _ => self.known_tag(),
         });

@@ -18,7 +18,9 @@ impl Generator {
             0 | 1 => self.request(),
             2 => [self.owner(), self.owner()].concat(),
             3 => [self.buffer(2), self.name_around_limit(), self.buffer(2)].concat(),
+            4 if self.once_in(4) => self.book_with_wrong_tag(),
             4 | 5 => [self.record(), self.record()].concat(),
+            6 if self.once_in(4) => self.caa_data_with_wrong_tag(),
             6 => self.caa_data(),
             7 => {
                 let tag = self.one_of(&UNKNOWN_TAGS);

@@ -20,7 +20,7 @@ fn line_of(data: &[u8]) -> Result<Vec<u8>, Refusal> {
         return Err(Refusal::LineOrDataTooLong);
     }
     let property = read_property(data)
-        .filter(|property| property.tag.iter().all(u8::is_ascii_alphanumeric))
+        .filter(|property| property.has_good_tag())
         .ok_or(Refusal::BadData)?;
     let mut line = property.flags.to_string().into_bytes();
     line.push(b' ');

@@ -1,4 +1,4 @@
-// What CAA says of a requested name by its relevant set: which records govern it, if any do.
+// What CAA says about a requested name, given its relevant set: unrestricted, forbidden, or governed by certain records.
 use book_places::FirstRecord;
 use book_places::Governing;
 use book_places::NameAuthorization;
@@ -7,7 +7,7 @@ use spec_refusal::RecordNo;
 ghost use mathlib.Core.Path.{_≡_};
 ghost use Rattle.book_places.specs.NameAuthorizations.{questionNumber, byIssue, byTags, setAuthorization, answerTo};
 
-// The issue records of a set govern, if there are any.
+// The issue records of the set govern. Without any, the name is unrestricted.
 fn by_issue(book: &[u8], table: &[u16], links: &[u16], set: RecordNo) -> NameAuthorization
     ensures { λ r. ⌜ r ≡ byIssue (now (book .entry)) (now (table .entry)) (now (links .entry)) set ⌝ }
 {
@@ -19,7 +19,7 @@ fn by_issue(book: &[u8], table: &[u16], links: &[u16], set: RecordNo) -> NameAut
     NameAuthorization::Governed(Governing { set, first: r, tag })
 }
 
-// For *.X the issuewild records govern if there are any, else the issue records.
+// For X the issue records govern. For *.X the issuewild records govern if there are any, else the issue records.
 fn by_tags(
     book: &[u8],
     table: &[u16],
@@ -40,7 +40,8 @@ fn by_tags(
     NameAuthorization::Governed(Governing { set, first, tag })
 }
 
-// Of X, or of *.X, by its relevant set: an unknown critical record comes before all else.
+// What a relevant set says about X (`wildcard` is false), or about *.X. A critical record with an unknown tag forbids, whatever else the set
+// holds.
 pub fn set_authorization(
     book: &[u8],
     table: &[u16],
@@ -57,7 +58,8 @@ pub fn set_authorization(
     by_tags(book, table, links, set, wildcard)
 }
 
-// The number of the question that a set is asked, for X or for *.X.
+// The number of a question, which is: what does this set say about X, or about *.X? The number is twice the number of the set's first record,
+// and one more for *.X.
 pub fn question_number(set: RecordNo, wildcard: bool) -> usize
     ensures { λ r. ⌜ r ≡ questionNumber set wildcard ⌝ }
 {
@@ -68,7 +70,7 @@ pub fn question_number(set: RecordNo, wildcard: bool) -> usize
     twice
 }
 
-// The answer to the question of a number.
+// The answer to the question with this number.
 pub fn answer_to(book: &[u8], table: &[u16], links: &[u16], question: usize) -> NameAuthorization
     ensures { λ r. ⌜ r ≡ answerTo (now (book .entry)) (now (table .entry)) (now (links .entry)) question ⌝ }
 {

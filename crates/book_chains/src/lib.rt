@@ -1,12 +1,12 @@
-// Chains through the records of a book: those whose owners have one key, in the book's order. All is total: a number past the end of a
-// slice reads as 0, and one that has no place there is not written.
+// Chains through the records of a book: a chain holds the records whose owners have the same key, in the book's order. Every function accepts
+// any numbers: reading past the end of a slice gives 0, and writing past it does nothing.
 use spec_limits::MAX_RECORDS;
 ghost use mathlib.Core.Path.{_≡_};
 ghost use lib.ListN.{getD, set};
 ghost use Rattle.spec_limits.specs.Limits.{maxRecords};
 ghost use Rattle.book_places.specs.Chains.{Chains, atMost, linkedBelow, behind};
 
-// Where a chain goes on behind record i.
+// The record after record i in its chain, or the number of links if the chain ends there.
 pub fn behind(links: &[u16], i: usize) -> usize
     ensures { λ r. ⌜ r ≡ behind (now (links .entry)) i ⌝ }
 {
@@ -21,7 +21,7 @@ pub fn behind(links: &[u16], i: usize) -> usize
     next
 }
 
-// The number at a place.
+// Reads the number at an index; 0 past the end.
 fn number_at(xs: &[u16], at: usize) -> u16
     ensures { λ r. ⌜ r ≡ getD (now (xs .entry)) at 0 ⌝ }
 {
@@ -31,7 +31,7 @@ fn number_at(xs: &[u16], at: usize) -> u16
     xs[at]
 }
 
-// A number put to a place.
+// Writes a number at an index; does nothing past the end.
 fn put_number(xs: &mut [u16], at: usize, x: u16)
     ensures { λ r. ⌜ now (xs .exit) ≡ set (now (xs .entry)) at x ⌝ }
 {
@@ -40,7 +40,7 @@ fn put_number(xs: &mut [u16], at: usize, x: u16)
     }
 }
 
-// No more than a limit.
+// n, or the limit if n is above it.
 fn at_most(limit: usize, n: usize) -> usize
     ensures { λ r. ⌜ r ≡ atMost limit n ⌝ }
 {
@@ -50,7 +50,8 @@ fn at_most(limit: usize, n: usize) -> usize
     n
 }
 
-// Each of the first n records, from the last to the first, put before the first of its key.
+// Puts each of the first n records at the front of the chain of its owner's key. The last record goes first, so that each chain is in the
+// book's order.
 pub fn link(book: &[u8], table: &[u16], n: usize, links: &mut [u16], heads: &mut [u16])
     ensures links { λ r. ⌜ now (links .exit) ≡ linkedBelow (now (book .entry)) (now (table .entry)) (atMost maxRecords n) (record { links = now (links .entry); heads = now (heads .entry) }) .links ⌝ }
     ensures heads { λ r. ⌜ now (heads .exit) ≡ linkedBelow (now (book .entry)) (now (table .entry)) (atMost maxRecords n) (record { links = now (links .entry); heads = now (heads .entry) }) .heads ⌝ }

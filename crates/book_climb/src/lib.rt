@@ -1,10 +1,10 @@
-// The climb: the nearest name, from a name up, that owns CAA records, told by the first of them.
+// The climb of RFC 8659, section 3: from a name upward, it finds the nearest name that owns CAA records, and gives the first of these records.
 use book_places::FirstRecord;
 use read_name::Climb;
 ghost use mathlib.Core.Path.{_≡_};
 ghost use Rattle.book_places.specs.Sets.{nearestRecord};
 
-// A look at each name on the way from X up to the root, which is never looked at.
+// Looks up the name, then its parent, and so on. The root is not looked up.
 pub fn nearest_record(
     book: &[u8],
     table: &[u16],

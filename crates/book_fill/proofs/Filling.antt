@@ -9,14 +9,14 @@ use lib.Seq.{take-at, drop-at, drop-drop, take-nil, take-all, length-take-le}
 use borrow.Author.Tests.{le-leb, lt-leb}
 use Rattle.spec_limits.specs.Limits.{maxBookOctets, maxRecords}
 use Rattle.spec_record.specs.Records.{Record}
-use Rattle.read_record.specs.Places.{recordAt}
+use Rattle.read_record.specs.Places.{fieldsAt}
 use Rattle.read_record.specs.declared.RecordAt.{RecordAt}
 use Rattle.read_record.specs.declared.RecordRead.{RecordRead}
 use Rattle.read_record.specs.declared.RecordRead.the-variants.{Good, Fault}
-use Rattle.read_record.proofs.RecordPlaces.{RecordTo, no-record, record-there}
+use Rattle.read_record.proofs.RecordPlaces.{RecordTo, no-fields, fields-there}
 use Rattle.book_places.specs.Readable.{readable}
-use Rattle.book_places.specs.Table.{row, rowsFrom, tabled, tableOf}
-use Rattle.book_places.proofs.StandingRecords.{ends, few-tabled}
+use Rattle.book_places.specs.Table.{row, rowsFrom, tabled, roomFor, tableOf}
+use Rattle.book_places.proofs.StandingRecords.{ends, room-enough}
 use Rattle.book_fill.specs.Filled.{fillable, filledRows, filledTable, rowAt}
 use Rattle.book_fill.specs.Theorems.{emptyTable, Book-tabled}
 use Rattle.book_fill.proofs.RowLaws.{row-told}
@@ -91,10 +91,10 @@ module _ (book t₀ : List ℕ) where
     pub room-used : length t₀ / 6 ≤ n → Over at n
     room-used h = let zero-left : length t₀ / 6 - n ≡ 0 = omega arith in record { nothing = rw zero-left }
 
-    pub unreadable : (o : RecordRead) → n < maxRecords → o ≡ recordAt book at → o ≡ Fault → Over at n
+    pub unreadable : (o : RecordRead) → n < maxRecords → o ≡ fieldsAt book at → o ≡ Fault → Over at n
     unreadable o h f g =
         let more : maxRecords - n ≡ suc (maxRecords - suc n) = omega arith in
-        record { nothing = rw (more, no-record book at o f g) (take-nil (length t₀ / 6 - n)) }
+        record { nothing = rw (more, no-fields book at o f g) (take-nil (length t₀ / 6 - n)) }
 
     module _ (table : List ℕ) (filling : Filling table at n) where
       module _ (over : Over at n) where
@@ -104,7 +104,7 @@ module _ (book t₀ : List ℕ) where
         pub count-told : n ≡ filledRows book t₀
         count-told = sym (filling .count ∙ rw (over .nothing) (omega arith))
 
-      module _ (o : RecordRead) (p : RecordAt) (few : n < maxRecords) (room : n < length t₀ / 6) (f : o ≡ recordAt book at) (g : o ≡ Good p) where
+      module _ (o : RecordRead) (p : RecordAt) (few : n < maxRecords) (room : n < length t₀ / 6) (f : o ≡ fieldsAt book at) (g : o ≡ Good p) where
         step : (r : Record) → RecordTo book at p r → left at n ≡ r ∷ left (p .next) (suc n)
         step r t =
             let more : maxRecords - n ≡ suc (maxRecords - suc n) = omega arith in
@@ -119,7 +119,7 @@ module _ (book t₀ : List ℕ) where
         pub row-added :
             (table′ : List ℕ) (m : ℕ) → table′ ≡ take (6 * n) table ++ (rowAt at p ++ drop (6 * n + 6) table) → m ≡ n + 1 →
             Filling table′ (p .next) m
-        row-added table′ m e next = let (r, t) = record-there book at o f p g in by r t
+        row-added table′ m e next = let (r, t) = fields-there book at o f p g in by r t
           where
             fits : 6 * n + 6 ≤ length table
             fits = omega (arith, filling .same)
@@ -143,14 +143,14 @@ drop-replicate zero n a = rw sub-zero
 drop-replicate (suc k) zero a = let none : 0 - suc k ≡ 0 = omega arith in rw none
 drop-replicate (suc k) (suc n) a = let one : suc n - suc k ≡ n - k = omega arith in rw one (drop-replicate k n a)
 
-all-fillable : (book : List ℕ) → fillable book (length emptyTable) ≡ tabled book
+all-fillable : (book : List ℕ) → fillable book (length (emptyTable (roomFor book))) ≡ tabled book
 unfolding fillable
 all-fillable book =
-    let room : length emptyTable / 6 ≡ maxRecords = omega (arith, length-replicate {A = ℕ} (6 * maxRecords) 0) in
-    rw room (take-all maxRecords (tabled book) (few-tabled book))
+    let room : length (emptyTable (roomFor book)) / 6 ≡ roomFor book = omega (arith, length-replicate {A = ℕ} (6 * roomFor book) 0) in
+    rw room (take-all (roomFor book) (tabled book) (room-enough book .0))
 
 pub book-tabled : Book-tabled
 unfolding filledTable filledRows tableOf
 book-tabled book =
-    let left : 6 * maxRecords - 6 * length (tabled book) ≡ 6 * (maxRecords - length (tabled book)) = omega arith in
+    let left : 6 * roomFor book - 6 * length (tabled book) ≡ 6 * (roomFor book - length (tabled book)) = omega arith in
     rw (all-fillable book) (rw (drop-replicate, left), refl)

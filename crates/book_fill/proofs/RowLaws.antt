@@ -12,12 +12,12 @@ use Rattle.spec_octets.proofs.ReadAt.{two-octets-at}
 use Rattle.spec_name.specs.Names.{wire}
 use Rattle.spec_name.proofs.NameLaws.{fewer-labels}
 use Rattle.spec_record.specs.Records.{Record, wireRecord}
-use Rattle.read_record.specs.Places.{recordAt}
+use Rattle.read_record.specs.Places.{fieldsAt}
 use Rattle.read_record.specs.declared.RecordAt.{RecordAt}
 use Rattle.read_record.specs.declared.RecordRead.{RecordRead}
 use Rattle.read_record.specs.declared.RecordRead.the-variants.{Good}
 use Rattle.read_record.proofs.RecordFields.{fields-read}
-use Rattle.read_record.proofs.RecordPlaces.{RecordTo, data-long, record-there}
+use Rattle.read_record.proofs.RecordPlaces.{RecordTo, data-long, fields-there}
 use Rattle.book_places.specs.Table.{row}
 use Rattle.book_places.proofs.StandingRecords.{ends}
 use Rattle.book_fill.specs.Filled.{rowAt, RowFits}
@@ -55,5 +55,5 @@ module _ (book : List ℕ) (at : ℕ) (p : RecordAt) (r : Record) (t : RecordTo 
 
 pub row-fits :
     (book : List ℕ) (at : ℕ) (o : RecordRead) (p : RecordAt) → ((i : ℕ) → Fits w8 (getD book i 0)) → length book ≤ maxBookOctets →
-    o ≡ recordAt book at → o ≡ Good p → RowFits at p
-row-fits book at o p octets short f g = let (r, t) = record-there book at o f p g in fits book at p r t octets short
+    o ≡ fieldsAt book at → o ≡ Good p → RowFits at p
+row-fits book at o p octets short f g = let (r, t) = fields-there book at o f p g in fits book at p r t octets short

@@ -1,4 +1,4 @@
-// The table of a book, filled: one row for each record that can be read.
+// Fills the table of a book: one row for each record whose fields can be read.
 use read_record::RecordAt;
 use read_record::RecordRead;
 use spec_limits::MAX_BOOK_OCTETS;
@@ -9,7 +9,7 @@ ghost use Prim.Native.Nat.{_+_, _*_, _≤_};
 ghost use lib.ListN.{length, take, drop};
 ghost use Rattle.book_fill.specs.Filled.{RowFits, rowAt, filledTable, filledRows};
 
-// The row of the record that begins at an offset, as the n-th of the table.
+// Writes row n of the table: the row of the record r, which begins at offset `at` of the book.
 fn put_row(table: &mut [u16], n: usize, at: usize, r: RecordAt)
     requires { ⌜ (6 * n + 6 ≤ length (now table)) × RowFits at r ⌝ }
     ensures { λ _. ⌜ now (table .exit) ≡ take (6 * n) (now (table .entry)) ++ (rowAt at r ++ drop (6 * n + 6) (now (table .entry))) ⌝ }
@@ -23,8 +23,8 @@ fn put_row(table: &mut [u16], n: usize, at: usize, r: RecordAt)
     table[w + 5] = r.class as u16;
 }
 
-// The rows of the records of a book, as many as the table has room for; the answer is how many. What stands behind them stays as it was. A book over
-// its limit has no rows.
+// Writes one row for each record of a book, as far as the table has room, and returns how many. The numbers after the rows stay as they are.
+// A book over the limit gets no rows.
 pub fn fill_table(book: &[u8], table: &mut [u16]) -> usize
     ensures answer { λ r. ⌜ r ≡ filledRows (now (book .entry)) (now (table .entry)) ⌝ }
     ensures rows { λ r. ⌜ now (table .exit) ≡ filledTable (now (book .entry)) (now (table .entry)) ⌝ }
@@ -39,7 +39,7 @@ pub fn fill_table(book: &[u8], table: &mut [u16]) -> usize
         if room <= n {
             return n;
         }
-        let RecordRead::Good(r) = read_record::read_record(book, at) else {
+        let RecordRead::Good(r) = read_record::read_record_fields(book, at) else {
             return n;
         };
         put_row(table, n, at, r);

@@ -1,15 +1,16 @@
 -- The table and the chains that are made of a book: that they are the book's, and for callers the same by the sizes of their arrays.
-use Prim.Native.Nat.{ℕ, _*_}
-use mathlib.Core.Path.{_≡_, ap, _∙_}
+use Prim.Native.Nat.{ℕ, _*_, _≤_, _<_}
+use mathlib.Core.Path.{_≡_, refl, ap, _∙_}
 use mathlib.Core.List.{List}
-use lib.ListN.{replicate}
+use lib.ListN.{length, replicate}
 use Rattle.spec_limits.specs.Limits.{maxRecords}
-use Rattle.book_places.specs.Table.{tableOf}
-use Rattle.book_places.specs.Chains.{Chains, chainsOf, atMost, linkedBelow}
+use Rattle.book_places.specs.Table.{fewRecords, shortBook, tableOf}
+use Rattle.book_places.specs.Chains.{Chains, noRecord, chainsOf, atMost, linkedBelow}
+use Rattle.book_places.proofs.StandingRecords.{room-short, room-long}
 use Rattle.book_chains.proofs.Linking.{book-linked}
 use Rattle.book_fill.specs.Filled.{filledRows, filledTable}
 use Rattle.book_fill.proofs.Filling.{book-tabled}
-use Rattle.book_index.specs.Indexes.{indexedChains}
+use Rattle.book_index.specs.Indexes.{indexedChains, Blank}
 use Rattle.book_index.specs.Theorems.{Book-indexed}
 
 pub book-indexed : Book-indexed
@@ -26,16 +27,24 @@ module _ (book before table : List ℕ) (n : ℕ) (c : Chains) (rows : table ≡
   unfolding indexedChains
   heads-made e = e ∙ rw (rows, count)
 
--- for callers
-module _ (book : List ℕ) (m k : ℕ) (zeros : m ≡ 6 * maxRecords) (ends : k ≡ maxRecords) (x : List ℕ) where
-  pub table-of-book : x ≡ filledTable book (replicate m 0) → x ≡ tableOf book
-  table-of-book e = e ∙ rw zeros (book-indexed book .0)
+-- for callers: what is made in arrays with nothing in them
+module _ (book table links heads : List ℕ) (blank : Blank book table links heads) (x : List ℕ) where
+  pub table-of-book : x ≡ filledTable book table → x ≡ tableOf book
+  table-of-book e = e ∙ rw (blank .rows) (book-indexed book .0)
 
-  made : indexedChains book (replicate m 0) (record { links = replicate k k; heads = replicate k k }) ≡ chainsOf book
-  made = rw (zeros, ends) (book-indexed book .1)
+  made : indexedChains book table (record { links = links; heads = heads }) ≡ chainsOf book
+  made = rw (blank .rows, blank .chained, blank .headed) (book-indexed book .1)
 
-  pub links-of-book : x ≡ indexedChains book (replicate m 0) (record { links = replicate k k; heads = replicate k k }) .links → x ≡ chainsOf book .links
+  pub links-of-book : x ≡ indexedChains book table (record { links = links; heads = heads }) .links → x ≡ chainsOf book .links
   links-of-book e = e ∙ ap (λ c. c .links) made
 
-  pub heads-of-book : x ≡ indexedChains book (replicate m 0) (record { links = replicate k k; heads = replicate k k }) .heads → x ≡ chainsOf book .heads
+  pub heads-of-book : x ≡ indexedChains book table (record { links = links; heads = heads }) .heads → x ≡ chainsOf book .heads
   heads-of-book e = e ∙ ap (λ c. c .heads) made
+
+-- for callers: the arrays of a short book and those of any other, by their sizes
+module _ (book : List ℕ) (m k : ℕ) (heads : List ℕ) (e : heads ≡ replicate maxRecords noRecord) where
+  pub blank-short : length book ≤ shortBook → m ≡ 6 * fewRecords → k ≡ fewRecords → Blank book (replicate m 0) (replicate k noRecord) heads
+  blank-short h zeros ends = rw (e, zeros, ends) (record { rows = rw (room-short book h); chained = rw (room-short book h); headed = refl })
+
+  pub blank-long : shortBook < length book → m ≡ 6 * maxRecords → k ≡ maxRecords → Blank book (replicate m 0) (replicate k noRecord) heads
+  blank-long h zeros ends = rw (e, zeros, ends) (record { rows = rw (room-long book h); chained = rw (room-long book h); headed = refl })

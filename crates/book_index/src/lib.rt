@@ -1,9 +1,9 @@
-// A book read once: the table of its records, and the chains through them.
+// Reads a book once, and makes the table of its records and the chains through them.
 ghost use mathlib.Core.Path.{_≡_};
 ghost use Rattle.book_fill.specs.Filled.{filledTable};
 ghost use Rattle.book_index.specs.Indexes.{indexedChains};
 
-// Into a table of zeros, and links and heads that hold the limit of records everywhere, each with room for every record that a book may have.
+// The caller lends a table of zeros, and links and heads that hold `END` everywhere, with room for the records of the book.
 pub fn index_book(book: &[u8], table: &mut [u16], links: &mut [u16], heads: &mut [u16])
     ensures rows { λ _. ⌜ now (table .exit) ≡ filledTable (now (book .entry)) (now (table .entry)) ⌝ }
     ensures links { λ _. ⌜ now (links .exit) ≡ indexedChains (now (book .entry)) (now (table .entry)) (record { links = now (links .entry); heads = now (heads .entry) }) .links ⌝ }

@@ -1,10 +1,10 @@
-// The key of an owner: a number below the limit of records, the same for texts that are the same, letter case ignored.
+// The key of an owner: a hash of its octets, below `MAX_RECORDS`. Names that are equal, letter case ignored, have the same key.
 use spec_limits::MAX_RECORDS;
 ghost use mathlib.Core.Path.{_≡_};
 ghost use Prim.Native.Nat.{_-_, _<_};
 ghost use Rattle.book_places.specs.Keys.{mixed, keyOf};
 
-// A number mixed with the octets of a text, letter case ignored.
+// A 16-bit hash of a text, started from h; letter case is ignored.
 fn mixed(h: usize, s: &[u8]) -> usize
     requires { ⌜ h < 65536 ⌝ }
     ensures { λ r. ⌜ (r ≡ mixed h (now (s .entry))) × (r < 65536) ⌝ }
@@ -20,7 +20,7 @@ fn mixed(h: usize, s: &[u8]) -> usize
     m
 }
 
-// The difference, or 0 where there is none.
+// a - b, or 0 if b is larger.
 fn less(a: usize, b: usize) -> usize
     ensures { λ r. ⌜ r ≡ a - b ⌝ }
 {
@@ -30,7 +30,7 @@ fn less(a: usize, b: usize) -> usize
     a - b
 }
 
-// The length, the first ten octets and the last six, mixed.
+// The hash of the length, the first ten octets and the last six octets.
 pub fn key_of(x: &[u8]) -> usize
     ensures { λ r. ⌜ r ≡ keyOf (now (x .entry)) ⌝ }
 {

@@ -1,4 +1,4 @@
-// A look at a name: the CAA records with this owner, along the chain of its key.
+// The lookup of a name in a book: its CAA records, found along the chain of its key.
 use book_places::FirstRecord;
 use spec_refusal::RecordNo;
 ghost use mathlib.Core.Path.{_≡_};
@@ -15,7 +15,7 @@ fn is_owned(book: &[u8], table: &[u16], x: &[u8], i: usize) -> bool
     text_compare::same_ignoring_case(book_table::owner_at(book, table, i), x)
 }
 
-// The first CAA record with the owner x along a chain from a record on.
+// The first CAA record with the owner x in a chain, from a record on.
 pub fn next_owned(book: &[u8], table: &[u16], links: &[u16], x: &[u8], from: usize) -> FirstRecord
     ensures { λ r. ⌜ r ≡ firstOf (ownedFrom (now (book .entry)) (now (table .entry)) (now (links .entry)) (now (x .entry)) from) ⌝ }
 {
@@ -29,7 +29,8 @@ pub fn next_owned(book: &[u8], table: &[u16], links: &[u16], x: &[u8], from: usi
     FirstRecord::Nothing
 }
 
-// The next record of a set, from a record of its chain on. A set is named by its first record, whose owner is not compared with itself.
+// The first record of a set in its chain, from record `from` on. The set is named by its first record. At that record the owner is not compared:
+// it would be compared with itself.
 pub fn next_in_set(
     book: &[u8],
     table: &[u16],
@@ -55,7 +56,7 @@ pub fn next_in_set(
     )
 }
 
-// The first CAA record with the owner x. A key without a chain has none.
+// The first CAA record with the owner x, if there is one.
 pub fn first_owned(
     book: &[u8],
     table: &[u16],

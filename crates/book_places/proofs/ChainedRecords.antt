@@ -12,15 +12,15 @@ use borrow.Author.Tests.{ltb-true, lt-ltb, le-ltb, eqb-true, eqb-false, eq-eqb}
 use Rattle.spec_limits.specs.Limits.{maxRecords}
 use Rattle.spec_octets.specs.Lists.{consIf, select}
 use Rattle.spec_octets.proofs.ListLaws.{true-or-false}
-use Rattle.book_places.specs.Table.{tabled, tableOf, ownerAt}
+use Rattle.book_places.specs.Table.{tabled, roomFor, tableOf, ownerAt}
 use Rattle.book_places.specs.Keys.{keyOf}
-use Rattle.book_places.specs.Chains.{Chains, linked, linkedBelow, unlinked, chainsOf, behind, along, chainFrom}
+use Rattle.book_places.specs.Chains.{Chains, linked, linkedBelow, noRecord, unlinked, chainsOf, behind, along, chainFrom}
 use Rattle.book_places.specs.Sets.{isOwned, ownedFrom}
 use Rattle.book_places.specs.Theorems.{numbersFrom, Chains-fit, Chains-skip-nothing}
 use Rattle.book_places.proofs.ChainLaws.{behind-later, chain-step}
 use Rattle.book_places.proofs.KeyLaws.{key-below, same-key}
 use Rattle.book_places.proofs.SetLaws.{owned-both}
-use Rattle.book_places.proofs.StandingRecords.{few-tabled}
+use Rattle.book_places.proofs.StandingRecords.{room-enough}
 
 -- inside a list it is the same what a number past its end would be
 inside : (l : List ℕ) (i a b : ℕ) → i < length l → getD l i a ≡ getD l i b
@@ -63,7 +63,13 @@ select-within p q h (x ∷ xs) = go (p x) (q x) refl refl (select-within p q h x
     go false true e f rest = let z : true ≡ false = sym (h x f) ∙ e in absurd (true≢false z)
     go false false e f rest = rest
 
-module _ (book table : List ℕ) where
+-- no book has a record of the number that ends a chain
+none-there : maxRecords ≤ noRecord
+unfolding maxRecords noRecord
+none-there = omega arith
+
+-- with room for so many records
+module _ (book table : List ℕ) (room : ℕ) (most : room ≤ maxRecords) where
   abbrev key : ℕ → ℕ
   key i = keyOf (ownerAt book table i)
 
@@ -72,12 +78,12 @@ module _ (book table : List ℕ) where
 
   -- m records from i on stand in the chains of their keys
   record Linked (i m : ℕ) (c : Chains) : Type 0 where
-    links-long : length (c .links) ≡ maxRecords
+    links-long : length (c .links) ≡ room
     heads-long : length (c .heads) ≡ maxRecords
-    later : (h : ℕ) → h < maxRecords → i ≤ getD (c .heads) h maxRecords
-    told : (h : ℕ) → h < maxRecords → chainFrom (c .links) (getD (c .heads) h maxRecords) ≡ select (hasKey h) (numbersFrom i m)
+    later : (h : ℕ) → h < maxRecords → i ≤ getD (c .heads) h noRecord
+    told : (h : ℕ) → h < maxRecords → chainFrom (c .links) (getD (c .heads) h noRecord) ≡ select (hasKey h) (numbersFrom i m)
 
-  module _ (i m : ℕ) (c : Chains) (w : Linked (suc i) m c) (small : i < maxRecords) where
+  module _ (i m : ℕ) (c : Chains) (w : Linked (suc i) m c) (small : i < room) where
     abbrev next : Chains
     next = linked book table i c
 
@@ -85,8 +91,8 @@ module _ (book table : List ℕ) where
     abbrev second : ℕ
     second = getD (c .heads) (key i) 0
 
-    second-head : second ≡ getD (c .heads) (key i) maxRecords
-    second-head = inside (c .heads) (key i) 0 maxRecords (rw (w .heads-long) (key-below (ownerAt book table i)))
+    second-head : second ≡ getD (c .heads) (key i) noRecord
+    second-head = inside (c .heads) (key i) 0 noRecord (rw (w .heads-long) (key-below (ownerAt book table i)))
 
     second-later : i < second
     second-later = rw second-head (w .later (key i) (key-below (ownerAt book table i)))
@@ -95,13 +101,13 @@ module _ (book table : List ℕ) where
     unfolding behind
     behind-new = rw (getD-set-same (c .links) i second 0 (rw (w .links-long) small), lt-ltb i second second-later)
 
-    head-new : getD (next .heads) (key i) maxRecords ≡ i
-    head-new = getD-set-same (c .heads) (key i) i maxRecords (rw (w .heads-long) (key-below (ownerAt book table i)))
+    head-new : getD (next .heads) (key i) noRecord ≡ i
+    head-new = getD-set-same (c .heads) (key i) i noRecord (rw (w .heads-long) (key-below (ownerAt book table i)))
 
-    head-old : (h : ℕ) → (key i ≡ h → ⊥) → getD (next .heads) h maxRecords ≡ getD (c .heads) h maxRecords
-    head-old h other = getD-set-other (c .heads) (key i) h i maxRecords (λ e. other (sym e))
+    head-old : (h : ℕ) → (key i ≡ h → ⊥) → getD (next .heads) h noRecord ≡ getD (c .heads) h noRecord
+    head-old h other = getD-set-other (c .heads) (key i) h i noRecord (λ e. other (sym e))
 
-    next-long : length (next .links) ≡ maxRecords
+    next-long : length (next .links) ≡ room
     next-long = rw (length-set (c .links) i second) (w .links-long)
 
     chain-new : chainFrom (next .links) i ≡ i ∷ select (hasKey (key i)) (numbersFrom (suc i) m)
@@ -111,12 +117,12 @@ module _ (book table : List ℕ) where
 
     chain-told :
         (h : ℕ) → h < maxRecords → (eqb (key i) h ≡ true) ⊎ (eqb (key i) h ≡ false) →
-        chainFrom (next .links) (getD (next .heads) h maxRecords) ≡ select (hasKey h) (numbersFrom i (suc m))
+        chainFrom (next .links) (getD (next .heads) h noRecord) ≡ select (hasKey h) (numbersFrom i (suc m))
     chain-told h k (inl e) = let same = eqb-true (key i) h e in rw (e, ← same, head-new) chain-new
     chain-told h k (inr e) =
-        rw (e, head-old h (eqb-false (key i) h e), chain-same (c .links) i second (getD (c .heads) h maxRecords) (w .later h k)) (w .told h k)
+        rw (e, head-old h (eqb-false (key i) h e), chain-same (c .links) i second (getD (c .heads) h noRecord) (w .later h k)) (w .told h k)
 
-    head-later : (h : ℕ) → h < maxRecords → (eqb (key i) h ≡ true) ⊎ (eqb (key i) h ≡ false) → i ≤ getD (next .heads) h maxRecords
+    head-later : (h : ℕ) → h < maxRecords → (eqb (key i) h ≡ true) ⊎ (eqb (key i) h ≡ false) → i ≤ getD (next .heads) h noRecord
     head-later h k (inl e) = let same = eqb-true (key i) h e in rw (← same, head-new) (omega arith)
     head-later h k (inr e) = rw (head-old h (eqb-false (key i) h e)) (omega (arith, w .later h k))
 
@@ -128,28 +134,28 @@ module _ (book table : List ℕ) where
       told = λ h k. chain-told h k (true-or-false (eqb (key i) h));
     }
 
-  all-linked : (i m : ℕ) (c : Chains) → i ≤ maxRecords → Linked i m c → Linked 0 (i + m) (linkedBelow book table i c)
+  all-linked : (i m : ℕ) (c : Chains) → i ≤ room → Linked i m c → Linked 0 (i + m) (linkedBelow book table i c)
   all-linked zero m c h w = let same : 0 + m ≡ m = omega arith in rw same w
   all-linked (suc i) m c h w =
       let same : suc i + m ≡ i + suc m = omega arith in
       rw same (all-linked i (suc m) (linked book table i c) (omega arith) (one-more i m c w h))
 
-  none-linked : (n : ℕ) → n ≤ maxRecords → Linked n 0 unlinked
+  none-linked : (n : ℕ) → n ≤ room → Linked n 0 (unlinked room)
   none-linked n h = record {
-    links-long = length-replicate maxRecords maxRecords;
-    heads-long = length-replicate maxRecords maxRecords;
-    later = λ k l. rw (getD-replicate maxRecords k maxRecords maxRecords l) h;
+    links-long = length-replicate room noRecord;
+    heads-long = length-replicate maxRecords noRecord;
+    later = λ k l. rw (getD-replicate maxRecords k noRecord noRecord l) (omega (arith, none-there));
     told = λ k l.
         rw (
-          getD-replicate maxRecords k maxRecords maxRecords l,
-          chain-step (replicate maxRecords maxRecords) maxRecords,
-          length-replicate maxRecords maxRecords,
-          le-ltb maxRecords maxRecords (omega arith),
+          getD-replicate maxRecords k noRecord noRecord l,
+          chain-step (replicate room noRecord) noRecord,
+          length-replicate room noRecord,
+          le-ltb noRecord room (omega (arith, none-there)),
         );
   }
 
-  linked-below : (n : ℕ) → n ≤ maxRecords → Linked 0 n (linkedBelow book table n unlinked)
-  linked-below n h = let same : n + 0 ≡ n = omega arith in rw same at (all-linked n 0 unlinked h (none-linked n h))
+  linked-below : (n : ℕ) → n ≤ room → Linked 0 n (linkedBelow book table n (unlinked room))
+  linked-below n h = let same : n + 0 ≡ n = omega arith in rw same at (all-linked n 0 (unlinked room) h (none-linked n h))
 
   -- what a text owns has its key
   owned-key : (x : List ℕ) (i : ℕ) → isOwned book table x i ≡ true → hasKey (keyOf x) i ≡ true
@@ -159,15 +165,18 @@ module _ (book table : List ℕ) where
     owned-told : (x : List ℕ) → ownedFrom book table (c .links) x (getD (c .heads) (keyOf x) (length (c .links))) ≡ select (isOwned book table x) (numbersFrom 0 n)
     unfolding ownedFrom
     owned-told x =
-        rw (w .links-long, w .told (keyOf x) (key-below x))
+        rw (
+          inside (c .heads) (keyOf x) (length (c .links)) noRecord (rw (w .heads-long) (key-below x)),
+          w .told (keyOf x) (key-below x),
+        )
         (select-within (hasKey (keyOf x)) (isOwned book table x) (owned-key x) (numbersFrom 0 n))
 
-chains-linked : (book : List ℕ) → Linked book (tableOf book) 0 (length (tabled book)) (chainsOf book)
+chains-linked : (book : List ℕ) → Linked book (tableOf book) (roomFor book) (room-enough book .1) 0 (length (tabled book)) (chainsOf book)
 unfolding chainsOf
-chains-linked book = linked-below book (tableOf book) (length (tabled book)) (few-tabled book)
+chains-linked book = linked-below book (tableOf book) (roomFor book) (room-enough book .1) (length (tabled book)) (room-enough book .0)
 
 pub chains-fit : Chains-fit
 chains-fit book = (chains-linked book .links-long, chains-linked book .heads-long)
 
 pub chains-skip-nothing : Chains-skip-nothing
-chains-skip-nothing book x = owned-told book (tableOf book) (length (tabled book)) (chainsOf book) (chains-linked book) x
+chains-skip-nothing book x = owned-told book (tableOf book) (roomFor book) (room-enough book .1) (length (tabled book)) (chainsOf book) (chains-linked book) x

@@ -16,12 +16,12 @@ use Rattle.spec_name.proofs.WholeNames.{whole-names}
 use Rattle.spec_record.specs.Property.{Property, property}
 use Rattle.spec_record.specs.Records.{Record, isCaa, recordRefusal, recordItems, records, bookRefusal}
 use Rattle.spec_rule.specs.RelevantSet.{CaaRecord, withProperty, caaRecordsFrom, caaRecords, asLookup, lookup}
-use Rattle.book_places.proofs.AcceptedBook.{accepted-readable}
+use Rattle.book_places.proofs.AcceptedBook.{accepted-readable, HoldsProperty, records-hold}
 use Rattle.book_places.specs.Table.{tabled, tableOf, dataAt}
 use Rattle.book_places.specs.Chains.{chainsOf}
 use Rattle.book_places.specs.Sets.{isOwned, ownedFrom, firstOf, firstOwned}
 use Rattle.book_places.specs.Theorems.{numbersFrom, recordsIn, numbersOf, firstNumber, Finds, Look-by-offset}
-use Rattle.book_places.proofs.TableLaws.{TellsFrom, rows-tell, Sound, tabled-sound}
+use Rattle.book_places.proofs.TableLaws.{TellsFrom, rows-tell, good-owners}
 use Rattle.book_places.proofs.ChainedRecords.{chains-skip-nothing}
 use Rattle.book_places.proofs.SetLaws.{set-by-its-first}
 
@@ -54,12 +54,12 @@ module _ (book table : List ℕ) where
     isOf c = sameName (c .owner) x
 
     owned-numbers :
-        (k : ℕ) (rs : List Record) → TellsFrom book table k rs → All Sound rs →
+        (k : ℕ) (rs : List Record) → TellsFrom book table k rs → All (λ r. GoodName (r .owner)) rs → All HoldsProperty rs →
         select (isOwned book table (wire x)) (numbersFrom k (length rs)) ≡ numbersOf (select isOf (caaRecordsFrom k rs))
-    owned-numbers k [] t all-nil = refl
-    owned-numbers k (r ∷ rs) t (all-cons s ss) =
-        rw (t .0 .caa, t .0 .owner, ← whole-names .1 (r .owner) x (s .good) good)
-        (caa (isCaa (r .type) (r .class)) refl (property (r .rdata)) refl (owned-numbers (suc k) rs (t .1) ss))
+    owned-numbers k [] t all-nil all-nil = refl
+    owned-numbers k (r ∷ rs) t (all-cons owner-good gs) (all-cons holds hs) =
+        rw (t .0 .caa, t .0 .owner, ← whole-names .1 (r .owner) x owner-good good)
+        (caa (isCaa (r .type) (r .class)) refl (property (r .rdata)) refl (owned-numbers (suc k) rs (t .1) gs hs))
       where
         rest : List ℕ
         rest = select (isOwned book table (wire x)) (numbersFrom (suc k) (length rs))
@@ -75,7 +75,7 @@ module _ (book table : List ℕ) where
             (b : Bool) → isCaa (r .type) (r .class) ≡ b → (o : Option Property) → property (r .rdata) ≡ o → rest ≡ numbersOf (select isOf more) →
             consIf (b && sameName (r .owner) x) k rest ≡ numbersOf (select isOf (cond b (withProperty k (r .owner) o) [] ++ more))
         caa true f (some q) g e = owner (sameName (r .owner) x) (record { number = k; owner = r .owner; property = q }) refl e
-        caa true f none g e = let (q, h) = s .holds f in absurd (Option·none-ne-some q (sym g ∙ h))
+        caa true f none g e = let (q, h) = holds f in absurd (Option·none-ne-some q (sym g ∙ h))
         caa false f o g e = e
 
 pub first-numbers : (cs : List CaaRecord) → firstOf (numbersOf cs) ≡ firstNumber cs
@@ -110,7 +110,9 @@ module _ (book : List ℕ) (accepted : bookRefusal book ≡ none) where
   unfolding lookup firstOwned
   look-finds x good =
       along-finds book (tableOf book) (chainsOf book .links) (wire x) _ (select (λ c. sameName (c .owner) x) caas)
-      (chains-skip-nothing book (wire x) ∙ rw (← accepted-tabled book accepted) (owned-numbers book (tableOf book) x good 0 (tabled book) (rows-tell book) (tabled-sound book)))
+      (chains-skip-nothing book (wire x)
+      ∙ rw (← accepted-tabled book accepted)
+      (owned-numbers book (tableOf book) x good 0 (tabled book) (rows-tell book) (good-owners book) (rw (accepted-tabled book accepted) (records-hold book))))
 
 pub look-by-offset : Look-by-offset
 look-by-offset book x accepted good = look-finds book accepted x good

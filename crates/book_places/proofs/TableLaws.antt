@@ -2,7 +2,6 @@
 use Prim.Native.Nat.{ℕ, zero, suc, _+_, _-_, _*_, _≤_}
 use native.Mathlib.Omega.{arith}
 use mathlib.Core.Path.{_≡_, refl, sym, _∙_}
-use mathlib.Core.Bool.{true}
 use mathlib.Core.List.{List, [], _∷_, _++_, append-assoc}
 use mathlib.Core.Option.{some, Option·none-ne-some, Option·some-injective}
 use lib.ListN.{length, getD, getElem?, replicate, length-append, length-replicate}
@@ -11,11 +10,10 @@ use borrow.Author.Tests.{lt-ltb}
 use Rattle.spec_limits.specs.Limits.{maxRecords}
 use Rattle.spec_octets.specs.Lists.{All, all-nil, all-cons}
 use Rattle.spec_name.specs.Names.{GoodName}
-use Rattle.spec_record.specs.Property.{Property, property}
-use Rattle.spec_record.specs.Records.{Record, wireRecord, isCaa}
-use Rattle.book_places.specs.Table.{row, rowsFrom, tabled, tableOf, cell, ownerAt, dataAt, isCaaAt}
+use Rattle.spec_record.specs.Records.{Record, wireRecord}
+use Rattle.book_places.specs.Table.{row, rowsFrom, tabled, roomFor, tableOf, cell, ownerAt, dataAt, isCaaAt}
 use Rattle.book_places.specs.Theorems.{RowTells, Table-tells, Table-fits}
-use Rattle.book_places.proofs.StandingRecords.{Standing, StandFrom, tabled-stand, few-tabled, has-property}
+use Rattle.book_places.proofs.StandingRecords.{Standing, StandFrom, tabled-stand, few-tabled, room-enough}
 
 module _ (book table : List ℕ) where
   -- the rows from k on tell of the records rs
@@ -68,7 +66,7 @@ rows-tell book =
     (tableOf book)
     (tabled book)
     []
-    (replicate (6 * (maxRecords - length (tabled book))) 0)
+    (replicate (6 * (roomFor book - length (tabled book))) 0)
     0
     0
     refl
@@ -86,18 +84,13 @@ rows-long at (r ∷ rs) = omega (arith, rows-long (at + length (wireRecord r)) r
 pub table-fits : Table-fits
 unfolding tableOf
 table-fits book = (
-  rw (length-append, rows-long 0 (tabled book), length-replicate) (omega (arith, few-tabled book)),
+  rw (length-append, rows-long 0 (tabled book), length-replicate) (omega (arith, room-enough book .0)),
   few-tabled book,
 )
 
--- the owner is a good name, and the data of a CAA record holds a property
-pub record Sound (r : Record) : Type 0 where
-  pub good : GoodName (r .owner)
-  pub holds : isCaa (r .type) (r .class) ≡ true → (q : Property) × (property (r .rdata) ≡ some q)
-
-pub tabled-sound : (book : List ℕ) → All Sound (tabled book)
-tabled-sound book = go 0 (tabled book) (tabled-stand book)
+pub good-owners : (book : List ℕ) → All (λ r. GoodName (r .owner)) (tabled book)
+good-owners book = go 0 (tabled book) (tabled-stand book)
   where
-    go : (at : ℕ) (rs : List Record) → StandFrom book at rs → All Sound rs
+    go : (at : ℕ) (rs : List Record) → StandFrom book at rs → All (λ r. GoodName (r .owner)) rs
     go at [] s = all-nil
-    go at (r ∷ rs) s = all-cons (record { good = s .0 .good; holds = has-property book at r (s .0) }) (go _ rs (s .1))
+    go at (r ∷ rs) s = all-cons (s .0 .good) (go _ rs (s .1))

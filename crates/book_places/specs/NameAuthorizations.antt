@@ -1,4 +1,5 @@
--- What CAA says of one requested name, by a table of the book and its chains; and what that means in the rule's own words.
+-- What CAA says about one requested name, found by the table and the chains of a book. `meaning` turns that answer into the rule's own value,
+-- `Authorization` of spec_rule.
 use Prim.Native.Nat.{ℕ, _+_, _*_, _/_, _%_}
 use mathlib.Core.Bool.{Bool, true, false, cond}
 use mathlib.Core.List.{List, [], _∷_}
@@ -16,54 +17,58 @@ use Rattle.book_places.specs.declared.NameAuthorization.the-variants.{Un
 use Rattle.book_places.specs.Table.{dataAt}
 use Rattle.book_places.specs.Sets.{nearestRecord, dataHasTag, inSet, firstUnknownCritical, firstTagged}
 
--- the number of a question: a set is asked for X, or for *.X. 16 bits hold it
+-- A question: what does this relevant set say about X, or about *.X? A set is named by the number of its first record. The number of a question
+-- is twice that number, and one more for *.X. It fits 16 bits.
 unfoldable pub questionNumber : RecordNo → Bool → ℕ
 questionNumber set wildcard = 2 * (set .0 % 32768) + cond wildcard 1 0
 
 module _ (book table links : List ℕ) where
-  -- the first record of the set with that tag governs, if there is one
+  -- The answer where the first record of the set with this tag is known: if there is one, the records with this tag govern. If not, `otherwise`.
   abbrev pub governedBy : RecordNo → PropertyTag → FirstRecord → NameAuthorization → NameAuthorization
   governedBy set tag Nothing otherwise = otherwise
   governedBy set tag (At r) otherwise = Governed (record { set = set; first = r; tag = tag })
 
+  -- The issue records govern; without any, the name is unrestricted.
   abbrev pub byIssue : RecordNo → NameAuthorization
   byIssue set = governedBy set Issue (firstTagged Issue book table links (set .0)) Unrestricted
 
-  -- for *.X the issuewild records govern if there are any, else the issue records
+  -- For X the issue records govern. For *.X the issuewild records govern if there are any, else the issue records.
   abbrev pub byTags : Bool → RecordNo → NameAuthorization
   byTags false set = byIssue set
   byTags true set = governedBy set IssueWild (firstTagged IssueWild book table links (set .0)) (byIssue set)
 
-  -- an unknown critical record comes before all else
+  -- A critical record with an unknown tag forbids, whatever else the set holds.
   abbrev pub unlessCritical : FirstRecord → NameAuthorization → NameAuthorization
   unlessCritical Nothing otherwise = otherwise
   unlessCritical (At r) otherwise = Forbidden r
 
-  -- of X, or of *.X, by its relevant set
+  -- What a relevant set says about X (`wildcard` is false), or about *.X.
   unfoldable pub setAuthorization : Bool → RecordNo → NameAuthorization
   setAuthorization wildcard set = unlessCritical (firstUnknownCritical book table links (set .0)) (byTags wildcard set)
 
+  -- The same where there may be no relevant set: then the name is unrestricted.
   abbrev pub bySet : Bool → FirstRecord → NameAuthorization
   bySet wildcard Nothing = Unrestricted
   bySet wildcard (At set) = setAuthorization wildcard set
 
-  -- the answer to the question of a number
+  -- The answer to the question with this number.
   unfoldable pub answerTo : ℕ → NameAuthorization
   answerTo question = setAuthorization (eqb (question % 2) 1) (record { 0 = question / 2 })
 
-  -- of the name X, in wire form, or of *.X
+  -- What CAA says about the name x, which is in wire form, or about *.x.
   unfoldable pub nameAuthorization : List ℕ → List ℕ → Bool → NameAuthorization
   nameAuthorization heads x wildcard = bySet wildcard (nearestRecord book table links heads x)
 
-  -- the issuers that some records grant, in their order
+  -- The issuers that a list of records grants, in the order of the records.
   abbrev pub granteesAt : List ℕ → List (List ℕ)
   granteesAt [] = []
   granteesAt (i ∷ is) = consSome (granteeOfData (dataAt book table i)) (granteesAt is)
 
+  -- The issuers that the records of a set with this tag grant.
   unfoldable pub setGrantees : PropertyTag → ℕ → List (List ℕ)
   setGrantees tag first = granteesAt (inSet (dataHasTag tag) book table links first)
 
-  -- the rule's value
+  -- The answer as the rule's own value.
   abbrev pub meaning : NameAuthorization → Authorization
   meaning Unrestricted = unrestricted
   meaning (Forbidden r) = forbidden (r .0)

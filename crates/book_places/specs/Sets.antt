@@ -1,4 +1,5 @@
--- The CAA records of an owner along a chain, the nearest name that owns any, and what such a set is asked.
+-- The CAA records of one owner in a chain; the nearest name, from a name up, that owns CAA records; and tests on such a set. The owner of a
+-- record is the name that the record belongs to (RFC 1035, section 3.2.1).
 use Prim.Native.Nat.{ℕ, zero, suc}
 use mathlib.Core.Bool.{Bool, true, false, cond, _&&_}
 use mathlib.Core.List.{List, [], _∷_}
@@ -20,24 +21,25 @@ use Rattle.book_places.specs.Table.{ownerAt, dataAt, isCaaAt}
 use Rattle.book_places.specs.Keys.{keyOf}
 use Rattle.book_places.specs.Chains.{Chains, chainFrom}
 
--- record i is a CAA record with the owner x, in wire form
+-- Record i is a CAA record with the owner x, in wire form.
 abbrev pub isOwned : List ℕ → List ℕ → List ℕ → ℕ → Bool
 isOwned book table x i = isCaaAt table i && equalIgnoringCase (ownerAt book table i) x
 
--- the CAA records of the owner x along the chain from i on
+-- The CAA records with the owner x in a chain, from record i on.
 unfoldable pub ownedFrom : List ℕ → List ℕ → List ℕ → List ℕ → ℕ → List ℕ
 ownedFrom book table links x i = select (isOwned book table x) (chainFrom links i)
 
--- the first of some records
+-- The first record of a list.
 abbrev pub firstOf : List ℕ → FirstRecord
 firstOf [] = Nothing
 firstOf (i ∷ is) = At (record { 0 = i })
 
--- a look at the name x: the first of its CAA records. A key without a chain has none
+-- A lookup of the name x: the first of its CAA records, if there is one. It walks the chain of the key of x.
 unfoldable pub firstOwned : List ℕ → List ℕ → List ℕ → List ℕ → List ℕ → FirstRecord
 firstOwned book table links heads x = firstOf (ownedFrom book table links x (getD heads (keyOf x) (length links)))
 
--- the climb: a look at what is left of the name s from an offset on, then with one label taken off, and so on; never at the root
+-- The climb of RFC 8659, section 3. It looks up the name that begins at an offset of s, then its parent, and so on, and stops at the first name
+-- that owns CAA records. The root is not looked up. At the root `parentPlace` gives the offset itself, which ends the climb.
 abbrev pub orNext : FirstRecord → FirstRecord → FirstRecord
 orNext Nothing next = next
 orNext (At r) next = At r
@@ -48,14 +50,15 @@ nearestFrom (suc steps) book table links heads s at =
     cond (eqb (parentPlace s at) at) Nothing
     (orNext (firstOwned book table links heads (drop at s)) (nearestFrom steps book table links heads s (parentPlace s at)))
 
+-- The climb from the whole name s: the first record of its relevant set, if there is one.
 unfoldable pub nearestRecord : List ℕ → List ℕ → List ℕ → List ℕ → List ℕ → FirstRecord
 nearestRecord book table links heads s = nearestFrom (length s) book table links heads s 0
 
--- the set that is named by its first record
+-- The set that is named by its first record: all CAA records with the same owner, from there on along the chain.
 unfoldable pub setAt : List ℕ → List ℕ → List ℕ → ℕ → List ℕ
 setAt book table links first = ownedFrom book table links (ownerAt book table first) first
 
--- two tags are the same
+-- Whether two tags are the same.
 abbrev pub sameTag : PropertyTag → PropertyTag → Bool
 sameTag Issue t = isIssueTag t
 sameTag IssueWild t = isIssueWildTag t
@@ -65,7 +68,7 @@ sameTag Iodef Iodef = true
 sameTag Iodef Unknown = false
 sameTag Unknown t = isUnknownTag t
 
--- tests of CAA data; none holds of data that is laid out wrongly
+-- Tests on CAA data: it has this tag; it is critical with an unknown tag; it grants this issuer. Malformed data passes none of them.
 abbrev pub holdsTag : PropertyTag → Option Property → Bool
 holdsTag tag none = false
 holdsTag tag (some p) = sameTag tag (tagOf (p .tag))
@@ -83,11 +86,12 @@ dataIsUnknownCritical d = holdsUnknownCritical (property d)
 unfoldable pub dataGrants : List ℕ → List ℕ → Bool
 dataGrants issuer d = isGrantee (lowered issuer) (granteeOfData d)
 
--- the records of a set whose data passes a test
+-- The records of a set whose data passes a test.
 abbrev pub inSet : (List ℕ → Bool) → List ℕ → List ℕ → List ℕ → ℕ → List ℕ
 inSet test book table links first = select (λ i. test (dataAt book table i)) (setAt book table links first)
 
--- what a set is asked: its first unknown critical record, its first record with a tag, and whether one with that tag grants an issuer
+-- Three questions to a set: which is its first critical record with an unknown tag; which is its first record with this tag; and does any record
+-- with this tag grant this issuer?
 unfoldable pub firstUnknownCritical : List ℕ → List ℕ → List ℕ → ℕ → FirstRecord
 firstUnknownCritical book table links first = firstOf (inSet dataIsUnknownCritical book table links first)
 

@@ -1,4 +1,4 @@
--- What the definitions of this crate mean. Each statement is proved under its name in proofs/.
+-- What the definitions of this crate mean, in terms of the rule (spec_rule). Each statement is proved under its name in proofs/.
 use Prim.Native.Nat.{ℕ, zero, suc, _*_, _≤_, _<_}
 use mathlib.Core.Path.{_≡_}
 use mathlib.Core.Logic.{_↔_, _⊎_}
@@ -17,7 +17,7 @@ use Rattle.spec_record.specs.Property.{Property, property, tagOf, isCritical}
 use Rattle.spec_record.specs.Records.{Record, isCaa, records, bookRefusal}
 use Rattle.spec_rule.specs.RelevantSet.{CaaRecord, caaRecords, Lookup, empty, found, lookup, relevantSet}
 use Rattle.spec_rule.specs.Authorizations.{authorizationFrom}
-use Rattle.book_places.specs.Table.{tabled, tableOf, ownerAt, dataAt, isCaaAt}
+use Rattle.book_places.specs.Table.{tabled, roomFor, tableOf, ownerAt, dataAt, isCaaAt}
 use Rattle.book_places.specs.Keys.{keyOf}
 use Rattle.book_places.specs.Chains.{chainsOf}
 use Rattle.book_places.specs.Sets.{isOwned, ownedFrom, firstOf, firstOwned, nearestRecord, setAt, dataHasTag, dataIsUnknownCritical, dataGrants, setGrants}
@@ -27,47 +27,51 @@ use Rattle.book_places.specs.declared.FirstRecord.the-variants.{At, Noth
 use Rattle.book_places.specs.declared.Governing.{Governing}
 use Rattle.book_places.specs.declared.NameAuthorization.the-variants.{Forbidden, Governed}
 
--- two texts that are the same, letter case ignored, have one key; and each key has a place among the heads of chains
+-- Two names that are equal, letter case ignored, have the same key; and every key is an index of `heads`.
 abbrev pub Same-text-same-key : Type 0
 Same-text-same-key = ((a b : List ℕ) → equalIgnoringCase a b ≡ true → keyOf a ≡ keyOf b) × ((x : List ℕ) → keyOf x < maxRecords)
 
--- row i of a table tells of the record r: its owner in wire form, its data, and whether it is a CAA record
+-- Row i of a table describes the record r: its owner in wire form, its data, and whether it is a CAA record.
 pub record RowTells (book table : List ℕ) (i : ℕ) (r : Record) : Type 0 where
   pub owner : ownerAt book table i ≡ wire (r .owner)
   pub rdata : dataAt book table i ≡ r .rdata
   pub caa : isCaaAt table i ≡ isCaa (r .type) (r .class)
 
--- each row of the table of a book tells of the record of its number, whatever the octets of the book
+-- Row i of a book's table describes record i. This holds for any octets, accepted or not.
 abbrev pub Table-tells : Type 0
 Table-tells = (book : List ℕ) (i : ℕ) (r : Record) → getElem? (tabled book) i ≡ some r → RowTells book (tableOf book) i r
 
--- the table has six numbers for each record that a book may have, and no book has more records
+-- There is room for every record of a book that gets a row, and never for more than `maxRecords`.
+abbrev pub Room-enough : Type 0
+Room-enough = (book : List ℕ) → (length (tabled book) ≤ roomFor book) × (roomFor book ≤ maxRecords)
+
+-- The table has six numbers for each record that there is room for, and at most `maxRecords` records get a row.
 abbrev pub Table-fits : Type 0
-Table-fits = (book : List ℕ) → (length (tableOf book) ≡ 6 * maxRecords) × (length (tabled book) ≤ maxRecords)
+Table-fits = (book : List ℕ) → (length (tableOf book) ≡ 6 * roomFor book) × (length (tabled book) ≤ maxRecords)
 
--- there are as many links as a book may have records, and as many heads as there are keys
+-- There is a link for each record that there is room for, and `maxRecords` heads, one for each key.
 abbrev pub Chains-fit : Type 0
-Chains-fit = (book : List ℕ) → (length (chainsOf book .links) ≡ maxRecords) × (length (chainsOf book .heads) ≡ maxRecords)
+Chains-fit = (book : List ℕ) → (length (chainsOf book .links) ≡ roomFor book) × (length (chainsOf book .heads) ≡ maxRecords)
 
--- so many numbers, from k on
+-- n numbers in a row, from k on.
 abbrev pub numbersFrom : ℕ → ℕ → List ℕ
 numbersFrom k zero = []
 numbersFrom k (suc n) = k ∷ numbersFrom (suc k) n
 
--- along the chain of the key of x stand all CAA records with the owner x, each once and in the book's order
+-- The chain of the key of x has all CAA records with the owner x, each once and in the book's order.
 abbrev pub Chains-skip-nothing : Type 0
 Chains-skip-nothing =
     (book x : List ℕ) →
     ownedFrom book (tableOf book) (chainsOf book .links) x (getD (chainsOf book .heads) (keyOf x) (length (chainsOf book .links)))
     ≡ select (isOwned book (tableOf book) x) (numbersFrom 0 (length (tabled book)))
 
--- the set that is named by its first record is the whole set: from there the chain goes on to all the others. For any table and links
+-- Naming a set by its first record loses nothing: from there the chain leads to all other records of the set. This holds for any table and links.
 abbrev pub Set-by-its-first : Type 0
 Set-by-its-first =
     (book table links x : List ℕ) (i : ℕ) (r : RecordNo) → firstOf (ownedFrom book table links x i) ≡ At r →
     setAt book table links (r .0) ≡ ownedFrom book table links x i
 
--- the CAA records that the rule finds, their numbers, and the number of the first of them
+-- The CAA records that a lookup by the rule finds, their numbers, and the number of the first.
 abbrev pub recordsIn : Lookup → List CaaRecord
 recordsIn empty = []
 recordsIn (found cs) = cs
@@ -79,26 +83,26 @@ abbrev pub firstNumber : List CaaRecord → FirstRecord
 firstNumber [] = Nothing
 firstNumber (c ∷ cs) = At (record { 0 = c .number })
 
--- an answer by offset tells what the rule finds: its first record, by which the whole set is named
+-- The answer o, found by offset, is what the rule finds: o is the rule's first record, and the set named by it has exactly the rule's records.
 pub record Finds (book table links : List ℕ) (l : Lookup) (o : FirstRecord) : Type 0 where
   pub first : o ≡ firstNumber (recordsIn l)
   pub whole : (r : RecordNo) → o ≡ At r → setAt book table links (r .0) ≡ numbersOf (recordsIn l)
 
--- a look at a name in an accepted book finds what the rule's lookup of that name finds
+-- For an accepted book, a lookup by table and chains finds what the rule's lookup of that name finds.
 abbrev pub Look-by-offset : Type 0
 Look-by-offset =
     (book : List ℕ) (x : Name) → bookRefusal book ≡ none → GoodName x →
     Finds book (tableOf book) (chainsOf book .links) (lookup (caaRecords (records book)) x)
     (firstOwned book (tableOf book) (chainsOf book .links) (chainsOf book .heads) (wire x))
 
--- the climb from a name in an accepted book finds the relevant set of that name
+-- For an accepted book, the climb by table and chains finds the relevant set of the name.
 abbrev pub Climb-by-offset : Type 0
 Climb-by-offset =
     (book : List ℕ) (x : Name) → bookRefusal book ≡ none → GoodName x →
     Finds book (tableOf book) (chainsOf book .links) (relevantSet (caaRecords (records book)) x)
     (nearestRecord book (tableOf book) (chainsOf book .links) (chainsOf book .heads) (wire x))
 
--- the tests of CAA data tell of the property that the data holds; data that is laid out wrongly passes none of them
+-- The tests on CAA data hold exactly when the property that is read from the data is so. Malformed data passes none of them.
 abbrev pub Tests-of-data : Type 0
 Tests-of-data =
     (d : List ℕ) →
@@ -108,8 +112,8 @@ Tests-of-data =
     × (property d ≡ none →
     ((tag : PropertyTag) → dataHasTag tag d ≡ false) × (dataIsUnknownCritical d ≡ false) × ((issuer : List ℕ) → dataGrants issuer d ≡ false))
 
--- what CAA says of X, or of *.X, by the table and the chains of an accepted book is what the rule says: which kind of answer, the number of the
--- record that it names, and whom the governing records grant
+-- For an accepted book, the answer about X or *.X by table and chains is the rule's answer. They agree in the kind of answer, in the number of the
+-- record that it names, and in the issuers that the governing records grant.
 abbrev pub Authorization-by-offset : Type 0
 Authorization-by-offset =
     (book : List ℕ) (x : Name) (wildcard : Bool) → bookRefusal book ≡ none → GoodName x →
@@ -117,13 +121,13 @@ Authorization-by-offset =
     (nameAuthorization book (tableOf book) (chainsOf book .links) (chainsOf book .heads) (wire x) wildcard)
     ≡ authorizationFrom wildcard (relevantSet (caaRecords (records book)) x)
 
--- a question is told by its number, for any table and links
+-- The number of a question says which set is asked, and whether for X or for *.X. This holds for any table and links.
 abbrev pub Question-by-number : Type 0
 Question-by-number =
     (book table links : List ℕ) (set : RecordNo) (wildcard : Bool) → set .0 < 32768 →
     answerTo book table links (questionNumber set wildcard) ≡ setAuthorization book table links wildcard set
 
--- the records that an answer names have links, and what governs are issue or issuewild records; for any table, chains and name
+-- The record numbers in an answer are indices of `links`, and only issue or issuewild records govern. This holds for any table, chains and name.
 abbrev pub Authorization-bounds : Type 0
 Authorization-bounds =
     (book table links heads x : List ℕ) (wildcard : Bool) →
@@ -131,7 +135,7 @@ Authorization-bounds =
     (g .set .0 < length links) × (g .first .0 < length links) × ((g .tag ≡ Issue) ⊎ (g .tag ≡ IssueWild)))
     × ((r : RecordNo) → nameAuthorization book table links heads x wildcard ≡ Forbidden r → r .0 < length links)
 
--- a set grants an issuer exactly if it is one of the set's grantees, letter case ignored; for any table and links
+-- A set grants an issuer exactly when the issuer is one of the set's grantees, letter case ignored. This holds for any table and links.
 abbrev pub Set-grants : Type 0
 Set-grants =
     (book table links issuer : List ℕ) (tag : PropertyTag) (first : ℕ) →

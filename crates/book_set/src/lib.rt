@@ -1,10 +1,10 @@
-// What the CAA records of a set are asked. A set is named by its first record, and walked along its chain.
+// Searches in a set of CAA records with one owner. A set is named by its first record; its chain leads to the others.
 use book_places::FirstRecord;
 use spec_record::PropertyTag;
 ghost use mathlib.Core.Path.{_≡_};
 ghost use Rattle.book_places.specs.Sets.{firstUnknownCritical, firstTagged, setGrants};
 
-// The first record of a set that is critical and has an unknown tag.
+// The first record of a set that is critical and has an unknown tag, if there is one.
 pub fn first_unknown_critical(
     book: &[u8],
     table: &[u16],
@@ -27,7 +27,7 @@ pub fn first_unknown_critical(
     FirstRecord::At(rr)
 }
 
-// The first record of a set with this tag.
+// The first record of a set with this tag, if there is one.
 pub fn first_with_tag(
     book: &[u8],
     table: &[u16],

@@ -1,11 +1,11 @@
-// What the table of a book tells of a record: its owner, its data, and whether it is a CAA record. All is total: a number past the end
-// of the table reads as 0, and an offset past the end of the book has no octets.
+// What the table of a book says about a record: its owner, its data, and whether it is a CAA record. Every function accepts any numbers:
+// reading past the end of the table gives 0, and past the end of the book there are no octets.
 use spec_limits::MAX_RECORDS;
 ghost use mathlib.Core.Path.{_≡_};
 ghost use Prim.Native.Nat.{_<_};
 ghost use Rattle.book_places.specs.Table.{cell, octetsAt, ownerAt, dataAt, isCaaAt};
 
-// One number of the row of record i.
+// The number in one column of the row of record i.
 fn cell(table: &[u16], i: usize, column: usize) -> usize
     requires { ⌜ column < 6 ⌝ }
     ensures { λ r. ⌜ r ≡ cell (now (table .entry)) i column ⌝ }
@@ -20,7 +20,7 @@ fn cell(table: &[u16], i: usize, column: usize) -> usize
     table[at] as usize
 }
 
-// So many octets from an offset on, as far as there are any.
+// n octets from offset `at` on, or fewer if the text ends before.
 pub fn octets_at(s: &[u8], at: usize, n: usize) -> &[u8]
     ensures { λ r. ⌜ now r ≡ octetsAt (now (s .entry)) at n ⌝ }
 {
@@ -35,7 +35,7 @@ pub fn octets_at(s: &[u8], at: usize, n: usize) -> &[u8]
     &s[at..e]
 }
 
-// The owner of record i, in wire form with its closing zero.
+// The owner of record i, in wire form with the zero octet at its end.
 pub fn owner_at<'a>(book: &'a [u8], table: &[u16], i: usize) -> &'a [u8]
     ensures { λ r. ⌜ now r ≡ ownerAt (now (book .entry)) (now (table .entry)) i ⌝ }
 {

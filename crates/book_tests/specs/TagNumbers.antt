@@ -1,4 +1,4 @@
--- A number for each tag, to compare two tags.
+-- A number for each tag. The code compares tags by these numbers.
 use Prim.Native.Nat.{ℕ}
 use Rattle.spec_record.specs.declared.PropertyTag.{PropertyTag}
 use Rattle.spec_record.specs.declared.PropertyTag.the-variants.{Issue, IssueWild, Iodef, Unknown}

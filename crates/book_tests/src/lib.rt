@@ -1,4 +1,5 @@
-// Tests of CAA data: whether it is critical and unknown, which tag it has, and whom it grants.
+// Tests on CAA data: whether it is critical with an unknown tag, whether it has a tag, and whether it grants an issuer. Malformed data passes
+// none of them.
 use read_grantee::GranteeRead;
 use read_property::PropertyRead;
 use spec_record::PropertyTag;
@@ -22,6 +23,7 @@ pub fn is_unknown_critical(d: &[u8]) -> bool
     true
 }
 
+// A number for each tag, to compare tags by.
 fn tag_number(tag: PropertyTag) -> usize
     ensures { λ r. ⌜ r ≡ tagNumber tag ⌝ }
 {

@@ -1,12 +1,12 @@
 -- The verdict by a set that is asked, and notes of those that were asked.
-use Prim.Native.Nat.{ℕ, zero, suc, _+_, _*_, _%_, _<_}
+use Prim.Native.Nat.{ℕ, zero, suc, _+_, _*_, _%_, _≤_, _<_}
 use native.Mathlib.Omega.{arith}
 use mathlib.Core.Path.{_≡_, refl, sym, ap, _∙_}
 use mathlib.Core.Logic.{⊎-elim}
 use mathlib.Core.Bool.{Bool, true, false, cond, true≢false}
 use mathlib.Core.List.{List}
 use lib.Dec.{eqb}
-use lib.ListN.{getD, set as put, replicate, length-set, length-replicate}
+use lib.ListN.{length, getD, set as put, replicate, length-set, length-replicate}
 use lib.Seq.{getD-set-other}
 use borrow.Author.Tests.{eqb-true, eqb-false}
 use Rattle.spec_limits.specs.Limits.{maxRecords}
@@ -17,8 +17,10 @@ use Rattle.spec_rule.specs.Authorizations.{permits}
 use Rattle.book_places.specs.declared.Governing.{Governing}
 use Rattle.book_places.specs.declared.NameAuthorization.{NameAuthorization}
 use Rattle.book_places.specs.declared.NameAuthorization.the-variants.{Unrestricted, Forbidden, Governed}
+use Rattle.book_places.specs.Table.{roomFor}
 use Rattle.book_places.specs.Sets.{setGrants}
 use Rattle.book_places.specs.NameAuthorizations.{questionNumber, setAuthorization, answerTo, meaning}
+use Rattle.book_places.proofs.StandingRecords.{room-enough}
 use Rattle.book_places.proofs.AuthorizationLaws.{set-grants}
 use Rattle.book_places.proofs.Questions.{question-by-number}
 use Rattle.judge_call.specs.Asked.{verdictBySet, answerPermits, Asked}
@@ -51,11 +53,14 @@ module _ (issuer book table links : List ℕ) where
   none-set (suc m) zero = refl
   none-set (suc m) (suc n) = none-set m n
 
-  pub none-asked : (n : ℕ) → n ≡ 2 * maxRecords → Asked issuer book table links (replicate n false)
-  none-asked n l = record {
-    long = length-replicate n false ∙ l;
-    permit = λ q e. absurd (true≢false (sym e ∙ none-set n q));
-  }
+  pub none-asked : (asked : List Bool) → asked ≡ replicate (2 * roomFor book) false → Asked issuer book table links asked
+  none-asked asked e = rw e (record {
+    long = length-replicate (2 * roomFor book) false;
+    permit = λ q f. absurd (true≢false (sym f ∙ none-set (2 * roomFor book) q));
+  })
+
+  pub same-notes : (asked before : List Bool) → Asked issuer book table links asked → Asked issuer book table links before → length asked ≡ length before
+  same-notes asked before k l = k .long ∙ sym (l .long)
 
   one-asked :
       (asked : List Bool) → Asked issuer book table links asked → (n : ℕ) → answerPermits issuer book table links n ≡ true →
@@ -69,18 +74,18 @@ module _ (issuer book table links : List ℕ) where
   }
 
   -- n is the number of the question
-  module _ (set : RecordNo) (wildcard : Bool) (below : set .0 < maxRecords) (n : ℕ) (f : n ≡ questionNumber set wildcard) where
-    pub note-inside : n < 2 * maxRecords
+  module _ (set : RecordNo) (wildcard : Bool) (below : set .0 < roomFor book) (n : ℕ) (f : n ≡ questionNumber set wildcard) where
+    pub note-inside : (asked : List Bool) → Asked issuer book table links asked → n < length asked
     unfolding questionNumber
-    note-inside = rw f (go wildcard)
+    note-inside asked k = rw (k .long, f) (go wildcard)
       where
-        go : (w : Bool) → 2 * (set .0 % 32768) + cond w 1 0 < 2 * maxRecords
+        go : (w : Bool) → 2 * (set .0 % 32768) + cond w 1 0 < 2 * roomFor book
         go true = omega arith
         go false = omega arith
 
     answered : answerTo book table links n ≡ setAuthorization book table links wildcard set
     unfolding maxRecords
-    answered = rw f (question-by-number book table links set wildcard (omega arith))
+    answered = rw f (question-by-number book table links set wildcard (omega (arith, room-enough book .1)))
 
     pub permitted-before :
         (asked : List Bool) → Asked issuer book table links asked → getD asked n false ≡ true →

@@ -1,5 +1,5 @@
 -- judge: its checks in their order, then name by name. With k names permitted, the names left from `at` on give the answer.
-use Prim.Native.Nat.{ℕ, suc, _≤_, _<_, _+_, _-_, _*_}
+use Prim.Native.Nat.{ℕ, suc, _≤_, _<_, _+_, _-_}
 use native.Mathlib.Numerals.{add-one}
 use native.Mathlib.Omega.{arith}
 use mathlib.Core.Path.{_≡_, refl, sym, ap, _∙_}
@@ -9,7 +9,7 @@ use mathlib.Core.List.{List, map}
 use mathlib.Core.Option.{none}
 use lib.ListN.{length, take, drop, getD, set as put}
 use denote.Enum.Declared.{tagOf as variant}
-use Rattle.spec_limits.specs.Limits.{maxNames, maxRecords}
+use Rattle.spec_limits.specs.Limits.{maxNames}
 use Rattle.spec_octets.specs.Lists.{All, any}
 use Rattle.spec_octets.specs.Octets.{same, lowered}
 use Rattle.spec_octets.proofs.ListLaws.{All-head, All-tail}
@@ -40,6 +40,7 @@ use Rattle.spec_rule.specs.Calls.{authorizations, firstRefusal, judgeChecks, ju
 use Rattle.read_inputs.proofs.CheckLaws.{none-refuses}
 use Rattle.book_places.specs.declared.FirstRecord.{FirstRecord}
 use Rattle.book_places.specs.declared.FirstRecord.the-variants.{At, Nothing}
+use Rattle.book_places.specs.Table.{roomFor}
 use Rattle.book_places.specs.Sets.{nearestRecord}
 use Rattle.book_places.specs.NameAuthorizations.{questionNumber, bySet, nameAuthorization, meaning}
 use Rattle.book_places.proofs.ChainedRecords.{chains-fit}
@@ -160,11 +161,12 @@ module _ (request issuer book table links heads : List ℕ) where
             name-unrestricted e = passed (by-name Nothing e)
 
             module _ (set : RecordNo) (e : p ≡ At set) where
-              set-below : set .0 < maxRecords
+              set-below : set .0 < roomFor book
               set-below =
                   omega (arith, rw (sym d ∙ e) at (nearest-below links book table heads (take (r .next - r .base) (drop (r .base) request))), ap length (w .ready .chained), chains-fit book .0)
 
-              pub question-inside : (v : Bool) (n : ℕ) → n ≡ questionNumber set v → n < 2 * maxRecords
+              pub question-inside :
+                  (v : Bool) (n : ℕ) → n ≡ questionNumber set v → (asked : List Bool) → Asked issuer book table links asked → n < length asked
               question-inside v = note-inside issuer book table links set v set-below
 
               permitted-passed : permits issuer (by (At set)) ≡ true → (k′ : ℕ) → k′ ≡ k + 1 → Judged (r .next) k′

@@ -1,25 +1,56 @@
 -- What is made for a call: the table and the chains are those of the book.
-use Prim.Native.Nat.{ℕ, _*_}
-use mathlib.Core.Path.{_≡_}
+use Prim.Native.Nat.{ℕ, _*_, _≤_, _<_}
+use mathlib.Core.Path.{_≡_, refl}
+use mathlib.Core.Bool.{Bool, false}
 use mathlib.Core.List.{List}
 use mathlib.Core.Option.{none}
-use lib.ListN.{replicate}
+use lib.ListN.{length, replicate}
 use Rattle.spec_limits.specs.Limits.{maxRecords}
 use Rattle.spec_rule.specs.Calls.{firstRefusal, judgeChecks}
+use Rattle.book_places.specs.Table.{fewRecords, shortBook}
+use Rattle.book_places.specs.Chains.{noRecord}
+use Rattle.book_places.proofs.StandingRecords.{room-short, room-long}
 use Rattle.book_fill.specs.Filled.{filledTable}
 use Rattle.book_index.specs.Indexes.{indexedChains}
-use Rattle.book_index.proofs.Indexed.{table-of-book, links-of-book, heads-of-book}
-use Rattle.judge_call.specs.Asked.{Ready}
+use Rattle.book_index.proofs.Indexed.{table-of-book, links-of-book, heads-of-book, blank-short, blank-long}
+use Rattle.judge_call.specs.Asked.{Ready, Asked, Lent, HeadsLent}
+use Rattle.judge_call.proofs.AskedLaws.{none-asked}
 
-pub made-ready :
-    (request issuer book : List ℕ) → firstRefusal (judgeChecks request issuer book) ≡ none → (m k : ℕ) → m ≡ 6 * maxRecords → k ≡ maxRecords →
-    (table links heads : List ℕ) → table ≡ filledTable book (replicate m 0) →
-    links ≡ indexedChains book (replicate m 0) (record { links = replicate k k; heads = replicate k k }) .links →
-    heads ≡ indexedChains book (replicate m 0) (record { links = replicate k k; heads = replicate k k }) .heads →
-    Ready request issuer book table links heads
-made-ready request issuer book ok m k zeros ends table links heads rows l h = record {
-  accepted = ok;
-  rows = table-of-book book m k zeros ends table rows;
-  chained = links-of-book book m k zeros ends links l;
-  headed = heads-of-book book m k zeros ends heads h;
-}
+module _ (request issuer book : List ℕ) where
+  pub made-ready :
+      (table₀ links₀ heads₀ : List ℕ) (asked : List Bool) → Lent request issuer book table₀ links₀ heads₀ asked → (table links heads : List ℕ) →
+      table ≡ filledTable book table₀ → links ≡ indexedChains book table₀ (record { links = links₀; heads = heads₀ }) .links →
+      heads ≡ indexedChains book table₀ (record { links = links₀; heads = heads₀ }) .heads →
+      Ready request issuer book table links heads × Asked issuer book table links asked
+  made-ready table₀ links₀ heads₀ asked lent table links heads rows l h = (
+    record {
+      accepted = lent .accepted;
+      rows = table-of-book book table₀ links₀ heads₀ (lent .blank) table rows;
+      chained = links-of-book book table₀ links₀ heads₀ (lent .blank) links l;
+      headed = heads-of-book book table₀ links₀ heads₀ (lent .blank) heads h;
+    },
+    none-asked issuer book table links asked (lent .unasked),
+  )
+
+  pub heads-lent : firstRefusal (judgeChecks request issuer book) ≡ none → HeadsLent request issuer book (replicate maxRecords noRecord)
+  heads-lent h = record { accepted = h; headed = refl }
+
+  -- by the sizes of the arrays
+  module _ (heads : List ℕ) (lent : HeadsLent request issuer book heads) (m k n : ℕ) where
+    pub lent-short :
+        length book ≤ shortBook → m ≡ 6 * fewRecords → k ≡ fewRecords → n ≡ 2 * fewRecords →
+        Lent request issuer book (replicate m 0) (replicate k noRecord) heads (replicate n false)
+    lent-short h rows links notes = record {
+      accepted = lent .accepted;
+      blank = blank-short book m k heads (lent .headed) h rows links;
+      unasked = rw (notes, room-short book h);
+    }
+
+    pub lent-long :
+        shortBook < length book → m ≡ 6 * maxRecords → k ≡ maxRecords → n ≡ 2 * maxRecords →
+        Lent request issuer book (replicate m 0) (replicate k noRecord) heads (replicate n false)
+    lent-long h rows links notes = record {
+      accepted = lent .accepted;
+      blank = blank-long book m k heads (lent .headed) h rows links;
+      unasked = rw (notes, room-long book h);
+    }

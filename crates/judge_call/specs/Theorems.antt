@@ -1,4 +1,4 @@
--- What the call's contract means, by the theorems about the rule. Each statement is proved under its name in proofs/.
+-- What the contract of `judge` means for a caller. Each statement is proved under its name in proofs/, from theorems about the rule.
 use Prim.Native.Nat.{ℕ}
 use mathlib.Core.Path.{_≡_}
 use mathlib.Core.Logic.{_↔_}
@@ -13,8 +13,8 @@ use Rattle.spec_rule.specs.RelevantSet.{caaRecords}
 use Rattle.spec_rule.specs.Calls.{judge}
 use Rattle.spec_rule.specs.Theorems.{Verdict-on, JudgeRow, FirstRow}
 
--- an answer that is the definition's, as the call's contract has it: each refusal exactly when the table says, and with no row
--- of the table the verdict of the rule, 0, 20 and 21 with their places
+-- Take any answer that equals the definition, as the contract promises. It is a refusal exactly when the table of refusals has a row for it. If no
+-- row applies, it is the rule's verdict: 0, 20 or 21, with the numbers of the name and the record.
 abbrev pub Answer-exactly : Type 0
 Answer-exactly =
     (request issuer book : List ℕ) → Octets request → Octets book → (answer : Judgement) → answer ≡ judge request issuer book →

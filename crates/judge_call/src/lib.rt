@@ -1,7 +1,10 @@
-// May this issuer sign? The call that judges.
+// May this issuer issue for every name of the request? This is the call that judges.
 use book_places::END;
+use book_places::FEW_RECORDS;
 use book_places::FirstRecord;
 use book_places::NameAuthorization;
+use book_places::SHORT_BOOK;
+use book_places::SHORT_TABLE;
 use book_places::TABLE;
 use read_request::RequestedRead;
 use spec_limits::MAX_RECORDS;
@@ -14,12 +17,17 @@ use spec_rule::Judgement;
 ghost use mathlib.Core.Path.{_≡_};
 ghost use mathlib.Core.Option.{none};
 ghost use Rattle.spec_rule.specs.Calls.{firstRefusal, judgeChecks, judge};
-ghost use Rattle.judge_call.specs.Asked.{Ready, verdictBySet};
+ghost use Rattle.judge_call.specs.Asked.{Ready, verdictBySet, Asked, Lent, HeadsLent};
+ghost use Prim.Native.Nat.{_≤_, _<_};
+ghost use lib.ListN.{length};
+ghost use Rattle.book_places.specs.Table.{shortBook};
 
-// Two notes for each record: that the set which begins there permits the issuer, asked for X and asked for *.X.
+// Two notes for each record: the set that begins with this record permits the issuer for X; and it does so for *.X.
 const NOTES: usize = 2 * MAX_RECORDS;
 
-// Judges a name by its relevant set.
+const SHORT_NOTES: usize = 2 * FEW_RECORDS;
+
+// Judges one name, given its relevant set.
 fn judge_by_set(
     issuer: &[u8],
     book: &[u8],
@@ -47,7 +55,7 @@ fn judge_by_set(
     }
 }
 
-// Judges name by name. No set is asked twice for X, or twice for *.X.
+// Judges the names one after the other. A set is asked at most once for X and at most once for *.X.
 fn judge_names(
     request: &[u8],
     issuer: &[u8],
@@ -55,15 +63,15 @@ fn judge_names(
     table: &[u16],
     links: &[u16],
     heads: &[u16],
+    asked: &mut [bool],
 ) -> Judgement
-    requires { ⌜ Ready (now request) (now issuer) (now book) (now table) (now links) (now heads) ⌝ }
+    requires { ⌜ Ready (now request) (now issuer) (now book) (now table) (now links) (now heads) × Asked (now issuer) (now book) (now table) (now links) (now asked) ⌝ }
     ensures { λ r. ⌜ r ≡ judge (now (request .entry)) (now (issuer .entry)) (now (book .entry)) ⌝ }
 {
-    let mut asked = [false; NOTES];
     let mut at: usize = 0;
     let mut k: usize = 0;
     while at < request.len() {
-        // An accepted request has no bad name; one would be refused all the same.
+        // An accepted request doesn't get here: its names are all good. A bad name would be refused.
         let RequestedRead::Good(n) = read_request::requested_name(request, at) else {
             return Judgement::Refused(Refusal::BadName(NameNo(k)));
         };
@@ -94,18 +102,74 @@ fn judge_names(
     Judgement::Permitted
 }
 
-// Judges accepted inputs. The book is read once: into a table of its records, and chains through them.
-fn judge_accepted(request: &[u8], issuer: &[u8], book: &[u8]) -> Judgement
-    requires { ⌜ firstRefusal (judgeChecks (now request) (now issuer) (now book)) ≡ none ⌝ }
+// Judges accepted inputs. It reads the book once, and makes a table of its records and chains through them in the lent arrays.
+fn judge_in(
+    request: &[u8],
+    issuer: &[u8],
+    book: &[u8],
+    table: &mut [u16],
+    links: &mut [u16],
+    heads: &mut [u16],
+    asked: &mut [bool],
+) -> Judgement
+    requires { ⌜ Lent (now request) (now issuer) (now book) (now table) (now links) (now heads) (now asked) ⌝ }
+    ensures { λ r. ⌜ r ≡ judge (now (request .entry)) (now (issuer .entry)) (now (book .entry)) ⌝ }
+{
+    book_index::index_book(book, table, links, heads);
+    judge_names(request, issuer, book, table, links, heads, asked)
+}
+
+// For a short book small arrays are enough, and are cleared faster.
+fn judge_short(request: &[u8], issuer: &[u8], book: &[u8], heads: &mut [u16]) -> Judgement
+    requires { ⌜ HeadsLent (now request) (now issuer) (now book) (now heads) × (length (now book) ≤ shortBook) ⌝ }
+    ensures { λ r. ⌜ r ≡ judge (now (request .entry)) (now (issuer .entry)) (now (book .entry)) ⌝ }
+{
+    let mut table = [0u16; SHORT_TABLE];
+    let mut links = [END; FEW_RECORDS];
+    let mut asked = [false; SHORT_NOTES];
+    judge_in(
+        request,
+        issuer,
+        book,
+        &mut table,
+        &mut links,
+        heads,
+        &mut asked,
+    )
+}
+
+// For any other book.
+fn judge_long(request: &[u8], issuer: &[u8], book: &[u8], heads: &mut [u16]) -> Judgement
+    requires { ⌜ HeadsLent (now request) (now issuer) (now book) (now heads) × (shortBook < length (now book)) ⌝ }
     ensures { λ r. ⌜ r ≡ judge (now (request .entry)) (now (issuer .entry)) (now (book .entry)) ⌝ }
 {
     let mut table = [0u16; TABLE];
     let mut links = [END; MAX_RECORDS];
-    let mut heads = [END; MAX_RECORDS];
-    book_index::index_book(book, &mut table, &mut links, &mut heads);
-    judge_names(request, issuer, book, &table, &links, &heads)
+    let mut asked = [false; NOTES];
+    judge_in(
+        request,
+        issuer,
+        book,
+        &mut table,
+        &mut links,
+        heads,
+        &mut asked,
+    )
 }
 
+// Judges accepted inputs.
+fn judge_accepted(request: &[u8], issuer: &[u8], book: &[u8]) -> Judgement
+    requires { ⌜ firstRefusal (judgeChecks (now request) (now issuer) (now book)) ≡ none ⌝ }
+    ensures { λ r. ⌜ r ≡ judge (now (request .entry)) (now (issuer .entry)) (now (book .entry)) ⌝ }
+{
+    let mut heads = [END; MAX_RECORDS];
+    if book.len() <= SHORT_BOOK {
+        return judge_short(request, issuer, book, &mut heads);
+    }
+    judge_long(request, issuer, book, &mut heads)
+}
+
+// Checks the inputs in the order of the table of refusals, then judges.
 pub fn judge(request: &[u8], issuer: &[u8], book: &[u8]) -> Judgement
     ensures { λ r. ⌜ r ≡ judge (now (request .entry)) (now (issuer .entry)) (now (book .entry)) ⌝ }
 {

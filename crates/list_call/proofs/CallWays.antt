@@ -24,6 +24,12 @@ use Rattle.spec_rule.specs.declared.PermittedIssuers.the-variants.{Anyone, List
 use Rattle.spec_rule.specs.IssuerLists.{anyone, listed, issuers}
 use Rattle.spec_rule.specs.Calls.{authorizations, firstRefusal, Listing, listIssuers}
 use Rattle.spec_rule.proofs.PermittedLaws.{permitted-issuers}
+use Rattle.book_places.specs.Table.{fewRecords, shortBook, roomFor}
+use Rattle.book_places.specs.Chains.{noRecord}
+use Rattle.book_places.proofs.StandingRecords.{room-short, room-long}
+use Rattle.book_fill.specs.Filled.{filledTable}
+use Rattle.book_index.specs.Indexes.{indexedChains}
+use Rattle.book_index.proofs.Indexed.{table-of-book, links-of-book, heads-of-book, blank-short, blank-long}
 use Rattle.list_places.specs.declared.Permitted.{Permitted}
 use Rattle.list_places.specs.Rounds.{keptNames}
 use Rattle.list_places.specs.PermittedBy.{permittedIn, issuersIn}
@@ -31,6 +37,7 @@ use Rattle.list_places.proofs.ByOffset.{permitted-by-offset}
 use Rattle.list_entry.specs.declared.ListSize.{ListSize}
 use Rattle.list_entry.specs.Entries.{entriesOf, sizeOf}
 use Rattle.list_entry.proofs.ShortNames.{entries-short}
+use Rattle.list_call.specs.Lent.{Lent, HeadsLent, Found}
 
 -- the call's two ensures from one equation
 pub halves :
@@ -50,72 +57,118 @@ both-good none (some q) e = let z : _≡_ {A = ℕ} 0 1 = cc in absurd (omega ar
 both-good (some q) d e = let z : _≡_ {A = ℕ} 0 1 = cc in absurd (omega arith)
 
 -- c is what the checks of request and book say
-module _ (request book buffer : List ℕ) (c : Check) (f : c ≡ checked (firstRefusal (requestRefusal request ∷ bookRefusal book ∷ []))) where
-  pub call-refused : (r : Refusal) → c ≡ CheckRefused r → listIssuers request book buffer ≡ record { answer = Refused r; buffer = buffer }
+module _ (request book : List ℕ) (c : Check) (f : c ≡ checked (firstRefusal (requestRefusal request ∷ bookRefusal book ∷ []))) where
+  pub call-refused : (buffer : List ℕ) (r : Refusal) → c ≡ CheckRefused r → listIssuers request book buffer ≡ record { answer = Refused r; buffer = buffer }
   unfolding listIssuers
-  call-refused r g =
+  call-refused buffer r g =
       rw (refused-first (requestRefusal request) (bookRefusal book) _ r (checks.refused (firstRefusal (requestRefusal request ∷ bookRefusal book ∷ [])) f r g))
 
-  -- p, names and rounds are what find_permitted left, by the sizes of the arrays
-  module _ (g : c ≡ Accepted) (m k : ℕ) (room : m ≡ 2 * maxRecords) (places : k ≡ maxRecords) (p : Permitted) (names rounds : List ℕ)
-      (told : p ≡ permittedIn request book (replicate m 0) (replicate k 0) .answer)
-      (left : names ≡ permittedIn request book (replicate m 0) (replicate k 0) .names)
-      (last : rounds ≡ permittedIn request book (replicate m 0) (replicate k 0) .rounds) where
-    good : (requestRefusal request ≡ none) × (bookRefusal book ≡ none)
-    good = both-good (requestRefusal request) (bookRefusal book) (checks.accepted (firstRefusal (requestRefusal request ∷ bookRefusal book ∷ [])) f g)
+  pub heads-lent : c ≡ Accepted → (heads : List ℕ) → heads ≡ replicate maxRecords noRecord → HeadsLent request book heads
+  heads-lent g heads e =
+      let good = both-good (requestRefusal request) (bookRefusal book) (checks.accepted (firstRefusal (requestRefusal request ∷ bookRefusal book ∷ [])) f g) in
+      record { names-good = good .0; records-good = good .1; headed = e }
 
-    found : issuersIn book (record { answer = p; names = names; rounds = rounds }) ≡ issuers (authorizations request book)
-    found =
-        rw (told, left, last, places)
-        (permitted-by-offset request book (replicate m 0) (good .0) (good .1) (rw (length-replicate {A = ℕ} m 0, room) (omega arith)))
+-- by the sizes of the arrays
+module _ (request book heads : List ℕ) (lent : HeadsLent request book heads) (m k n : ℕ) where
+  pub lent-short :
+      length book ≤ shortBook → m ≡ 6 * fewRecords → k ≡ fewRecords → n ≡ 2 * fewRecords →
+      Lent request book (replicate m 0) (replicate k noRecord) heads (replicate n 0) (replicate k 0)
+  lent-short h rows links names = record {
+    names-good = lent .names-good;
+    records-good = lent .records-good;
+    blank = blank-short book m k heads (lent .headed) h rows links;
+    candidates = rw (names, room-short book h);
+    first-round = rw (links, room-short book h);
+  }
 
-    pub anyone-may : not (p .restricted) ≡ true → listIssuers request book buffer ≡ record { answer = Anyone; buffer = buffer }
-    unfolding listIssuers
-    anyone-may e = let answer : issuers (authorizations request book) ≡ anyone = sym (rw (not-true (p .restricted) e) at found) in rw (good .0, good .1, answer)
+  pub lent-long :
+      shortBook < length book → m ≡ 6 * maxRecords → k ≡ maxRecords → n ≡ 2 * maxRecords →
+      Lent request book (replicate m 0) (replicate k noRecord) heads (replicate n 0) (replicate k 0)
+  lent-long h rows links names = record {
+    names-good = lent .names-good;
+    records-good = lent .records-good;
+    blank = blank-long book m k heads (lent .headed) h rows links;
+    candidates = rw (names, room-long book h);
+    first-round = rw (links, room-long book h);
+  }
 
-    module _ (e : not (p .restricted) ≡ false) where
-      abbrev kept : List (List ℕ)
-      kept = keptNames book names (p .count) rounds (p .round)
+-- what index_book and find_permitted made of what was lent
+pub found :
+    (request book table₀ links₀ heads₀ names₀ rounds₀ : List ℕ) → Lent request book table₀ links₀ heads₀ names₀ rounds₀ → (table links heads : List ℕ) →
+    table ≡ filledTable book table₀ → links ≡ indexedChains book table₀ (record { links = links₀; heads = heads₀ }) .links →
+    heads ≡ indexedChains book table₀ (record { links = links₀; heads = heads₀ }) .heads → (p : Permitted) (names rounds : List ℕ) →
+    p ≡ permittedIn request book table links heads names₀ rounds₀ .answer → names ≡ permittedIn request book table links heads names₀ rounds₀ .names →
+    rounds ≡ permittedIn request book table links heads names₀ rounds₀ .rounds → Found request book names rounds p
+found request book table₀ links₀ heads₀ names₀ rounds₀ lent table links heads t l h p names rounds told left last = record {
+  names-good = lent .names-good;
+  records-good = lent .records-good;
+  issuers-found =
+      rw (
+        told,
+        left,
+        last,
+        table-of-book book table₀ links₀ heads₀ (lent .blank) table t,
+        links-of-book book table₀ links₀ heads₀ (lent .blank) links l,
+        heads-of-book book table₀ links₀ heads₀ (lent .blank) heads h,
+        lent .first-round,
+      )
+      (permitted-by-offset request book names₀ (lent .names-good) (lent .records-good) enough);
+}
+  where
+    enough : 2 * roomFor book ≤ length names₀
+    enough = rw (lent .candidates) (omega (arith, length-replicate {A = ℕ} (2 * roomFor book) 0))
 
-      may-sign : issuers (authorizations request book) ≡ listed kept
-      may-sign = sym (rw (not-false (p .restricted) e) at found)
+module _ (book names rounds buffer : List ℕ) (p : Permitted) (request : List ℕ) (k : Found request book names rounds p) where
+  good : (requestRefusal request ≡ none) × (bookRefusal book ≡ none)
+  good = (k .names-good, k .records-good)
 
-      names-short : All (λ n. length n < 256) kept
-      unfolding maxIssuerOctets
-      names-short = All-imp (λ n w. omega (arith, w .0 .1)) (permitted-issuers request book (good .0) (good .1) .well-formed kept may-sign)
+  pub anyone-may : not (p .restricted) ≡ true → listIssuers request book buffer ≡ record { answer = Anyone; buffer = buffer }
+  unfolding listIssuers
+  anyone-may e = let answer : issuers (authorizations request book) ≡ anyone = sym (rw (not-true (p .restricted) e) at (k .issuers-found)) in rw (good .0, good .1, answer)
 
-      -- s is the size of the list, and the buffer behind the call of put_entries is `after`
-      module _ (s : ListSize) (h : s ≡ sizeOf (keptNames book names (p .count) rounds (p .round))) (after : List ℕ)
-          (w : after ≡ filled (entriesOf (keptNames book names (p .count) rounds (p .round))) buffer) (same : length after ≡ length buffer) where
-        octets-told : s .octets ≡ length (entriesOf kept)
-        octets-told = ap (λ (z : ListSize). z .octets) h
+  module _ (e : not (p .restricted) ≡ false) where
+    abbrev kept : List (List ℕ)
+    kept = keptNames book names (p .count) rounds (p .round)
 
-        count-told : s .count ≡ length kept
-        count-told = ap (λ (z : ListSize). z .count) h
+    may-sign : issuers (authorizations request book) ≡ listed kept
+    may-sign = sym (rw (not-false (p .restricted) e) at (k .issuers-found))
 
-        pub no-room : length after < s .octets → listIssuers request book buffer ≡ record { answer = Refused (NoRoom (s .octets)); buffer = after }
-        unfolding listIssuers filled
-        no-room short =
-            rw (
-              good .0,
-              good .1,
-              may-sign,
-              ← entries-short kept names-short,
-              w,
-              octets-told,
-              lt-leb (length (entriesOf kept)) (length buffer) (omega (arith, octets-told)),
-            )
+    names-short : All (λ n. length n < 256) kept
+    unfolding maxIssuerOctets
+    names-short = All-imp (λ n w. omega (arith, w .0 .1)) (permitted-issuers request book (good .0) (good .1) .well-formed kept may-sign)
 
-        pub names-listed : s .octets ≤ length after → listIssuers request book buffer ≡ record { answer = Listed (s .count) (s .octets); buffer = after }
-        unfolding listIssuers filled
-        names-listed fits =
-            rw (
-              good .0,
-              good .1,
-              may-sign,
-              ← entries-short kept names-short,
-              w,
-              count-told,
-              octets-told,
-              le-leb (length (entriesOf kept)) (length buffer) (omega (arith, octets-told)),
-            )
+    -- s is the size of the list, and the buffer behind the call of put_entries is `after`
+    module _ (s : ListSize) (h : s ≡ sizeOf (keptNames book names (p .count) rounds (p .round))) (after : List ℕ)
+        (w : after ≡ filled (entriesOf (keptNames book names (p .count) rounds (p .round))) buffer) (same : length after ≡ length buffer) where
+      octets-told : s .octets ≡ length (entriesOf kept)
+      octets-told = ap (λ (z : ListSize). z .octets) h
+
+      count-told : s .count ≡ length kept
+      count-told = ap (λ (z : ListSize). z .count) h
+
+      pub no-room : length after < s .octets → listIssuers request book buffer ≡ record { answer = Refused (NoRoom (s .octets)); buffer = after }
+      unfolding listIssuers filled
+      no-room short =
+          rw (
+            good .0,
+            good .1,
+            may-sign,
+            ← entries-short kept names-short,
+            w,
+            octets-told,
+            lt-leb (length (entriesOf kept)) (length buffer) (omega (arith, octets-told)),
+          )
+
+      pub names-listed : s .octets ≤ length after → listIssuers request book buffer ≡ record { answer = Listed (s .count) (s .octets); buffer = after }
+      unfolding listIssuers filled
+      names-listed fits =
+          rw (
+            good .0,
+            good .1,
+            may-sign,
+            ← entries-short kept names-short,
+            w,
+            count-told,
+            octets-told,
+            le-leb (length (entriesOf kept)) (length buffer) (omega (arith, octets-told)),
+          )

@@ -1,4 +1,4 @@
--- What the call's contract means, by the theorems about the rule. Each statement is proved under its name in proofs/.
+-- What the contract of `permitted_issuers` means for a caller. Each statement is proved under its name in proofs/, from theorems about the rule.
 use Prim.Native.Nat.{ℕ, _≤_}
 use mathlib.Core.Path.{_≡_}
 use mathlib.Core.Logic.{_↔_, _≢_}
@@ -14,9 +14,9 @@ use Rattle.spec_rule.specs.declared.PermittedIssuers.the-variants.{Refused}
 use Rattle.spec_rule.specs.Calls.{listIssuers}
 use Rattle.spec_rule.specs.Theorems.{FirstRow, ListRow, ListingTells}
 
--- an answer, and the buffer afterwards, that are the definition's, as the call's contract has them: each refusal exactly when the
--- table says, with the buffer as it was; with no row of the table all that demand 3 asks of the two; and a buffer as long as the book
--- is never refused
+-- Take any answer and any buffer afterwards that equal the definition, as the contract promises. The answer is a refusal exactly when the table of
+-- refusals says so, and then the buffer is unchanged. If no row of the table applies, answer and buffer give the permitted issuers
+-- (`ListingTells`). If request and book are accepted and the buffer is as long as the book, nothing is refused.
 abbrev pub Listing-exactly : Type 0
 Listing-exactly =
     (request book buffer after : List ℕ) → Octets request → Octets book → (answer : PermittedIssuers) →

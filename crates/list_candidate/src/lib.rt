@@ -1,10 +1,10 @@
-// Candidates: names of issuers, kept as places in the book. All is total: a number past the end of the array reads as 0, and a name that
-// has no room there is not kept.
+// Candidates: issuer names that may get onto the list. Each is kept as its offset and its length in the book. Every function accepts any
+// numbers: reading past the end of the array gives 0, and a candidate without room is not added.
 use list_places::Grant;
 ghost use mathlib.Core.Path.{_≡_};
 ghost use Rattle.list_places.specs.Candidates.{candidateAt, isCandidate, pushed};
 
-// The octets of candidate i as the book spells them.
+// The name of candidate i, as the book spells it.
 pub fn candidate_at<'a>(book: &'a [u8], names: &[u16], i: usize) -> &'a [u8]
     ensures { λ r. ⌜ now r ≡ candidateAt (now (book .entry)) (now (names .entry)) i ⌝ }
 {
@@ -16,7 +16,7 @@ pub fn candidate_at<'a>(book: &'a [u8], names: &[u16], i: usize) -> &'a [u8]
     book_table::octets_at(book, names[at] as usize, n)
 }
 
-// Whether a text is one of the first `count` candidates.
+// Whether a name is one of the first `count` candidates, letter case ignored.
 pub fn is_candidate(book: &[u8], names: &[u16], count: usize, x: &[u8]) -> bool
     ensures { λ r. ⌜ r ≡ isCandidate (now (book .entry)) (now (names .entry)) count (now (x .entry)) ⌝ }
 {
@@ -30,7 +30,7 @@ pub fn is_candidate(book: &[u8], names: &[u16], count: usize, x: &[u8]) -> bool
     false
 }
 
-// One candidate more. The answer is how many there are then.
+// Adds a candidate, and returns how many there are now.
 pub fn push_candidate(names: &mut [u16], count: usize, g: Grant) -> usize
     ensures answer { λ r. ⌜ r ≡ pushed (record { count = count; names = now (names .entry) }) g .count ⌝ }
     ensures numbers { λ r. ⌜ now (names .exit) ≡ pushed (record { count = count; names = now (names .entry) }) g .names ⌝ }

@@ -1,11 +1,13 @@
-// The issuers that the records of a tagged set grant: collected as candidates, or taken to narrow the candidates of another set.
+// Goes through the issuers that the records of a tagged set grant. Either they become the candidates, or they decide which of the present
+// candidates stay.
 use list_places::NextGrant;
 use list_places::TaggedSet;
 ghost use mathlib.Core.Path.{_≡_};
 ghost use Rattle.list_places.specs.Candidates.{collected};
 ghost use Rattle.list_places.specs.Rounds.{narrowed};
 
-// The names that a tagged set grants, each once, in the order in which they are first granted. The answer is how many there are.
+// Makes the names that a tagged set grants the candidates: each once, in the order of the first records that grant them. Returns how many there
+// are.
 pub fn collect(book: &[u8], table: &[u16], links: &[u16], by: TaggedSet, names: &mut [u16]) -> usize
     ensures answer { λ r. ⌜ r ≡ collected (now (book .entry)) (now (table .entry)) (now (links .entry)) by (now (names .entry)) .count ⌝ }
     ensures numbers { λ r. ⌜ now (names .exit) ≡ collected (now (book .entry)) (now (table .entry)) (now (links .entry)) by (now (names .entry)) .names ⌝ }
@@ -25,7 +27,7 @@ pub fn collect(book: &[u8], table: &[u16], links: &[u16], by: TaggedSet, names: 
     }
 }
 
-// The candidates in round t that a tagged set grants go on to the next round.
+// Moves those candidates of round t that a tagged set grants on to the next round.
 pub fn narrow(
     book: &[u8],
     table: &[u16],

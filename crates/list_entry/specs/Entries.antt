@@ -1,4 +1,5 @@
--- The entries of a list of names, for every list: a name whose length one octet cannot tell has no entry.
+-- The entries for a list of names: each is a length octet and the name. The definitions are for every list, so a name of 256 octets or more has no
+-- entry. An issuer name has at most 253 octets.
 use Prim.Native.Nat.{ℕ, _≤_}
 use mathlib.Core.Path.{_≡_}
 use mathlib.Core.Bool.{cond}
@@ -10,19 +11,19 @@ use Rattle.spec_octets.specs.Octets.{lowered}
 use Rattle.spec_rule.specs.IssuerLists.{entry}
 use Rattle.list_entry.specs.declared.ListSize.{ListSize}
 
--- of one name
+-- The entry of one name.
 unfoldable pub entryOf : List ℕ → List ℕ
 entryOf n = cond (ltb (length n) 256) (entry n) []
 
--- n octets are the length of a name's entry
+-- n is the length of the entry of the name x.
 pub record EntryLength (x : List ℕ) (n : ℕ) : Type 0 where
   pub is : n ≡ length (entryOf (lowered x))
   pub small : n ≤ 256
 
--- of all of them
+-- The entries of all names, one after the other.
 unfoldable pub entriesOf : List (List ℕ) → List ℕ
 entriesOf ns = flatten (map entryOf ns)
 
--- how many names, and how many octets their entries take
+-- The number of names, and the number of octets that their entries take.
 abbrev pub sizeOf : List (List ℕ) → ListSize
 sizeOf ns = record { count = length ns; octets = length (entriesOf ns) }

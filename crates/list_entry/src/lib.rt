@@ -1,4 +1,4 @@
-// The list of issuers in a lent buffer: an entry for each candidate that is in round t.
+// Writes the list of issuers into the caller's buffer: one entry for each candidate that is in round t.
 use spec_limits::MAX_RECORDS;
 ghost use mathlib.Core.Path.{_≡_};
 ghost use Prim.Native.Nat.{_≤_};
@@ -8,13 +8,13 @@ ghost use Rattle.spec_octets.specs.Buffer.{Put, filled};
 ghost use Rattle.list_places.specs.Rounds.{keptNames};
 ghost use Rattle.list_entry.specs.Entries.{entryOf, EntryLength, entriesOf, sizeOf};
 
-// How many names, and how many octets their entries take.
+// The number of names, and the number of octets that their entries take.
 pub struct ListSize {
     pub count: usize,
     pub octets: usize,
 }
 
-// How many octets the entry of a name takes.
+// The number of octets that the entry of a name takes.
 fn entry_length(name: &[u8]) -> usize
     ensures { λ r. ⌜ EntryLength (now (name .entry)) r ⌝ }
 {
@@ -59,7 +59,7 @@ fn list_size(book: &[u8], names: &[u16], count: usize, rounds: &[u16], t: usize)
     }
 }
 
-// An entry of the list: the length of a name, and the name in lower case.
+// Writes one entry: the length of the name, then the name in lower case. Returns the length of the entry.
 fn put_entry(name: &[u8], out: &mut [u8]) -> usize
     requires { ⌜ length (entryOf (lowered (now name))) ≤ length (now out) ⌝ }
     ensures { λ r. ⌜ Put (entryOf (lowered (now (name .entry)))) (now (out .entry)) (now (out .exit)) r ⌝ }
@@ -71,8 +71,7 @@ fn put_entry(name: &[u8], out: &mut [u8]) -> usize
     1 + text_buffer::put_lowered(name, &mut out[1..])
 }
 
-// The entries of the list, if there is room for all of them. The answer is the size of the list; nothing is written before the room is
-// known to be enough.
+// Writes all entries if the buffer has room for them, and else nothing. Returns the size of the list in both cases.
 pub fn put_entries(
     book: &[u8],
     names: &[u16],

@@ -1,35 +1,33 @@
-// Who may sign for all names of a request, found in the table of the book: the candidates, and the round that those on the list are in.
-use book_places::END;
-use book_places::TABLE;
+// Finds who may issue for all names of a request, by the table of the book. The answer is the candidates, and the last round: the candidates
+// in it are the list.
 use list_places::Permitted;
 use list_places::RelevantSets;
 use spec_limits::MAX_NAMES;
-use spec_limits::MAX_RECORDS;
 ghost use mathlib.Core.Path.{_≡_};
 ghost use Rattle.list_places.specs.PermittedBy.{permittedIn};
 
-// The issuers for all names of a request. The names of the candidates and their rounds are left in two lent arrays.
+// The issuers for all names of a request, by a table of the book and its chains. The candidates and their rounds are written into two arrays
+// of the caller.
 pub fn find_permitted(
     request: &[u8],
     book: &[u8],
+    table: &[u16],
+    links: &[u16],
+    heads: &[u16],
     names: &mut [u16],
     rounds: &mut [u16],
 ) -> Permitted
-    ensures answer { λ r. ⌜ r ≡ permittedIn (now (request .entry)) (now (book .entry)) (now (names .entry)) (now (rounds .entry)) .answer ⌝ }
-    ensures names { λ r. ⌜ now (names .exit) ≡ permittedIn (now (request .entry)) (now (book .entry)) (now (names .entry)) (now (rounds .entry)) .names ⌝ }
-    ensures rounds { λ r. ⌜ now (rounds .exit) ≡ permittedIn (now (request .entry)) (now (book .entry)) (now (names .entry)) (now (rounds .entry)) .rounds ⌝ }
+    ensures answer { λ r. ⌜ r ≡ permittedIn (now (request .entry)) (now (book .entry)) (now (table .entry)) (now (links .entry)) (now (heads .entry)) (now (names .entry)) (now (rounds .entry)) .answer ⌝ }
+    ensures names { λ r. ⌜ now (names .exit) ≡ permittedIn (now (request .entry)) (now (book .entry)) (now (table .entry)) (now (links .entry)) (now (heads .entry)) (now (names .entry)) (now (rounds .entry)) .names ⌝ }
+    ensures rounds { λ r. ⌜ now (rounds .exit) ≡ permittedIn (now (request .entry)) (now (book .entry)) (now (table .entry)) (now (links .entry)) (now (heads .entry)) (now (names .entry)) (now (rounds .entry)) .rounds ⌝ }
 {
-    let mut table = [0u16; TABLE];
-    let mut links = [END; MAX_RECORDS];
-    let mut heads = [END; MAX_RECORDS];
-    book_index::index_book(book, &mut table, &mut links, &mut heads);
     let mut numbers = [0u16; MAX_NAMES];
     let RelevantSets::Noted(noted) = list_sets::note_questions(
         request,
         book,
-        &table,
-        &links,
-        &heads,
+        table,
+        links,
+        heads,
         &mut numbers,
     ) else {
         return Permitted {
@@ -39,5 +37,5 @@ pub fn find_permitted(
         };
     };
     let n = list_sets::ask_once(&mut numbers, noted);
-    list_kept::ask_sets(book, &table, &links, &numbers, n, names, rounds)
+    list_kept::ask_sets(book, table, links, &numbers, n, names, rounds)
 }

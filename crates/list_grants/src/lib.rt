@@ -1,4 +1,4 @@
-// The grants of the records of a set that have one tag. The set is named by its first record, and walked along its chain.
+// The grants of the records of a set with one tag. The set is named by its first record; its chain leads to the others.
 use book_places::FirstRecord;
 use list_places::Grant;
 use list_places::NextGrant;
@@ -9,7 +9,8 @@ ghost use mathlib.Core.Path.{_≡_};
 ghost use Prim.Native.Nat.{_≤_};
 ghost use Rattle.list_places.specs.Grants.{grantIn, grantsFrom, firstGrant};
 
-// The grant of a record, by the name n in its data, which begins at an offset of the book. 16 bits are enough for a book within its limit.
+// The grant of a record. Its data begins at `offset` in the book, and holds the issuer name n. In a book within the limit, all these numbers fit
+// 16 bits.
 fn grant_in(rr: usize, offset: usize, n: NameAt) -> Grant
     requires { ⌜ n .from ≤ n .to ⌝ }
     ensures { λ r. ⌜ r ≡ grantIn rr offset n ⌝ }
@@ -23,7 +24,7 @@ fn grant_in(rr: usize, offset: usize, n: NameAt) -> Grant
     }
 }
 
-// The first grant of a tagged set from a record of its chain on.
+// The first grant of a tagged set, from a record of its chain on.
 pub fn next_grant(
     book: &[u8],
     table: &[u16],

@@ -1,4 +1,5 @@
-// Questions put to sets of records: the issuers that the first set that governs grants are the candidates, and each further one narrows them.
+// Asks the relevant sets, one after the other. The issuers that the first restricting set grants become the candidates. After each further
+// restricting set, only those candidates stay that it grants too.
 use book_places::Governing;
 use book_places::NameAuthorization;
 use list_places::Permitted;
@@ -7,7 +8,7 @@ ghost use mathlib.Core.Path.{_≡_};
 ghost use lib.ListN.{take};
 ghost use Rattle.list_places.specs.PermittedBy.{governedIn, allAsked};
 
-// One more set that governs.
+// Takes one more restricting set into account.
 fn keep_granted(
     book: &[u8],
     table: &[u16],
@@ -42,8 +43,8 @@ fn keep_granted(
     }
 }
 
-// The first n questions of a list of their numbers, one after the other. A set that does not restrict changes nothing; where CAA forbids,
-// nobody may sign. The names of the candidates and their rounds are left in two lent arrays.
+// Asks the first n questions of a list, which has their numbers. A set that does not restrict changes nothing. If a set forbids, nobody may issue.
+// The candidates and their rounds are written into two arrays of the caller.
 pub fn ask_sets(
     book: &[u8],
     table: &[u16],

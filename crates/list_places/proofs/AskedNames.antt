@@ -27,6 +27,7 @@ use Rattle.book_places.specs.Chains.{Chains, chainsOf}
 use Rattle.book_places.specs.Sets.{nearestRecord}
 use Rattle.book_places.specs.NameAuthorizations.{bySet, nameAuthorization, answerTo, meaning}
 use Rattle.book_places.proofs.Bounds.{FirstBelow, nearest-below}
+use Rattle.book_places.proofs.StandingRecords.{room-enough}
 use Rattle.book_places.proofs.ChainedRecords.{chains-fit}
 use Rattle.book_places.proofs.AuthorizationLaws.{authorization-by-offset}
 use Rattle.book_places.proofs.Questions.{question-by-number}
@@ -64,7 +65,7 @@ module _ (request book : List ℕ) (good : bookRefusal book ≡ none) where
   unfolding authorization nameAuthorization maxRecords
   said-of-name n g {x} {wildcard} e w =
       by-question book table (chains .links) wildcard (nearestRecord book table (chains .links) (chains .heads) x)
-      (nearest-below (chains .links) book table (chains .heads) x) (omega (arith, chains-fit book .0))
+      (nearest-below (chains .links) book table (chains .heads) x) (omega (arith, chains-fit book .0, room-enough book .1))
       ∙ rw (e, w) (authorization-by-offset book (base n) (isWildcard n) good (good-base n g))
 
   -- of the names left, behind k of them

@@ -96,21 +96,22 @@ module _ (book table links : List ℕ) (small : length book ≤ maxBookOctets) w
   collected-few s names =
       omega (arith, pushed-few book names (grantsBy book table links s) (record { count = 0; names = names }), few-grants book table links s (s .set))
 
-  module _ (places : length links ≤ maxRecords) where
+  -- with rounds for so many candidates
+  module _ (size : ℕ) (places : length links ≤ size) (most : size ≤ maxRecords) where
     -- what is known of the answer so far, with k questions left
     pub record Sound (p : PermittedIn) (k : ℕ) : Type 0 where
-      pub fresh : p .answer .restricted ≡ false → p .rounds ≡ replicate maxRecords 0
+      pub fresh : p .answer .restricted ≡ false → p .rounds ≡ replicate size 0
       pub room : p .answer .restricted ≡ false → 2 * length links ≤ length (p .names)
       pub within : All (λ r. r ≤ p .answer .round) (p .rounds)
       pub few : p .answer .round + k ≤ 65535
 
     all-kept :
         (s : TaggedSet) (names : List ℕ) → 2 * length links ≤ length names → (c : Candidates) → c ≡ collected book table links s names →
-        keptNames book (c .names) (c .count) (replicate maxRecords 0) 0 ≡ distinct (grantees s)
+        keptNames book (c .names) (c .count) (replicate size 0) 0 ≡ distinct (grantees s)
     unfolding keptNames candidates
     all-kept s names room c e =
-        ap (keptFrom book (c .names) 0 (c .count) 0) (take-all maxRecords (replicate maxRecords 0) (omega (arith, length-replicate {A = ℕ} maxRecords 0)))
-        ∙ round-0 book (c .names) (c .count) 0 maxRecords (rw e (omega (arith, collected-few s names)))
+        ap (keptFrom book (c .names) 0 (c .count) 0) (take-all maxRecords (replicate size 0) (omega (arith, length-replicate {A = ℕ} size 0)))
+        ∙ round-0 book (c .names) (c .count) 0 size (rw e (omega (arith, collected-few s names)))
         ∙ collected-by-offset book table links names small room s c e
 
     -- one set that governs
@@ -141,7 +142,7 @@ module _ (book table links : List ℕ) (small : length book ≤ maxBookOctets) w
           go false e = record {
             fresh = λ f. absurd (true≢false f);
             room = λ f. absurd (true≢false f);
-            within = rw (h .fresh e) (all-0 maxRecords);
+            within = rw (h .fresh e) (all-0 size);
             few = omega (arith, h .few);
           }
 

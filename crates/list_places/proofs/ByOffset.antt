@@ -8,19 +8,20 @@ use mathlib.Core.Option.{none, some}
 use lib.Dec.{ltb}
 use lib.ListN.{length, take, replicate, length-take, length-replicate}
 use borrow.Author.Tests.{ltb-false}
-use Rattle.spec_limits.specs.Limits.{maxNames, maxBookOctets, maxRecords}
+use Rattle.spec_limits.specs.Limits.{maxNames, maxBookOctets}
 use Rattle.spec_refusal.specs.declared.Refusal.the-variants.{BookTooLong}
 use Rattle.spec_request.specs.Request.{requestRefusal}
 use Rattle.spec_record.specs.Records.{bookRefusal, recordRefusal, recordItems}
 use Rattle.spec_rule.specs.IssuerLists.{issuers}
 use Rattle.spec_rule.specs.Calls.{authorizations}
-use Rattle.book_places.specs.Table.{tableOf}
+use Rattle.book_places.specs.Table.{roomFor, tableOf}
 use Rattle.book_places.specs.Chains.{chainsOf}
+use Rattle.book_places.proofs.StandingRecords.{room-enough}
 use Rattle.book_places.proofs.ChainedRecords.{chains-fit}
 use Rattle.list_places.specs.declared.RelevantSets.{RelevantSets}
 use Rattle.list_places.specs.declared.RelevantSets.the-variants.{Unknown, Noted}
 use Rattle.list_places.specs.Rounds.{keptNames}
-use Rattle.list_places.specs.Questions.{NameQuestion, questions, noted, once}
+use Rattle.list_places.specs.Questions.{NameQuestion, NotedQuestions, questions, noted, once}
 use Rattle.list_places.specs.PermittedBy.{anyoneIn, allAsked, byNoted, notedIn, permittedIn, issuersIn}
 use Rattle.list_places.specs.Theorems.{Permitted-by-offset}
 use Rattle.list_places.proofs.OnceLaws.{once-issuers, once-fewer}
@@ -43,31 +44,37 @@ module _ (request book : List ℕ) (r : requestRefusal request ≡ none) (b : bo
   abbrev links : List ℕ
   links = chainsOf book .links
 
+  abbrev heads : List ℕ
+  heads = chainsOf book .heads
+
   abbrev asked : List NameQuestion
-  asked = questions request book table links (chainsOf book .heads)
+  asked = questions request book table links heads
+
+  abbrev kept : NotedQuestions
+  kept = notedIn request book table links heads
 
   -- the questions noted give the answer
-  by-noted : byNumbers (answered book table links) (notedIn request book .answer) (notedIn request book .numbers) ≡ issuers (authorizations request book)
+  by-noted : byNumbers (answered book table links) (kept .answer) (kept .numbers) ≡ issuers (authorizations request book)
   unfolding notedIn noted authorizations
   by-noted =
       let names = said-names request book b r in
       noted-issuers (answered book table links) asked 0 (replicate maxNames 0) (rw length-replicate (names .few)) ∙ ap issuers (names .same)
 
-  few-numbers : (n : ℕ) → length (take n (notedIn request book .numbers)) ≤ maxNames
+  few-numbers : (n : ℕ) → length (take n (kept .numbers)) ≤ maxNames
   unfolding notedIn noted
   few-numbers n = rw (length-take, noted-length asked 0 (replicate maxNames 0), length-replicate) (omega arith)
 
-  module _ (names : List ℕ) (room : 2 * maxRecords ≤ length names) where
+  module _ (names : List ℕ) (room : 2 * roomFor book ≤ length names) where
     by-answer :
         (a : RelevantSets) (numbers : List ℕ) → ((n : ℕ) → length (take n numbers) ≤ maxNames) →
-        issuersIn book (byNoted book table links a numbers names (replicate maxRecords 0)) ≡ byNumbers (answered book table links) a numbers
+        issuersIn book (byNoted book table links a numbers names (replicate (roomFor book) 0)) ≡ byNumbers (answered book table links) a numbers
     unfolding keptNames allAsked maxNames
     by-answer Unknown numbers few = refl
     by-answer (Noted n) numbers few =
-        asked-issuers book table links (book-small book b) (omega (arith, chains-fit book .0)) (once (take n numbers)) (anyoneIn names (replicate maxRecords 0)) (record {
+        asked-issuers book table links (book-small book b) (roomFor book) (omega (arith, chains-fit book .0)) (room-enough book .1) (once (take n numbers)) (anyoneIn names (replicate (roomFor book) 0)) (record {
           fresh = λ e. refl;
           room = λ e. rw (chains-fit book .0) room;
-          within = all-0 maxRecords;
+          within = all-0 (roomFor book);
           few = omega (arith, once-fewer (take n numbers), few n);
         })
         ∙ once-issuers (answered book table links) (answers-lower book table links (book-small book b)) (take n numbers)
@@ -75,5 +82,5 @@ module _ (request book : List ℕ) (r : requestRefusal request ≡ none) (b : bo
 pub permitted-by-offset : Permitted-by-offset
 unfolding permittedIn
 permitted-by-offset request book names r b room =
-    by-answer request book r b names room (notedIn request book .answer) (notedIn request book .numbers) (few-numbers request book r b)
+    by-answer request book r b names room (kept request book r b .answer) (kept request book r b .numbers) (few-numbers request book r b)
     ∙ by-noted request book r b

@@ -1,4 +1,5 @@
--- Candidates: names of issuers kept as places in the book, two numbers for each, its offset and its length. A number past the end reads as 0.
+-- Candidates: issuer names that may get onto the list. The array `names` has two numbers for each: its offset in the book and its length. Reading
+-- past the end of the array gives 0.
 use Prim.Native.Nat.{ℕ, zero, suc, _+_, _*_}
 use mathlib.Core.Bool.{Bool, cond}
 use mathlib.Core.List.{List, [], _∷_}
@@ -11,37 +12,39 @@ use Rattle.list_places.specs.declared.TaggedSet.{TaggedSet}
 use Rattle.list_places.specs.declared.Grant.{Grant}
 use Rattle.list_places.specs.Grants.{grantsBy, grantOctets}
 
--- the octets of candidate i as the book spells them
+-- The name of candidate i, as the book spells it.
 unfoldable pub candidateAt : List ℕ → List ℕ → ℕ → List ℕ
 candidateAt book names i = octetsAt book (getD names (2 * i) 0) (getD names (2 * i + 1) 0)
 
--- n candidates from the i-th on, in lower case
+-- The names of n candidates, from candidate i on, in lower case.
 abbrev pub candidatesFrom : List ℕ → List ℕ → ℕ → ℕ → List (List ℕ)
 candidatesFrom book names zero i = []
 candidatesFrom book names (suc n) i = lowered (candidateAt book names i) ∷ candidatesFrom book names n (suc i)
 
+-- The names of the first `count` candidates.
 unfoldable pub candidates : List ℕ → List ℕ → ℕ → List (List ℕ)
 candidates book names count = candidatesFrom book names count 0
 
--- a text is one of them, letter case ignored
+-- Whether a name is one of them, letter case ignored.
 unfoldable pub isCandidate : List ℕ → List ℕ → ℕ → List ℕ → Bool
 isCandidate book names count x = any (same (lowered x)) (candidates book names count)
 
+-- How many candidates there are, and the array with their two numbers each.
 pub record Candidates : Type 0 where
   pub count : ℕ
   pub names : List ℕ
 
--- one more, where there is room for its two numbers
+-- One more candidate is added, if the array has room for its two numbers.
 unfoldable pub pushed : Candidates → Grant → Candidates
 pushed c g =
     cond (ltb (2 * c .count + 1) (length (c .names)))
     (record { count = suc (c .count); names = set (set (c .names) (2 * c .count) (g .at)) (2 * c .count + 1) (g .octets) }) c
 
--- each grant's name once, where it first stands
+-- The names of a list of grants are added one after the other, but for names that are candidates already.
 abbrev pub pushedOnce : List ℕ → List Grant → Candidates → Candidates
 pushedOnce book [] c = c
 pushedOnce book (g ∷ gs) c = pushedOnce book gs (cond (isCandidate book (c .names) (c .count) (grantOctets book g)) c (pushed c g))
 
--- the names that the records of a tagged set grant, in an array of such numbers
+-- The names that the records of a tagged set grant become the candidates.
 unfoldable pub collected : List ℕ → List ℕ → List ℕ → TaggedSet → List ℕ → Candidates
 collected book table links s names = pushedOnce book (grantsBy book table links s) (record { count = 0; names = names })

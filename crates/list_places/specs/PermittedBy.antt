@@ -1,5 +1,5 @@
--- The issuers for all names of a request, by the answers to its questions: the names of the first set that governs are the candidates, and each
--- further one narrows them.
+-- The issuers for all names of a request, by the answers to its questions (Questions.antt). The names that the first restricting set grants are the
+-- candidates. After each further restricting set, only those candidates stay that it grants too.
 use Prim.Native.Nat.{ℕ}
 use mathlib.Core.Bool.{true, false, cond}
 use mathlib.Core.List.{List, [], _∷_}
@@ -9,8 +9,6 @@ use Rattle.spec_rule.specs.IssuerLists.{Issuers, anyone, listed}
 use Rattle.book_places.specs.declared.Governing.{Governing}
 use Rattle.book_places.specs.declared.NameAuthorization.{NameAuthorization}
 use Rattle.book_places.specs.declared.NameAuthorization.the-variants.{Unrestricted, Forbidden, Governed}
-use Rattle.book_places.specs.Table.{tableOf}
-use Rattle.book_places.specs.Chains.{chainsOf}
 use Rattle.book_places.specs.NameAuthorizations.{answerTo}
 use Rattle.list_places.specs.declared.TaggedSet.{TaggedSet}
 use Rattle.list_places.specs.declared.RelevantSets.{RelevantSets}
@@ -20,21 +18,22 @@ use Rattle.list_places.specs.Candidates.{collected}
 use Rattle.list_places.specs.Rounds.{nextRound, keptNames, narrowed}
 use Rattle.list_places.specs.Questions.{questions, NotedQuestions, noted, once}
 
--- the answer so far, and the two arrays
+-- The answer so far, and the two arrays: the candidates and their rounds.
 pub record PermittedIn : Type 0 where
   pub answer : Permitted
   pub names : List ℕ
   pub rounds : List ℕ
 
--- no set governs yet
+-- No set restricts yet: anyone may issue.
 abbrev pub anyoneIn : List ℕ → List ℕ → PermittedIn
 anyoneIn names rounds = record { answer = record { restricted = false; count = 0; round = 0 }; names = names; rounds = rounds }
 
+-- Nobody may issue.
 abbrev pub nobodyIn : List ℕ → List ℕ → PermittedIn
 nobodyIn names rounds = record { answer = record { restricted = true; count = 0; round = 0 }; names = names; rounds = rounds }
 
 module _ (book table links : List ℕ) where
-  -- the first set that governs
+  -- The first restricting set: what it grants becomes the candidates.
   abbrev pub collectedIn : TaggedSet → PermittedIn → PermittedIn
   collectedIn s p = record {
     answer = record { restricted = true; count = collected book table links s (p .names) .count; round = 0 };
@@ -42,7 +41,7 @@ module _ (book table links : List ℕ) where
     rounds = p .rounds;
   }
 
-  -- a further one
+  -- A further restricting set: the candidates that it grants go on to the next round.
   abbrev pub narrowedIn : TaggedSet → PermittedIn → PermittedIn
   narrowedIn s p = record {
     answer = record { restricted = true; count = p .answer .count; round = nextRound (p .answer .round) };
@@ -50,41 +49,43 @@ module _ (book table links : List ℕ) where
     rounds = narrowed book (p .names) table links s (p .answer .count) (p .answer .round) (p .rounds);
   }
 
-  -- the records of a set that govern, by their tag
+  -- The governing records as a tagged set.
   abbrev pub governingSet : Governing → TaggedSet
   governingSet g = record { set = g .set .0; tag = g .tag }
 
+  -- One more restricting set, the first or a further one.
   unfoldable pub governedIn : Governing → PermittedIn → PermittedIn
   governedIn g p = cond (p .answer .restricted) (narrowedIn (governingSet g) p) (collectedIn (governingSet g) p)
 
-  -- by one answer, and then by the others; where CAA forbids, nobody may sign
+  -- One answer is taken into account, then the rest. If a set forbids, nobody may issue, whatever the rest says.
   abbrev pub answeredIn : NameAuthorization → PermittedIn → (PermittedIn → PermittedIn) → PermittedIn
   answeredIn Unrestricted p rest = rest p
   answeredIn (Forbidden r) p rest = nobodyIn (p .names) (p .rounds)
   answeredIn (Governed g) p rest = rest (governedIn g p)
 
-  -- by the answers to some questions
+  -- The answers to a list of questions are taken into account, one after the other.
   abbrev pub askedIn : List ℕ → PermittedIn → PermittedIn
   askedIn [] p = p
   askedIn (q ∷ qs) p = answeredIn (answerTo book table links q) p (askedIn qs)
 
-  -- from the beginning, in two arrays
+  -- The same from the start, when anyone may issue.
   unfoldable pub allAsked : List ℕ → List ℕ → List ℕ → PermittedIn
   allAsked qs names rounds = askedIn qs (anyoneIn names rounds)
 
-  -- each question is asked once
+  -- Each question that was noted is asked once. If the questions are not known, nobody may issue.
   abbrev pub byNoted : RelevantSets → List ℕ → List ℕ → List ℕ → PermittedIn
   byNoted Unknown numbers names rounds = nobodyIn names rounds
   byNoted (Noted n) numbers names rounds = allAsked (once (take n numbers)) names rounds
 
--- the questions of a request, by the table of the book and its chains
-unfoldable pub notedIn : List ℕ → List ℕ → NotedQuestions
-notedIn request book = noted (replicate maxNames 0) (questions request book (tableOf book) (chainsOf book .links) (chainsOf book .heads))
+-- The questions of a request, noted by a table of the book and its chains.
+unfoldable pub notedIn : List ℕ → List ℕ → List ℕ → List ℕ → List ℕ → NotedQuestions
+notedIn request book table links heads = noted (replicate maxNames 0) (questions request book table links heads)
 
-unfoldable pub permittedIn : List ℕ → List ℕ → List ℕ → List ℕ → PermittedIn
-permittedIn request book names rounds =
-    byNoted book (tableOf book) (chainsOf book .links) (notedIn request book .answer) (notedIn request book .numbers) names rounds
+-- The issuers for all names of a request, and the two arrays.
+unfoldable pub permittedIn : List ℕ → List ℕ → List ℕ → List ℕ → List ℕ → List ℕ → List ℕ → PermittedIn
+permittedIn request book table links heads names rounds =
+    byNoted book table links (notedIn request book table links heads .answer) (notedIn request book table links heads .numbers) names rounds
 
--- who may sign by such an answer
+-- The list of issuers that such an answer stands for, or anyone.
 abbrev pub issuersIn : List ℕ → PermittedIn → Issuers
 issuersIn book p = cond (p .answer .restricted) (listed (keptNames book (p .names) (p .answer .count) (p .rounds) (p .answer .round))) anyone

@@ -1,4 +1,5 @@
--- The questions that the names of a request put: each asks the name's relevant set, for X or for *.X, and is noted by its number.
+-- The questions that a request asks, one for each name: what does the relevant set of this name say about X, or about *.X? Each question has a
+-- number (`questionNumber` in book_places), and the numbers are noted in an array.
 use Prim.Native.Nat.{ℕ, zero, suc, _-_, _*_}
 use mathlib.Core.Bool.{Bool, true, false, cond}
 use mathlib.Core.List.{List, [], _∷_}
@@ -15,23 +16,26 @@ use Rattle.book_places.specs.NameAuthorizations.{questionNumber}
 use Rattle.list_places.specs.declared.RelevantSets.{RelevantSets}
 use Rattle.list_places.specs.declared.RelevantSets.the-variants.{Unknown, Noted}
 
--- what one name asks: nothing where no set is relevant to it. No accepted request has a name that cannot be read
+-- What one name asks. It asks nothing if it has no relevant set. The names of an accepted request can all be read.
 pub data NameQuestion : Type 0 where
   unread : NameQuestion
   nothing-asked : NameQuestion
   question : ℕ → NameQuestion
 
+-- The question of a name, given the first record of its relevant set, if there is one.
 abbrev pub questionBy : Bool → FirstRecord → NameQuestion
 questionBy wildcard Nothing = nothing-asked
 questionBy wildcard (At set) = question (questionNumber set wildcard)
 
--- by the names of a request from an offset on, at most so many
+-- The questions of the names of a request.
 module _ (request book table links heads : List ℕ) where
+  -- The question of one name, then those of the rest. After a name that cannot be read there are no more.
   abbrev pub questionOf : RequestedRead → (ℕ → List NameQuestion) → List NameQuestion
   questionOf Fault rest = unread ∷ []
   questionOf (Good n) rest =
       questionBy (n .wildcard) (nearestRecord book table links heads (take (n .next - n .base) (drop (n .base) request))) ∷ rest (n .next)
 
+  -- The questions of the names from offset `at` on, at most `steps` of them.
   abbrev pub questionsFrom : ℕ → ℕ → List NameQuestion
   questionsFrom zero at = []
   questionsFrom (suc steps) at = cond (leb (length request) at) [] (questionOf (requestedAt request at) (questionsFrom steps))
@@ -39,12 +43,13 @@ module _ (request book table links heads : List ℕ) where
   unfoldable pub questions : List NameQuestion
   questions = questionsFrom (length request) 0
 
--- the questions noted, by their numbers in an array
+-- How many questions are noted, and the array with their numbers.
 pub record NotedQuestions : Type 0 where
   pub answer : RelevantSets
   pub numbers : List ℕ
 
--- behind n that are noted already
+-- Notes a list of questions after the n that are noted already. If one is not readable, or the array is full, the answer is that the questions are
+-- unknown.
 abbrev pub notedBehind : ℕ → List ℕ → List NameQuestion → NotedQuestions
 notedBehind n numbers [] = record { answer = Noted n; numbers = numbers }
 notedBehind n numbers (unread ∷ qs) = record { answer = Unknown; numbers = numbers }
@@ -55,7 +60,8 @@ notedBehind n numbers (question q ∷ qs) =
 unfoldable pub noted : List ℕ → List NameQuestion → NotedQuestions
 noted numbers qs = notedBehind 0 numbers qs
 
--- numbers each once, where it first stands; `asked` has those that were met. A number that has no place there is not looked for
+-- A list of numbers without repeats: each stays where it first comes. `asked` marks those that came before. A number past the end of `asked` is
+-- kept every time.
 abbrev pub onceBehind : List Bool → List ℕ → List ℕ
 onceBehind asked [] = []
 onceBehind asked (q ∷ qs) = cond (getD asked q false) (onceBehind asked qs) (q ∷ onceBehind (set asked q true) qs)

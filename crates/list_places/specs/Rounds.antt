@@ -1,5 +1,5 @@
--- Rounds: a number for each candidate. A candidate is still on the list in round t if its number is t; each further set of records that
--- grants it moves it on to the next round.
+-- Rounds: one number for each candidate, which says how many further sets granted it. In round t, the candidates with the number t are still on
+-- the list. Each further restricting set moves the candidates that it grants on to the next round; the others stay behind, and are off the list.
 use Prim.Native.Nat.{ℕ, zero, suc, _+_, _%_}
 use mathlib.Core.Bool.{Bool, cond, _&&_}
 use mathlib.Core.List.{List, [], _∷_}
@@ -13,37 +13,37 @@ use Rattle.list_places.specs.declared.Grant.{Grant}
 use Rattle.list_places.specs.Grants.{grantsBy, grantOctets}
 use Rattle.list_places.specs.Candidates.{candidateAt}
 
--- the round behind t. Rounds are kept in 16 bits
+-- The round after t. Rounds are kept in 16 bits.
 abbrev pub nextRound : ℕ → ℕ
 nextRound t = (t % 65536 + 1) % 65536
 
 module _ (book names : List ℕ) where
-  -- those of n candidates from the i-th on that are in round t, in lower case
+  -- The names of those that are in round t, of n candidates from candidate i on, in lower case.
   abbrev pub keptFrom : ℕ → ℕ → ℕ → List ℕ → List (List ℕ)
   keptFrom t zero i rounds = []
   keptFrom t (suc n) i [] = []
   keptFrom t (suc n) i (r ∷ rounds) = consIf (eqb r t) (lowered (candidateAt book names i)) (keptFrom t n (suc i) rounds)
 
-  -- those of the first `count` candidates; there are no more of them than a book may have records
+  -- The names of those that are in round t, of the first `count` candidates. Only the first `maxRecords` candidates count.
   unfoldable pub keptNames : ℕ → List ℕ → ℕ → List (List ℕ)
   keptNames count rounds t = keptFrom t count 0 (take maxRecords rounds)
 
-  -- those of n candidates from the i-th on that are in round t and whose names pass a test are moved on
+  -- The rounds after a move: of n candidates from candidate i on, those that are in round t and whose name passes the test p go to the next round.
   abbrev pub movedFrom : (List ℕ → Bool) → ℕ → ℕ → ℕ → List ℕ → List ℕ
   movedFrom p t zero i rounds = rounds
   movedFrom p t (suc n) i [] = []
   movedFrom p t (suc n) i (r ∷ rounds) =
       cond (eqb r t && p (lowered (candidateAt book names i))) (nextRound t) r ∷ movedFrom p t n (suc i) rounds
 
-  -- those that are one name, letter case ignored
+  -- The candidates of round t with the name x, letter case ignored, are moved on.
   unfoldable pub marked : ℕ → List ℕ → ℕ → List ℕ → List ℕ
   marked count x t rounds = movedFrom (λ m. same m (lowered x)) t count 0 rounds
 
-  -- those that some grants name
+  -- The candidates of round t that a list of grants names are moved on.
   abbrev pub markedBy : ℕ → ℕ → List Grant → List ℕ → List ℕ
   markedBy count t [] rounds = rounds
   markedBy count t (g ∷ gs) rounds = markedBy count t gs (marked count (grantOctets book g) t rounds)
 
-  -- those that the records of a tagged set grant
+  -- The candidates of round t that a tagged set grants are moved on.
   unfoldable pub narrowed : List ℕ → List ℕ → TaggedSet → ℕ → ℕ → List ℕ → List ℕ
   narrowed table links s count t rounds = markedBy count t (grantsBy book table links s) rounds

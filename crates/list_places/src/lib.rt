@@ -1,34 +1,34 @@
-// Who may sign, found in a table of the book: what is asked of a set of records, and what is found. The definitions by offset stand in specs/.
+// Types for finding who may issue, by the table of a book. The definitions are in specs/.
 use spec_record::PropertyTag;
 
-// The records of a set that have one tag. The set is named by its first record.
+// A tagged set: the records of a set that have one tag. The set is named by its first record.
 pub struct TaggedSet {
     pub set: usize,
     pub tag: PropertyTag,
 }
 
-// A record's grant: the number of the record, and the issuer's name in the book, by its offset and its length.
+// The grant of a record: the number of the record, and the offset and length of the issuer name in the book.
 pub struct Grant {
     pub rr: usize,
     pub at: u16,
     pub octets: u16,
 }
 
-// The first grant that was asked for, if there is one.
+// The first grant that a search found, if there is one.
 pub enum NextGrant {
     At(Grant),
     Nothing,
 }
 
-// The relevant sets of the names of a request.
+// The result of noting the questions that a request asks of its relevant sets.
 pub enum RelevantSets {
-    // A name could not be read, or there was no room to note its set.
+    // A name could not be read, or there was no room to note its question.
     Unknown,
-    // How many are noted.
+    // The number of questions noted.
     Noted(usize),
 }
 
-// The issuers for all names of a request: anyone, unless a name is restricted; else the candidates that are in the last round.
+// The issuers for all names of a request. If no name is restricted: anyone. Else: those of the first `count` candidates that are in round `round`.
 pub struct Permitted {
     pub restricted: bool,
     pub count: usize,

@@ -1,8 +1,8 @@
-// The rounds of candidates: those that a further name of an issuer matches are moved on.
+// The rounds of the candidates. A candidate that a further set grants is moved on to the next round.
 ghost use mathlib.Core.Path.{_≡_};
 ghost use Rattle.list_places.specs.Rounds.{marked};
 
-// The candidates that are in round t and are the name x go on to the next round.
+// Moves the candidates of round t with the name x, letter case ignored, on to the next round.
 pub fn mark(book: &[u8], names: &[u16], count: usize, x: &[u8], rounds: &mut [u16], t: usize)
     ensures { λ r. ⌜ now (rounds .exit) ≡ marked (now (book .entry)) (now (names .entry)) count (now (x .entry)) t (now (rounds .entry)) ⌝ }
 {

@@ -1,4 +1,5 @@
-// The questions that the names of a request put to their relevant sets, each noted as one number.
+// The questions that a request asks, one for each name: what does the relevant set of this name say about X, or about *.X? Each is noted as one
+// number.
 use book_places::FirstRecord;
 use list_places::RelevantSets;
 use read_request::RequestedRead;
@@ -8,7 +9,7 @@ ghost use mathlib.Core.List.{_++_};
 ghost use lib.ListN.{length, take, drop};
 ghost use Rattle.list_places.specs.Questions.{questions, noted, once};
 
-// What the names of a request ask, one after the other: the relevant set of X, for X or for *.X. Nothing is asked yet.
+// Finds the relevant set of each name, and notes the number of its question. No question is answered yet.
 pub fn note_questions(
     request: &[u8],
     book: &[u8],
@@ -23,7 +24,7 @@ pub fn note_questions(
     let mut n: usize = 0;
     let mut at: usize = 0;
     while at < request.len() {
-        // An accepted request has no bad name; one would be granted to nobody.
+        // An accepted request doesn't get here: its names are all good. For a bad name nobody may issue.
         let RequestedRead::Good(r) = read_request::requested_name(request, at) else {
             return RelevantSets::Unknown;
         };
@@ -48,7 +49,7 @@ pub fn note_questions(
     RelevantSets::Noted(n)
 }
 
-// The first n numbers, each once and in their order, put at the front. The answer is how many there are.
+// Removes repeats from the first n numbers, and returns how many are left. They stand at the front of the array, in the same order.
 pub fn ask_once(numbers: &mut [u16], n: usize) -> usize
     ensures answer { λ r. ⌜ r ≡ length (once (take n (now (numbers .entry)))) ⌝ }
     ensures numbers { λ r. ⌜ now (numbers .exit) ≡ once (take n (now (numbers .entry))) ++ drop (length (once (take n (now (numbers .entry))))) (now (numbers .entry)) ⌝ }

@@ -35,14 +35,13 @@ module _ (s q p : List ℕ) (e : ℕ) (back : q ≡ trimEnd s) (front : p ≡ tr
     unfolding isParameterTag
     in-parts = trimmed ∙ rw (cut-more (code "=") p e cut h, value-behind (take e p) (drop (e + 1) p), ← tag)
 
-    module _ (r : Bool) (told : r ≡ isLabel t) where
-      pub bad-tag : r ≡ false → false ≡ isParameter s
-      bad-tag bad = sym (in-parts ∙ rw (← told, bad))
+    pub bad-tag : (r : Bool) → r ≡ isLabel t → r ≡ false → false ≡ isParameter s
+    bad-tag r told bad = sym (in-parts ∙ rw (← told, bad))
 
-      pub by-value : (b v : List ℕ) (a : Bool) → r ≡ true → b ≡ take (length p - (e + 1)) (drop (e + 1) p) → v ≡ trimStart b →
-          a ≡ all (inClass ParameterOctet) v → a ≡ isParameter s
-      by-value b v a good behind value all-told =
-          sym (in-parts ∙ rw (← told, good, all-told, value, behind, rest-whole p (e + 1)))
+    pub by-value : (r : Bool) (b v : List ℕ) (a : Bool) → r ≡ isLabel t → r ≡ true → b ≡ take (length p - (e + 1)) (drop (e + 1) p) →
+        v ≡ trimStart b → a ≡ all (inClass ParameterOctet) v → a ≡ isParameter s
+    by-value r b v a told good behind value all-told =
+        sym (in-parts ∙ rw (← told, good, all-told, value, behind, rest-whole p (e + 1)))
 
 -- What stands behind the first semicolon.
 

@@ -3,18 +3,20 @@ use Prim.Native.Nat.{ℕ, suc, _≤_, _<_, _+_, _-_}
 use native.Mathlib.Omega.{arith}
 use mathlib.Core.Path.{_≡_, refl, sym, _∙_}
 use mathlib.Core.Logic.{_↔_}
-use mathlib.Core.Bool.{Bool, true, false, or-true}
+use mathlib.Core.Bool.{Bool, false}
 use mathlib.Core.List.{List, [], _∷_}
 use mathlib.Core.Option.{Option, none, some}
 use lib.ListN.{length, take, drop, getD, length-append, take-append-drop}
 use lib.Seq.{drop-append-seam, take-at, length-take-le}
+use Rattle.spec_octets.specs.Lists.{all}
+use Rattle.spec_octets.specs.Octets.{isLetterOrDigit}
 use Rattle.spec_octets.proofs.Walks.{rest-whole}
 use Rattle.spec_octets.proofs.ReaderLaws.{nothing-found, fault-told}
 use Rattle.read_property.specs.declared.PropertyAt.{PropertyAt}
 use Rattle.read_property.specs.declared.PropertyRead.{PropertyRead}
 use Rattle.read_property.specs.declared.PropertyRead.the-variants.{Good, Fault}
 use Rattle.spec_record.specs.Property.{Property, property}
-use Rattle.spec_record.specs.Records.{isCaa, isLaidOut}
+use Rattle.spec_record.specs.Records.{isCaaData}
 use Rattle.read_property.specs.Places.{propertyPlaces, propertyAt, tagPart, valuePart}
 use Rattle.spec_record.proofs.PropertyLaws.{property-is-its-parts}
 
@@ -74,9 +76,8 @@ module _ (d : List ℕ) where
       unfolding valuePart
       no-value = rw (no-property g)
 
-      pub laid-out-wrongly : (type class : ℕ) (b : Bool) → b ≡ isCaa type class → b ≡ true → false ≡ isLaidOut type class d
-      unfolding isLaidOut
-      laid-out-wrongly type class b e t = rw (← e, t, no-property g)
+      pub no-caa-data : false ≡ isCaaData (property d)
+      no-caa-data = rw (no-property g)
 
     module _ (p : PropertyAt) (g : o ≡ Good p) where
       pub tag-there : take (p .value - 2) (drop 2 d) ≡ tagPart d
@@ -89,19 +90,17 @@ module _ (d : List ℕ) where
           let (q, k) = property-there p g in
           rw (k .found) (rest-whole d (p .value) ∙ k .value)
 
-      pub laid-out-rightly : (type class : ℕ) → true ≡ isLaidOut type class d
-      unfolding isLaidOut
-      laid-out-rightly type class = let (q, k) = property-there p g in rw (k .found, or-true)
+      pub caa-data-by-tag : (r : Bool) → r ≡ all isLetterOrDigit (take (p .value - 2) (drop 2 d)) → r ≡ isCaaData (property d)
+      caa-data-by-tag r e = let (q, k) = property-there p g in rw (k .found, ← k .tag) e
+
+      pub tag-inside : 3 ≤ length d
+      tag-inside = let (q, k) = property-there p g in omega (arith, k .full, k .inside)
 
       pub value-after : 2 ≤ p .value
       value-after = let (q, k) = property-there p g in omega arith
 
       pub value-inside : p .value ≤ length d
       value-inside = property-there p g .1 .inside
-
-  pub laid-out-anyhow : (type class : ℕ) (b : Bool) → b ≡ isCaa type class → b ≡ false → true ≡ isLaidOut type class d
-  unfolding isLaidOut
-  laid-out-anyhow type class b e t = rw (← e, t)
 
   unread : ((q : Property) → property d ≡ some q → ⊥) → Fault ≡ propertyAt d
   unread bad = sym (property-faults .1 (nothing-found (property d) bad))

@@ -1,7 +1,9 @@
-// CAA data (RFC 8659 section 4.1): its property, tag and value.
+// CAA data (RFC 8659 section 4.1): its property, tag and value, and whether it is well formed.
 use spec_record::PropertyTag;
+use text_classes::Class;
 ghost use mathlib.Core.Path.{_≡_};
-ghost use Rattle.spec_record.specs.Property.{tagOf};
+ghost use Rattle.spec_record.specs.Property.{property, tagOf};
+ghost use Rattle.spec_record.specs.Records.{isCaaData};
 ghost use Rattle.read_property.specs.Places.{propertyAt, tagPart, valuePart};
 
 pub fn tag_of(t: &[u8]) -> PropertyTag
@@ -68,4 +70,15 @@ pub fn value_part(d: &[u8]) -> &[u8]
     };
     let at = p.value;
     &d[at..]
+}
+
+// Whether CAA data is well formed: it holds a property, and its tag is letters and digits.
+pub fn is_caa_data(d: &[u8]) -> bool
+    ensures { λ r. ⌜ r ≡ isCaaData (property (now (d .entry))) ⌝ }
+{
+    let PropertyRead::Good(p) = read_property(d) else {
+        return false;
+    };
+    let end = p.value;
+    text_classes::all_of(&d[2..end], Class::LetterOrDigit)
 }

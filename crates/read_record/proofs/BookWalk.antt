@@ -59,8 +59,8 @@ module _ (b : List ℕ) where
         (o : RecordRead) (p : RecordAt) (k′ : ℕ) → at < length b → (k ≡ maxRecords → ⊥) → o ≡ recordAt b at → o ≡ Good p → k′ ≡ k + 1 →
         BookRead k′ (p .next)
     record-passed o p k′ h n f g e =
-        let (r, t) = record-there b at o f p g in
-        walk-on w h n r k′ (p .next) (t .found) e
+        let (r, t, found) = record-there b at o f p g in
+        walk-on w h n r k′ (p .next) found e
 
 -- each turn leaves less of the book
 pub less-left :

@@ -1,5 +1,5 @@
+pub mod FieldsAndData
 pub mod RecordFields
 pub mod RecordPlaces
 pub mod RecordWays
 pub mod BookWalk
-pub mod RecordBounds

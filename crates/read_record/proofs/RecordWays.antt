@@ -1,57 +1,90 @@
--- A law of recordAt for each return of read_record.
+-- A law for each return of read_record_fields, of read_record and of is_laid_out.
 use Prim.Native.Nat.{ℕ, _≤_, _<_, _+_, _-_}
 use native.Mathlib.Omega.{arith}
-use mathlib.Core.Path.{_≡_, sym, _∙_}
+use mathlib.Core.Path.{_≡_, sym, subst, _∙_}
 use mathlib.Core.Bool.{Bool, not, true, false, true≢false}
 use mathlib.Core.List.{List}
+use mathlib.Core.Option.{Option·none-ne-some}
 use lib.ListN.{length, take, drop}
 use borrow.Author.Tests.{not-true, not-false}
 use Rattle.spec_octets.specs.Reader.{valueFrom}
-use Rattle.spec_octets.proofs.ReaderLaws.{nothing-found}
+use Rattle.spec_octets.proofs.ReaderLaws.{nothing-found, pure-some}
 use Rattle.read_name.specs.declared.NameEnd.{NameEnd}
 use Rattle.read_name.specs.declared.NameEnd.the-variants.{At, Fault as NameFault}
-use Rattle.spec_name.specs.Names.{Name}
 use Rattle.read_name.specs.Places.{nameEnd}
 use Rattle.read_name.proofs.PlaceLaws.{name-faults, name-there}
+use Rattle.read_record.specs.declared.RecordAt.{RecordAt}
+use Rattle.read_record.specs.declared.RecordRead.{RecordRead}
 use Rattle.read_record.specs.declared.RecordRead.the-variants.{Good, Fault}
-use Rattle.spec_record.specs.Records.{isLaidOut, resourceRecord}
-use Rattle.read_record.specs.Places.{recordAt}
-use Rattle.read_record.proofs.RecordFields.{dataLength, recordFrom, placesFrom, Whole, fields-read}
-use Rattle.read_record.proofs.RecordPlaces.{record-faults, record-at, record-to}
+use Rattle.spec_record.specs.Property.{property}
+use Rattle.spec_record.specs.Records.{Record, isCaa, isCaaData, isLaidOut, resourceRecord}
+use Rattle.read_record.specs.Places.{recordFields, fieldsAt, recordAt}
+use Rattle.read_record.proofs.RecordFields.{recordFrom, placesFrom, Whole, fields-read}
+use Rattle.read_record.proofs.FieldsAndData.{fields-and-data}
+use Rattle.read_record.proofs.RecordPlaces.{RecordTo, fields-at, record-to, fields-faults, record-faults, no-fields, fields-there}
 
+-- is_laid_out: data of a type that is checked, and any other
+module _ (type class : ℕ) (d : List ℕ) (b : Bool) (e : b ≡ isCaa type class) where
+  pub laid-out-as-caa : (r : Bool) → b ≡ true → r ≡ isCaaData (property d) → r ≡ isLaidOut type class d
+  unfolding isLaidOut
+  laid-out-as-caa r t h = rw (← e, t) h
+
+  pub laid-out-anyhow : b ≡ false → true ≡ isLaidOut type class d
+  unfolding isLaidOut
+  laid-out-anyhow t = rw (← e, t)
+
+-- read_record_fields
 module _ (s : List ℕ) (at : ℕ) (o : NameEnd) (f : o ≡ nameEnd s at) where
-  pub owner-fault : o ≡ NameFault → Fault ≡ recordAt s at
-  unfolding resourceRecord
-  owner-fault g = sym (record-faults s at .1 (rw (name-faults s at .0 (cc))))
+  pub owner-fault : o ≡ NameFault → Fault ≡ fieldsAt s at
+  unfolding recordFields
+  owner-fault g = sym (fields-faults s at .1 (rw (name-faults s at .0 (cc))))
 
   module _ (e : ℕ) (g : o ≡ At e) where
     -- what is not whole is not read
-    unread : ((owner : Name) → Whole s e (recordFrom s owner e) → ⊥) → Fault ≡ recordAt s at
+    unread : (Whole s e → ⊥) → Fault ≡ fieldsAt s at
     unread bad =
         let (m, k) = name-there s at o e f g in
-        sym (record-faults s at .1 (nothing-found (resourceRecord (drop at s)) (λ x h. bad m (fields-read s at m e k (x .0) (x .1) h .0))))
+        sym (fields-faults s at .1 (nothing-found (recordFields (drop at s)) (λ x h. bad (fields-read s at m e k (x .0) (x .1) h .0))))
 
-    pub fields-cut-off : length s - e < 10 → Fault ≡ recordAt s at
-    fields-cut-off h = unread (λ m w. omega (arith, w .fixed))
+    pub fields-cut-off : length s - e < 10 → Fault ≡ fieldsAt s at
+    fields-cut-off h = unread (λ w. omega (arith, w .fixed))
 
     module _ (n : ℕ) (l : n ≡ valueFrom 0 (take 2 (drop (e + 8) s))) where
-      pub data-cut-off : length s - (e + 10) < n → Fault ≡ recordAt s at
-      data-cut-off h = unread (λ m w. omega (arith, w .data-fits))
+      pub data-cut-off : length s - (e + 10) < n → Fault ≡ fieldsAt s at
+      data-cut-off h = unread (λ w. omega (arith, w .data-fits))
 
-      module _ (type class : ℕ) (t : type ≡ valueFrom 0 (take 2 (drop e s))) (c : class ≡ valueFrom 0 (take 2 (drop (e + 2) s))) (b : Bool) where
-        abbrev AnswerCode : Type 0
-        AnswerCode = b ≡ isLaidOut type class (take (e + 10 + n - (e + 10)) (drop (e + 10) s))
+      pub fields-whole :
+          (type class : ℕ) → type ≡ valueFrom 0 (take 2 (drop e s)) → class ≡ valueFrom 0 (take 2 (drop (e + 2) s)) → 10 ≤ length s - e →
+          n ≤ length s - (e + 10) →
+          Good (record { «owner_end» = e; rtype = type; class = class; rdata = e + 10; next = e + 10 + n }) ≡ fieldsAt s at
+      fields-whole type class t c h i =
+          let (m, k) = name-there s at o e f g in
+          let w : Whole s e = record { fixed = h; data-fits = rw (← l) i } in
+          rw (l, t, c) (sym (fields-at s at (placesFrom s e) (recordFrom s m e) (record-to s at m e k w)))
 
-        layout : AnswerCode → (m : Name) → b ≡ isLaidOut (recordFrom s m e .type) (recordFrom s m e .class) (recordFrom s m e .rdata)
-        layout d m = let long : e + 10 + n - (e + 10) ≡ dataLength s e = omega arith in rw (← t, ← c, ← long) d
+-- read_record
+module _ (s : List ℕ) (at : ℕ) (o : RecordRead) (f : o ≡ fieldsAt s at) where
+  pub no-fields-no-record : o ≡ Fault → Fault ≡ recordAt s at
+  no-fields-no-record g =
+      sym (record-faults s at .1 (nothing-found (resourceRecord (drop at s)) (λ x h.
+      let z = sym (no-fields s at o f g) ∙ fields-and-data (drop at s) (x .0) (x .1) .0 h .0 in Option·none-ne-some _ z)))
 
-        pub wrong-data : not b ≡ true → AnswerCode → Fault ≡ recordAt s at
-        wrong-data h d = unread (λ m w. true≢false (sym (w .laid-out) ∙ sym (layout d m) ∙ not-true b h))
+  module _ (p : RecordAt) (g : o ≡ Good p) (b : Bool) (d : b ≡ isLaidOut (p .rtype) (p .class) (take (p .next - p .rdata) (drop (p .rdata) s))) where
+    layout : (r : Record) → RecordTo s at p r → b ≡ isLaidOut (r .type) (r .class) (r .rdata)
+    layout r t = rw (← t .type, ← t .class, ← t .rdata) d
 
-        pub record-read :
-            not b ≡ false → AnswerCode → 10 ≤ length s - e → n ≤ length s - (e + 10) →
-            Good (record { «owner_end» = e; rtype = type; class = class; rdata = e + 10; next = e + 10 + n }) ≡ recordAt s at
-        record-read j d h i =
-            let (m, k) = name-there s at o e f g in
-            let w : Whole s e (recordFrom s m e) = record { fixed = h; data-fits = rw (← l) i; laid-out = sym (layout d m) ∙ not-false b j } in
-            rw (l, t, c) (sym (record-at s at (placesFrom s e) (recordFrom s m e) (record-to s at m e k w)))
+    pub wrong-data : not b ≡ true → Fault ≡ recordAt s at
+    wrong-data h = let (r, t) = fields-there s at o f p g in by r t
+      where
+        by : (r : Record) → RecordTo s at p r → Fault ≡ recordAt s at
+        by r t = sym (record-faults s at .1 (nothing-found (resourceRecord (drop at s)) (λ x k.
+            let (e, good) = fields-and-data (drop at s) (x .0) (x .1) .0 k in
+            let same : r ≡ x .0 = pure-some r (x .0) (drop (p .next) s) (x .1) .0 (sym (t .found) ∙ e) .0 in
+            true≢false (sym good ∙ subst (λ (q : Record). isLaidOut (q .type) (q .class) (q .rdata) ≡ false) same (sym (layout r t) ∙ not-true b h)))))
+
+    pub record-read : not b ≡ false → Good p ≡ recordAt s at
+    unfolding fieldsAt recordAt
+    record-read h =
+        let (r, t) = fields-there s at o f p g in
+        let e = fields-and-data (drop at s) r (drop (p .next) s) .1 (t .found, sym (layout r t) ∙ not-false b h) in
+        sym g ∙ f ∙ rw (t .found, e)

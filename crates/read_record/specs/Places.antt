@@ -3,8 +3,8 @@ use Prim.Native.Nat.{ℕ, _+_, _-_}
 use mathlib.Core.List.{List}
 use mathlib.Core.Option.{Option, none, some}
 use lib.ListN.{length, drop}
-use Rattle.spec_octets.specs.Reader.{placeOf}
-use Rattle.spec_name.specs.Names.{wire}
+use Rattle.spec_octets.specs.Reader.{Reader, pure, _>>=_, octets, number, placeOf}
+use Rattle.spec_name.specs.Names.{wire, name}
 use Rattle.spec_record.specs.Records.{Record, resourceRecord}
 use Rattle.read_record.specs.declared.RecordRead.{RecordRead}
 use Rattle.read_record.specs.declared.RecordRead.the-variants.{Good as RecordThere, Fault as RecordFault}
@@ -20,6 +20,21 @@ recordPlaces s at (some r) =
       rdata = placeOf s (r .1) - length (r .0 .rdata);
       next = placeOf s (r .1);
     })
+
+-- The fields of a record, whatever its data holds.
+unfoldable pub recordFields : Reader Record
+recordFields = do
+  owner ← name
+  type ← number 2
+  class ← number 2
+  ttl ← number 4
+  n ← number 2
+  d ← octets n
+  pure (record { owner = owner; type = type; class = class; ttl = ttl; rdata = d })
+
+-- The record that begins at offset `at`, by its fields alone.
+unfoldable pub fieldsAt : List ℕ → ℕ → RecordRead
+fieldsAt s at = recordPlaces s at (recordFields (drop at s))
 
 -- The record that begins at offset `at`.
 unfoldable pub recordAt : List ℕ → ℕ → RecordRead

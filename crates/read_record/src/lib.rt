@@ -1,6 +1,5 @@
 // Resource records (RFC 1035 section 3.2.1): reading one at an offset, and checking a whole book.
 use read_name::NameEnd;
-use read_property::PropertyRead;
 use spec_limits::MAX_BOOK_OCTETS;
 use spec_limits::MAX_RECORDS;
 use spec_refusal::Check;
@@ -12,7 +11,7 @@ ghost use lib.ListN.{length, take, drop};
 ghost use Rattle.spec_refusal.specs.Checks.{checked};
 ghost use Rattle.spec_octets.specs.Reader.{valueFrom};
 ghost use Rattle.spec_record.specs.Records.{isCaa, isLaidOut, bookRefusal};
-ghost use Rattle.read_record.specs.Places.{recordAt};
+ghost use Rattle.read_record.specs.Places.{fieldsAt, recordAt};
 
 // Class 1 with type 257 is a CAA record.
 pub fn is_caa(rtype: usize, class: usize) -> bool
@@ -28,12 +27,9 @@ pub fn is_caa(rtype: usize, class: usize) -> bool
 fn is_laid_out(rtype: usize, class: usize, d: &[u8]) -> bool
     ensures { λ r. ⌜ r ≡ isLaidOut rtype class (now (d .entry)) ⌝ }
 {
-    if !is_caa(rtype, class) {
-        return true;
+    if is_caa(rtype, class) {
+        return read_property::is_caa_data(d);
     }
-    let PropertyRead::Good(_) = read_property::read_property(d) else {
-        return false;
-    };
     true
 }
 
@@ -62,9 +58,9 @@ pub enum RecordRead {
     Fault,
 }
 
-// Reads the record that begins at offset `at`.
-pub fn read_record(s: &[u8], at: usize) -> RecordRead
-    ensures { λ r. ⌜ r ≡ recordAt (now (s .entry)) at ⌝ }
+// Reads the fields of the record that begins at offset `at`. Its data may hold anything: for a book that was checked.
+pub fn read_record_fields(s: &[u8], at: usize) -> RecordRead
+    ensures { λ r. ⌜ r ≡ fieldsAt (now (s .entry)) at ⌝ }
 {
     let NameEnd::At(fixed) = read_name::name_end(s, at) else {
         return RecordRead::Fault;
@@ -80,9 +76,6 @@ pub fn read_record(s: &[u8], at: usize) -> RecordRead
         return RecordRead::Fault;
     }
     let next = rdata + n;
-    if !is_laid_out(rtype, class, &s[rdata..next]) {
-        return RecordRead::Fault;
-    }
     RecordRead::Good(RecordAt {
         owner_end: fixed,
         rtype,
@@ -90,6 +83,21 @@ pub fn read_record(s: &[u8], at: usize) -> RecordRead
         rdata,
         next,
     })
+}
+
+// Reads the record that begins at offset `at`, with data that is well formed for its type and class.
+pub fn read_record(s: &[u8], at: usize) -> RecordRead
+    ensures { λ r. ⌜ r ≡ recordAt (now (s .entry)) at ⌝ }
+{
+    let RecordRead::Good(r) = read_record_fields(s, at) else {
+        return RecordRead::Fault;
+    };
+    let rdata = r.rdata;
+    let next = r.next;
+    if !is_laid_out(r.rtype, r.class, &s[rdata..next]) {
+        return RecordRead::Fault;
+    }
+    RecordRead::Good(r)
 }
 
 // Refusals 5, 6 and 7.

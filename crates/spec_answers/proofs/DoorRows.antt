@@ -8,7 +8,7 @@ use mathlib.Core.List.{List, [], _∷_, List·Memᴰ}
 use lib.Dec.{eqb}
 use borrow.Author.Tests.{eqb-true}
 use Rattle.spec_refusal.specs.declared.Refusal.{Refusal}
-use Rattle.spec_refusal.specs.declared.Refusal.the-variants.{RequestTooLong, BadName, TooManyNames, BadIssuer, BookTooLong, BadRecord, TooManyRecords, NoRoom}
+use Rattle.spec_refusal.specs.declared.Refusal.the-variants.{RequestTooLong, BadName, TooManyNames, BadIssuer, BookTooLong, BadRecord, TooManyRecords, NoRoom, BadAccountOrMethod}
 use Rattle.spec_refusal.specs.Refusal.{number, place}
 use Rattle.spec_refusal.specs.Order.{order, standsAt, rank}
 use Rattle.spec_octets.specs.Lists.{all, any}
@@ -16,8 +16,10 @@ use Rattle.spec_octets.proofs.ListLaws.{All-member, all-true, any-true}
 use Rattle.spec_request.specs.Theorems.{RequestRow}
 use Rattle.spec_issuer.specs.Theorems.{IssuerRow}
 use Rattle.spec_record.specs.Theorems.{BookRow}
+use Rattle.spec_applicant.specs.Theorems.{ApplicantRow}
+use Rattle.spec_applicant.specs.Applicant.{Applicant}
 use Rattle.spec_rule.specs.Theorems.{RoomRow, JudgeRow, ListRow, FirstRow}
-use Rattle.spec_answers.specs.Door.{RequestTable, row-1, row-2, row-3, IssuerTable, row-4, BookTable, row-5, row-6, row-7, RoomTable, row-8, JudgeTable, ListTable, FirstToHold, NoneHolds}
+use Rattle.spec_answers.specs.Door.{RequestTable, row-1, row-2, row-3, IssuerTable, row-4, ApplicantTable, row-15, BookTable, row-5, row-6, row-7, RoomTable, row-8, JudgeTable, ListTable, FirstToHold, NoneHolds}
 
 -- a row by number and place, as a row of a refusal
 abbrev Found : (Refusal → Type 0) → ℕ → ℕ → Type 0
@@ -64,6 +66,16 @@ issuer-rows d = record { table-of = table-of; of-table = λ n p h. of-table h }
     of-table : {n p : ℕ} → IssuerTable d n p → Found (IssuerRow d) n p
     of-table (row-4 h) = (BadIssuer, refl, refl, (refl, h))
 
+applicant-rows : (who : Applicant) → SameRows (ApplicantTable who) (ApplicantRow who)
+unfolding number place
+applicant-rows who = record { table-of = table-of; of-table = λ n p h. of-table h }
+  where
+    table-of : (r : Refusal) → ApplicantRow who r → ApplicantTable who (number r) (place r)
+    table-of r (e, h) = rw e (row-15 h)
+
+    of-table : {n p : ℕ} → ApplicantTable who n p → Found (ApplicantRow who) n p
+    of-table (row-15 h) = (BadAccountOrMethod, refl, refl, (refl, h))
+
 book-rows : (b : List ℕ) → SameRows (BookTable b) (BookRow b)
 unfolding number place
 book-rows b = record { table-of = table-of; of-table = λ n p h. of-table h }
@@ -78,21 +90,21 @@ book-rows b = record { table-of = table-of; of-table = λ n p h. of-table h }
     of-table (row-6 k h) = (BadRecord (record { 0 = k }), refl, refl, inr (inl (k, refl, h)))
     of-table (row-7 h) = (TooManyRecords, refl, refl, inr (inr (refl, h)))
 
-room-rows : (request book buffer : List ℕ) → SameRows (RoomTable request book buffer) (RoomRow request book buffer)
+room-rows : (request : List ℕ) (who : Applicant) (book buffer : List ℕ) → SameRows (RoomTable request who book buffer) (RoomRow request who book buffer)
 unfolding number place
-room-rows request book buffer = record { table-of = table-of; of-table = λ n p h. of-table h }
+room-rows request who book buffer = record { table-of = table-of; of-table = λ n p h. of-table h }
   where
-    table-of : (r : Refusal) → RoomRow request book buffer r → RoomTable request book buffer (number r) (place r)
+    table-of : (r : Refusal) → RoomRow request who book buffer r → RoomTable request who book buffer (number r) (place r)
     table-of r (n, e, h) = rw e (row-8 n h)
 
-    of-table : {n p : ℕ} → RoomTable request book buffer n p → Found (RoomRow request book buffer) n p
+    of-table : {n p : ℕ} → RoomTable request who book buffer n p → Found (RoomRow request who book buffer) n p
     of-table (row-8 n h) = (NoRoom n, refl, refl, (n, refl, h))
 
-pub judge-rows : (request issuer book : List ℕ) → SameRows (JudgeTable request issuer book) (JudgeRow request issuer book)
-judge-rows request issuer book = both (request-rows request) (both (issuer-rows issuer) (book-rows book))
+pub judge-rows : (request issuer : List ℕ) (who : Applicant) (book : List ℕ) → SameRows (JudgeTable request issuer who book) (JudgeRow request issuer who book)
+judge-rows request issuer who book = both (request-rows request) (both (issuer-rows issuer) (both (applicant-rows who) (book-rows book)))
 
-pub list-rows : (request book buffer : List ℕ) → SameRows (ListTable request book buffer) (ListRow request book buffer)
-list-rows request book buffer = both (request-rows request) (both (book-rows book) (room-rows request book buffer))
+pub list-rows : (request : List ℕ) (who : Applicant) (book buffer : List ℕ) → SameRows (ListTable request who book buffer) (ListRow request who book buffer)
+list-rows request who book buffer = both (request-rows request) (both (applicant-rows who) (both (book-rows book) (room-rows request who book buffer)))
 
 -- one of the numbers, by computing
 pub one-of : (n : ℕ) (ns : List ℕ) → any (eqb n) ns ≡ true → List·Memᴰ n ns

@@ -140,5 +140,5 @@ bookless j e =
 
 pub no-book : No-book
 unfolding deskLine
-no-book true request issuer book = (λ e. absurd (bookless (judge request issuer book) e), λ e. absurd (true≢false e))
-no-book false request issuer book = (λ e. refl, λ e. refl)
+no-book true request issuer who book = (λ e. absurd (bookless (judge request issuer who book) e), λ e. absurd (true≢false e))
+no-book false request issuer who book = (λ e. refl, λ e. refl)

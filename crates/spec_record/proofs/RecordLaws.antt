@@ -1,5 +1,5 @@
 -- A resource record is read exactly where the octets begin with its fields in order.
-use Prim.Native.Nat.{ℕ, _≤_}
+use Prim.Native.Nat.{ℕ}
 use native.Mathlib.Omega.{arith}
 use mathlib.Core.Path.{_≡_, refl, _∙_}
 use mathlib.Core.Logic.{_↔_, _⊎_, inl, inr}
@@ -10,40 +10,39 @@ use lib.Dec.{eqb}
 use lib.ListN.{length}
 use borrow.Author.Tests.{eqb-true}
 use Rattle.spec_octets.specs.Reader.{inOctets}
-use Rattle.spec_octets.proofs.ListLaws.{true-or-false}
+use Rattle.spec_octets.proofs.ListLaws.{true-or-false, all-true}
 use Rattle.spec_octets.proofs.ReaderLaws.{given-some}
 use Rattle.spec_octets.proofs.Fields.{number-field, octets-field, then-read, then-stand, given-read}
 use Rattle.spec_name.specs.Names.{wire}
 use Rattle.spec_name.proofs.NameField.{name-field}
-use Rattle.spec_record.specs.Property.{Property, wireProperty, property}
-use Rattle.spec_record.specs.Records.{Record, wireRecord, isCaa, isSome, isLaidOut, resourceRecord, GoodRecord}
+use Rattle.spec_record.specs.Property.{Property, property}
+use Rattle.spec_record.specs.Records.{Record, wireRecord, isCaa, isCaaData, isLaidOut, resourceRecord, GoodData, GoodRecord}
 use Rattle.spec_record.specs.Theorems.{Record-is-its-fields, Record-example}
 use Rattle.spec_record.specs.Pinned.{Record-form}
 use Rattle.spec_record.proofs.PropertyLaws.{property-is-its-parts}
 
-pub is-some : {A : Type 0} (o : Option A) → isSome o ≡ true → (a : A) × (o ≡ some a)
-is-some none e = absurd (false≢true e)
-is-some (some a) e = (a, refl)
+pub caa-data : (d : List ℕ) → isCaaData (property d) ≡ true → (p : Property) × (property d ≡ some p) × (isCaaData (some p) ≡ true)
+caa-data d = go (property d)
+  where
+    go : (o : Option Property) → isCaaData o ≡ true → (p : Property) × (o ≡ some p) × (isCaaData (some p) ≡ true)
+    go none e = absurd (false≢true e)
+    go (some p) e = (p, refl, e)
 
--- a record of this type and class may hold the data
-abbrev Fits : ℕ → ℕ → List ℕ → Type 0
-Fits type class d = type ≡ 257 → class ≡ 1 → (p : Property) × (d ≡ wireProperty p) × (1 ≤ length (p .tag))
-
-laid-out : (type class : ℕ) (d : List ℕ) → (isLaidOut type class d ≡ true) ↔ Fits type class d
+laid-out : (type class : ℕ) (d : List ℕ) → (isLaidOut type class d ≡ true) ↔ GoodData type class d
 unfolding isLaidOut isCaa
 laid-out type class d = (found, λ h. go h (true-or-false (isCaa type class)))
   where
-    found : isLaidOut type class d ≡ true → Fits type class d
+    found : isLaidOut type class d ≡ true → GoodData type class d
     found h caa one =
-        let (p, e) = is-some (property d) (rw (caa, one) at h) in
+        let (p, e, tag) = caa-data d (rw (caa, one) at h) in
         let (written, long) = property-is-its-parts d p .0 e in
-        (p, written, long)
+        (p, written, long, all-true _ _ .0 tag)
 
-    go : Fits type class d → (isCaa type class ≡ true) ⊎ (isCaa type class ≡ false) → isLaidOut type class d ≡ true
+    go : GoodData type class d → (isCaa type class ≡ true) ⊎ (isCaa type class ≡ false) → isLaidOut type class d ≡ true
     go h (inl e) =
         let (caa, one) = and-eq-true-iff (eqb type 257) (eqb class 1) .0 e in
-        let (p, written, long) = h (eqb-true type 257 caa) (eqb-true class 1 one) in
-        rw (e, property-is-its-parts d p .1 (written, long))
+        let (p, written, long, tag) = h (eqb-true type 257 caa) (eqb-true class 1 one) in
+        rw (e, property-is-its-parts d p .1 (written, long)) (all-true _ _ .1 tag)
     go h (inr e) = rw e
 
 -- the fields, each before all that follows it

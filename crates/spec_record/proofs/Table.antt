@@ -1,6 +1,7 @@
 -- The table of books, by computing.
 use mathlib.Core.Path.{refl}
 use Rattle.spec_limits.specs.Limits.{maxLabelOctets, maxNameOctets, maxBookOctets, maxRecords}
+use Rattle.spec_octets.specs.Octets.{isDigit, isUpper, isLower, isLetterOrDigit}
 use Rattle.spec_octets.specs.Reader.{number}
 use Rattle.spec_name.specs.Names.{name}
 use Rattle.spec_record.specs.Property.{readProperty, property}
@@ -8,5 +9,6 @@ use Rattle.spec_record.specs.Records.{isCaa, isLaidOut, resourceRecord, 
 use Rattle.spec_record.specs.Theorems.{Book-edges}
 
 pub book-edges : Book-edges
-unfolding maxLabelOctets maxNameOctets maxBookOctets maxRecords number name readProperty property isCaa isLaidOut resourceRecord recordItems bookRefusal
+unfolding maxLabelOctets maxNameOctets maxBookOctets maxRecords isDigit isUpper isLower isLetterOrDigit number name readProperty property isCaa isLaidOut
+    resourceRecord recordItems bookRefusal
 book-edges = refl

@@ -25,6 +25,10 @@ addressOctets d = recordOctets 0 1 1 (length d) d
 abbrev pub chaosOctets : List ℕ → List ℕ
 chaosOctets d = recordOctets 1 1 3 (length d) d
 
+-- A CAA record of the root.
+abbrev pub rootOctets : List ℕ → List ℕ
+rootOctets d = (0 ∷ 1 ∷ 1 ∷ 0 ∷ 1 ∷ 9 ∷ 9 ∷ 9 ∷ 9 ∷ 0 ∷ length d ∷ []) ++ d
+
 -- n records of the root without data, each of 11 octets; and one record of n octets.
 abbrev pub records : ℕ → List ℕ
 records n = flatten (replicate n (0 ∷ 0 ∷ 1 ∷ 0 ∷ 1 ∷ 0 ∷ 0 ∷ 0 ∷ 0 ∷ 0 ∷ 0 ∷ []))
@@ -44,8 +48,35 @@ bookEdges =
     ∷ (caaOctets (0 ∷ 0 ∷ []), badRecord 0)
     ∷ (caaOctets (0 ∷ 0 ∷ text "t"), badRecord 0)
     ∷ (caaOctets (0 ∷ 2 ∷ text "t"), badRecord 0)
-    -- A tag with octets other than letters and digits is well formed in a book.
-    ∷ (caaOctets (128 ∷ 4 ∷ text "tb_s"), none)
+    -- A tag octet that is no letter or digit, critical or not; as the first, the last and the only octet; a hyphen, a space, the octets next to
+    -- letters and digits, and some that are not ASCII text.
+    ∷ (caaOctets (128 ∷ 4 ∷ text "tb_s"), badRecord 0)
+    ∷ (caaOctets (0 ∷ 4 ∷ text "tb_s"), badRecord 0)
+    ∷ (caaOctets (0 ∷ 4 ∷ text "_tbs"), badRecord 0)
+    ∷ (caaOctets (0 ∷ 4 ∷ text "tbs_"), badRecord 0)
+    ∷ (caaOctets (0 ∷ 1 ∷ text "_"), badRecord 0)
+    ∷ (caaOctets (0 ∷ 3 ∷ text "a-b"), badRecord 0)
+    ∷ (caaOctets (0 ∷ 6 ∷ text "issue ca1.example.net"), badRecord 0)
+    ∷ (caaOctets (0 ∷ 1 ∷ text "/"), badRecord 0)
+    ∷ (caaOctets (0 ∷ 1 ∷ text ":"), badRecord 0)
+    ∷ (caaOctets (0 ∷ 1 ∷ text "@"), badRecord 0)
+    ∷ (caaOctets (0 ∷ 1 ∷ text "["), badRecord 0)
+    ∷ (caaOctets (0 ∷ 1 ∷ text "`"), badRecord 0)
+    ∷ (caaOctets (0 ∷ 1 ∷ text "{"), badRecord 0)
+    ∷ (caaOctets (0 ∷ 3 ∷ 116 ∷ 0 ∷ 115 ∷ []), badRecord 0)
+    ∷ (caaOctets (0 ∷ 3 ∷ 116 ∷ 128 ∷ 115 ∷ []), badRecord 0)
+    ∷ (caaOctets (0 ∷ 3 ∷ 116 ∷ 255 ∷ 115 ∷ []), badRecord 0)
+    -- Letters in upper and lower case, digits; any octets in a value, and the first octet behind the tag.
+    ∷ (caaOctets (128 ∷ 3 ∷ text "T0Z"), none)
+    ∷ (caaOctets (0 ∷ 6 ∷ text "09AZaz"), none)
+    ∷ (caaOctets (0 ∷ 5 ∷ text "issueca_1-\t"), none)
+    ∷ (caaOctets (0 ∷ 1 ∷ text "t_"), none)
+    ∷ (caaOctets (0 ∷ 2 ∷ text "t_"), badRecord 0)
+    -- Such a tag of the root; in a record of another class, and of another type, where it is no tag.
+    ∷ (rootOctets (0 ∷ 4 ∷ text "tb_s"), badRecord 0)
+    ∷ (rootOctets (0 ∷ 3 ∷ text "tbs"), none)
+    ∷ (chaosOctets (128 ∷ 4 ∷ text "tb_s"), none)
+    ∷ (addressOctets (128 ∷ 4 ∷ text "tb_s"), none)
     -- Records other than CAA may hold any data, and they count in the record number.
     ∷ (addressOctets [], none)
     ∷ (chaosOctets (0 ∷ []), none)
@@ -60,10 +91,12 @@ bookEdges =
     ∷ (addressOctets [] ++ (1 ∷ 97 ∷ 0 ∷ 0 ∷ 1 ∷ 0 ∷ 1 ∷ 0 ∷ 0 ∷ 0 ∷ 0 ∷ 0 ∷ []), badRecord 1)
     ∷ (recordOctets 0 1 1 3 (1 ∷ 2 ∷ []), badRecord 0)
     ∷ (recordOctets 0 1 1 1 (1 ∷ 2 ∷ []), badRecord 1)
-    -- The first fault is reported: malformed CAA data, and a record that is cut off.
+    -- The first fault is reported: malformed CAA data, a tag, and a record that is cut off.
     ∷ (caaOctets (0 ∷ []) ++ (1 ∷ 97 ∷ []), badRecord 0)
     ∷ (caaOctets (0 ∷ 1 ∷ text "t") ++ caaOctets (0 ∷ []) ++ (1 ∷ 97 ∷ []), badRecord 1)
     ∷ (caaOctets (0 ∷ 1 ∷ text "t") ++ (1 ∷ 97 ∷ []), badRecord 1)
+    ∷ (caaOctets (0 ∷ 1 ∷ text "t") ++ caaOctets (0 ∷ 4 ∷ text "tb_s") ++ (1 ∷ 97 ∷ []), badRecord 1)
+    ∷ (caaOctets (0 ∷ 4 ∷ text "tb_s") ++ caaOctets (0 ∷ []), badRecord 0)
     -- 1,024 records, and any octets after them. A malformed 1,024th record. 256 and 257 records are within the limit.
     ∷ (records 1024, none)
     ∷ (records 1025, some TooManyRecords)

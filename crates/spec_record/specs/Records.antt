@@ -8,6 +8,8 @@ use lib.ListN.{length}
 use Rattle.spec_limits.specs.Limits.{maxBookOctets, maxRecords}
 use Rattle.spec_refusal.specs.declared.Refusal.{Refusal}
 use Rattle.spec_refusal.specs.declared.Refusal.the-variants.{BookTooLong, BadRecord, TooManyRecords}
+use Rattle.spec_octets.specs.Lists.{all, All}
+use Rattle.spec_octets.specs.Octets.{isLetterOrDigit}
 use Rattle.spec_octets.specs.Reader.{Reader, given, _>>=_, octets, number, inOctets}
 use Rattle.spec_octets.specs.Items.{Items, wholeItems, itemFault, items}
 use Rattle.spec_name.specs.Names.{Name, wire, name, GoodName}
@@ -35,9 +37,15 @@ abbrev pub isSome : {A : Type 0} → Option A → Bool
 isSome none = false
 isSome (some a) = true
 
--- Whether data is well formed for its type and class. Data of other types and classes is not checked.
+-- Whether CAA data is well formed: it holds a property, and its tag has no other octets than letters and digits. RFC 8659 section 4.1: "Tags
+-- MUST NOT contain any other characters"
+abbrev pub isCaaData : Option Property → Bool
+isCaaData none = false
+isCaaData (some p) = all isLetterOrDigit (p .tag)
+
+-- Whether data is well formed for its type and class, with a clause for each type that is checked. Other data may hold anything.
 unfoldable pub isLaidOut : ℕ → ℕ → List ℕ → Bool
-isLaidOut type class d = not (isCaa type class) || isSome (property d)
+isLaidOut type class d = not (isCaa type class) || isCaaData (property d)
 
 unfoldable pub resourceRecord : Reader Record
 resourceRecord = do
@@ -63,8 +71,13 @@ recordRefusal i = itemFault (λ k. BadRecord (record { 0 = k })) TooManyRecords 
 unfoldable pub bookRefusal : List ℕ → Option Refusal
 bookRefusal b = cond (ltb maxBookOctets (length b)) (some BookTooLong) (recordRefusal (recordItems b))
 
--- A valid record: each field fits its octets, and the data of type 257 and class 1 holds a property.
+-- What data must be, by type and class, with a clause for each type that is checked. Type 257 and class 1: a property, its tag letters and digits.
+abbrev pub GoodData : ℕ → ℕ → List ℕ → Type 0
+GoodData type class d =
+    (type ≡ 257 → class ≡ 1 → (p : Property) × (d ≡ wireProperty p) × (1 ≤ length (p .tag)) × All (λ x. isLetterOrDigit x ≡ true) (p .tag))
+
+-- A valid record: each field fits its octets, and the data is what its type and class ask for.
 abbrev pub GoodRecord : Record → Type 0
 GoodRecord r =
     GoodName (r .owner) × (r .type < 2 ^ 16) × (r .class < 2 ^ 16) × (r .ttl < 2 ^ 32) × (length (r .rdata) < 2 ^ 16)
-    × (r .type ≡ 257 → r .class ≡ 1 → (p : Property) × (r .rdata ≡ wireProperty p) × (1 ≤ length (p .tag)))
+    × GoodData (r .type) (r .class) (r .rdata)

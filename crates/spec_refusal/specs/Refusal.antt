@@ -1,5 +1,5 @@
--- The requirements' table of refusals, "When the desk says no": the number of each refusal, and its place: the number of a name or record,
--- the octets needed, or 0.
+-- The requirements' table of refusals, "When the desk says no": the number of each refusal, and its place. "Place" is the requirements' word for
+-- the one value that a refusal carries: the number of a name or record, the octets needed, or 0.
 use Prim.Native.Nat.{ℕ}
 use Rattle.spec_limits.specs.Limits.{maxNames, maxRecords}
 use Rattle.spec_refusal.specs.declared.Refusal.{Refusal}

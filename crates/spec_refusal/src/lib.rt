@@ -55,7 +55,7 @@ pub fn number_of(r: Refusal) -> u64
     }
 }
 
-// The place of a refusal in the table.
+// The place of a refusal: the number of a name or record, the octets needed, or 0.
 pub fn place_of(r: Refusal) -> usize
     ensures { λ p. ⌜ p ≡ place r ⌝ }
 {

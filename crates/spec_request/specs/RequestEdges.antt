@@ -19,7 +19,7 @@ letters n = n ∷ replicate n (code "a")
 abbrev pub names : ℕ → List ℕ
 names n = flatten (replicate n (1 ∷ 97 ∷ 0 ∷ []))
 
--- So many names of 255 octets, and a name of one label of so many letters.
+-- n names of 255 octets each, and then a name of one label of k letters.
 abbrev pub longNames : ℕ → ℕ → List ℕ
 longNames n k = flatten (replicate n (letters 63 ++ letters 63 ++ letters 63 ++ letters 61 ++ (0 ∷ []))) ++ letters k ++ (0 ∷ [])
 

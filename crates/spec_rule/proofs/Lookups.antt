@@ -33,7 +33,7 @@ caa-from k (r ∷ rs) (all-cons good goods) = go (true-or-false (isCaa (r .type)
         CaaRecordsOf (suc k) rs (caaRecordsFrom (suc k) rs) → CaaRecordsOf k (r ∷ rs) (caaRecordsFrom k (r ∷ rs))
     go (inl e) rest =
         let (t, c) = caa-exactly (r .type) (r .class) .0 e in
-        let (p, d, l) = good .5 t c in
+        let (p, d, l, tag) = good .5 t c in
         rw (e, property-is-its-parts (r .rdata) p .1 (d, l)) (is-caa p t c d l rest)
     go (inr e) rest = rw e (is-other (λ both. true≢false (rw (caa-exactly (r .type) (r .class) .1 both) at e)) rest)
 

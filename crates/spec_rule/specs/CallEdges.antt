@@ -25,6 +25,10 @@ asking ns = flatten (map (λ n. wire (dotted n)) ns)
 abbrev pub bookOf : List Record → List ℕ
 bookOf rs = flatten (map wireRecord rs)
 
+-- A record that grants, and behind it a critical one with this tag, at an owner that nobody asks for.
+abbrev pub elsewhere : String → List ℕ
+elsewhere tag = bookOf (caa "example.com" 0 "issue" "ca1.example.net" ∷ caa "elsewhere.example" 128 tag "x" ∷ [])
+
 abbrev pub www : List ℕ
 www = asking ("www.example.com" ∷ [])
 
@@ -54,6 +58,10 @@ callEdges =
     ∷ callEdge [] [] (64 ∷ []) (Refused (BadName (record { 0 = 0 })))
     ∷ callEdge www [] (64 ∷ []) (Refused BadIssuer)
     ∷ callEdge www (text "n") (64 ∷ []) (Refused (BadRecord (record { 0 = 0 })))
+    -- A tag with an octet that is no letter or digit refuses the book, whoever owns the record. A tag of letters does not.
+    ∷ callEdge www ca1 (elsewhere "tb_s") (Refused (BadRecord (record { 0 = 1 })))
+    ∷ callEdge www ca1 (elsewhere "tbs") Permitted
+    ∷ callEdge www ca1 (bookOf (caa "example.com" 0 "tb_s" "x" ∷ caa "example.com" 0 "issue" "ca1.example.net" ∷ [])) (Refused (BadRecord (record { 0 = 0 })))
     ∷ []
 
 abbrev pub Calls-agree : Type 0
@@ -91,6 +99,7 @@ Lists-agree =
     × (listing ("www.example.com" ∷ "*.bad.example.com" ∷ []) orders 3 ≡ record { answer = Listed 0 0; buffer = replicate 3 95 })
     × (listing [] (64 ∷ []) 3 ≡ record { answer = ListRefused (BadName (record { 0 = 0 })); buffer = replicate 3 95 })
     × (listing ("www.example.com" ∷ []) (64 ∷ []) 0 ≡ record { answer = ListRefused (BadRecord (record { 0 = 0 })); buffer = [] })
+    × (listing ("www.example.com" ∷ []) (elsewhere "tb_s") 3 ≡ record { answer = ListRefused (BadRecord (record { 0 = 1 })); buffer = replicate 3 95 })
     -- The order of the checks: the book before the buffer. A record that grants, behind it one that makes the book too long, and no buffer.
     × (listing ("www.example.com" ∷ []) (bookOf (caa "example.com" 0 "issue" "ca1.example.net" ∷ []) ++ ofOctets 49152) 0
     ≡ record { answer = ListRefused BookTooLong; buffer = [] })

@@ -111,7 +111,7 @@ List-refusals =
     ((listIssuers request who book buffer .answer ≡ ListRefused r) ↔ FirstRow (ListRow request who book buffer) r)
     × (listIssuers request who book buffer .answer ≡ ListRefused r → listIssuers request who book buffer .buffer ≡ buffer)
 
--- The requirements' demand 3, stated over the verdict: what the permitted issuers are, for an accepted request and book.
+-- The requirements' third demand, on who may issue, stated over the verdict: what the permitted issuers are, for an accepted request and book.
 pub record PermittedIssuersAre (request : List ℕ) (who : Applicant) (book : List ℕ) (answer : Issuers) : Type 0 where
   pub anyone-exactly : (answer ≡ anyone) ↔ All (Unrestricted (caaRecords (records book))) (requestedNames request)
   pub permitted-exactly : (d : List ℕ) → WellFormed d →
@@ -175,7 +175,7 @@ ReadsBack count octets buffer ns =
 abbrev pub ListsNames : Listing → List (List ℕ) → Type 0
 ListsNames l ns = (count octets : ℕ) × (l .answer ≡ Listed count octets) × ReadsBack count octets (l .buffer) ns
 
--- The requirements' demand 3, stated over the call: what a caller learns from the answer and the octets of the buffer.
+-- The requirements' third demand, on who may issue, stated over the call: what a caller learns from the answer and the octets of the buffer.
 pub record ListingTells (request : List ℕ) (who : Applicant) (book buffer : List ℕ) (l : Listing) : Type 0 where
   pub anyone-exactly : (l .answer ≡ Anyone) ↔ All (Unrestricted (caaRecords (records book))) (requestedNames request)
   pub permitted-exactly : (d : List ℕ) → WellFormed d →

@@ -59,7 +59,8 @@ pub record Spelled (s : List ℕ) : Type 0 where
   pub blank-after : Blank after
   pub valued : Of isParameterOctet octets
 
-by-tag : {s : List ℕ} (t b a v : List ℕ) → s ≡ t ++ (b ++ (code "=" ∷ (a ++ v))) → isParameterTag t ≡ true → Blank b → Blank a → Of isParameterOctet v → Spelled s
+by-tag : {s : List ℕ} (t b a v : List ℕ) → s ≡ t ++ (b ++ (code "=" ∷ (a ++ v))) → isParameterTag t ≡ true →
+    Blank b → Blank a → Of isParameterOctet v → Spelled s
 by-tag [] b a v e h before after octets = absurd (false≢true (sym no-empty-tag ∙ h))
 by-tag (x ∷ t) b a v e h before after octets =
     record {

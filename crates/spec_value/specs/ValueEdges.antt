@@ -102,7 +102,7 @@ valueEdges =
     ∷ (text "n; =1", malformed)
     ∷ (text "n; =", malformed)
     ∷ (text "n;a=1; =2", malformed)
-    -- Hyphens inside a tag, also several in a row, and after a digit.
+    -- Hyphens inside a tag, also several in a row and between digits.
     ∷ (text "ca1.example.net; cert-tier=gold", ca1)
     ∷ (text "n; a--b=1", n)
     ∷ (text "n; a-b-c=1", n)

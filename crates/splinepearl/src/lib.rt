@@ -6,7 +6,7 @@ ghost use mathlib.Core.Path.{_≡_};
 ghost use Rattle.spec_answers.specs.Door.{caaJudge, caaPermittedIssuers, caaWriteLine, caaReadLine};
 ghost use Rattle.spec_answers.specs.LineAnswers.{packedLine};
 
-// May this issuer issue? 0: permitted. 20 and 21: name number in a, record number in b. A refusal: place in a.
+// May this issuer issue? 0: permitted. 20 and 21: name number in a, record number in b. A refusal: its place (spec_refusal) in a.
 #[no_mangle]
 pub extern "C" fn caa_judge(request: &[u8], issuer: &[u8], book: &[u8]) -> u64
     ensures { λ r. ⌜ r ≡ caaJudge (now (request .entry)) (now (issuer .entry)) (now (book .entry)) ⌝ }

@@ -1,5 +1,5 @@
 """Both sides of every limit of a request, an issuer name and a book, and every way to break their rules. Quoted: the requirements."""
-from .forms import ANYONE, PERMITTED, caa, critical, issue, judge, labels, listed, name, not_granted, record, refused
+from .forms import ANYONE, PERMITTED, caa, critical, data, issue, judge, labels, listed, name, not_granted, record, refused
 
 CA1 = "ca1.example.net"
 X = name("x")
@@ -206,6 +206,16 @@ for title, octets in (
 book_of("a tag that fills the data", record("y", 257, 1, b"\0\5issue") + last, not_granted(0, 1))
 book_of("a tag of 255", caa("y", 128, "a" * 255) + last, not_granted(0, 1))
 book_of("data of CAA's least length", record("y", 257, 1, b"\0\1i") + last, not_granted(0, 1))
+# Q-10: a tag octet that is no letter or digit, in any place of the tag; the value and other classes may have any
+for octet in "-", "_", " ", "/", ":", "@", "[", "`", "{", "\0", "\x7f", "\x80", "\xff":
+    book_of(f"octet {ord(octet):02x} last in a tag", txt + caa("y", 0, "is" + octet, "a") + last, refused(6, 1))
+book_of("octet 5f first in a tag", txt + caa("y", 0, "_is") + last, refused(6, 1))
+book_of("octet 5f alone in a tag", txt + caa("y", 0, "_") + last, refused(6, 1))
+book_of("octet 5f last in a tag of 255", txt + caa("y", 128, "a" * 254 + "_") + last, refused(6, 1))
+book_of("octet 5f in a tag, class 3", txt + record("y", 257, 3, data(128, "tb_s")) + last, not_granted(0, 2))
+book_of("octet 5f in a tag, type 256", txt + record("y", 256, 1, data(128, "tb_s")) + last, not_granted(0, 2))
+book_of("letters and digits in a tag", txt + caa("y", 128, "09AZaz", "_-/:@[`{\0\xff") + last, not_granted(0, 2))
+book_of("octet 5f behind a tag", txt + caa("y", 0, "is", "_") + last, not_granted(0, 2))
 # "Reading stops at the first fault."
 book_of("a fault before 1,025 records", b"\x40" + least * 1024, refused(6, 0))
 book_of("two faults", txt + record("y", 257, 1, b"") + record("y", 257, 1, b""), refused(6, 1))
@@ -213,4 +223,8 @@ cut, wrong = txt[:5], record("y", 257, 1, b"\0")
 book_of("wrong CAA data, then a record cut off", wrong + cut, refused(6, 0))
 book_of("a record, wrong CAA data, then one cut off", txt + wrong + cut, refused(6, 1))
 book_of("a record, then one cut off", txt + cut, refused(6, 1))
+tagged = caa("y", 128, "tb_s")
+book_of("a record, a wrong tag, then one cut off", txt + tagged + cut, refused(6, 1))
+book_of("a wrong tag in the 1,024th record", least * 1023 + tagged, refused(6, 1023))
+book_of("a wrong tag after 1,024 records", least * 1024 + tagged, refused(7, 1024))
 book_of("a record cut off and nothing else", cut, refused(6, 0))

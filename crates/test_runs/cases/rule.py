@@ -121,9 +121,17 @@ for flags in 0, 1, 127:
 book = caa("example.com", 128, "ISSUE", CA1) + caa("example.com", 255, "IssueWild", CA2) + caa("example.com", 128, "ioDef", "x")
 cases += asked("flags 128, known tags, X", WWW, book, {CA1: PERMITTED, CA2: not_granted(0, 0)}, [CA1])
 cases += asked("flags 128, known tags, *.X", name("*.example.com"), book, {CA1: not_granted(0, 1), CA2: PERMITTED}, [CA2])
-for tag in "issu", "issuee", "issuewil", "iode", "iodeff", "i", "tb_s", "\xc9ssue":
+for tag in "issu", "issuee", "issuewil", "iode", "iodeff", "i", "T0Z", "5":
     cases += asked(f"unknown tag {tag!a}", WWW, caa("example.com", 128, tag, CA1), {CA1: critical(0, 0)}, [])
     cases += asked(f"unknown tag {tag!a}, not critical", WWW, caa("example.com", 0, tag, CA1), {CA2: PERMITTED}, ANYONE)
+# a tag octet that is no letter or digit refuses the book at that record, critical or not.
+for tag in "tb_s", "\xc9ssue", "issue ", "is-sue":
+    cases += asked(f"tag {tag!a}", WWW, caa("example.com", 128, tag, CA1), {CA1: refused(6, 0)}, refused(6, 0))
+    cases += asked(f"tag {tag!a}, not critical", WWW, caa("example.com", 0, tag, CA1), {CA2: refused(6, 0)}, refused(6, 0))
+book = issue("example.com", CA1) + caa("elsewhere.example", 128, "tb_s")
+cases += asked("tag tb_s at an owner nobody asks for", WWW, book, {CA1: refused(6, 1)}, refused(6, 1))
+book = issue("example.com", CA1) + caa("", 0, "tb_s")
+cases += asked("tag tb_s of the root", WWW, book, {CA1: refused(6, 1)}, refused(6, 1))
 
 # P: "`256` is no flags field"
 cases += [read("256 is no flags field", "256 issue x", refused(9, 0)), read("255 is a flags field", "255 issue x", data(255, "issue", "x"))]

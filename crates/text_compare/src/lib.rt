@@ -1,4 +1,4 @@
-// Texts of octets: the comparison that ignores letter case, labels, and pieces.
+// Texts of octets: comparing without regard to letter case, testing a label, and finding the end of a piece.
 use text_classes::Class;
 ghost use mathlib.Core.Path.{_≡_};
 ghost use mathlib.Core.Bool.{_&&_};
@@ -129,7 +129,7 @@ fn still_same(same: bool, x: u8, y: u8) -> bool
     false
 }
 
-// Letters, digits and inner hyphens.
+// Whether a text is a label: letters, digits and hyphens, with no hyphen at either end. The empty text is none.
 pub fn is_label(l: &[u8]) -> bool
     ensures { λ r. ⌜ r ≡ isLabel (now (l .entry)) ⌝ }
 {
@@ -146,7 +146,7 @@ pub fn is_label(l: &[u8]) -> bool
     text_classes::all_of(l, Class::LetterDigitHyphen)
 }
 
-// Where the piece that begins at a place ends: at the next octet c, or at the end of the text.
+// The offset where the piece that begins at offset `at` ends: at the next octet c, or at the end of the text.
 pub fn piece_end(s: &[u8], at: usize, c: u8) -> usize
     ensures { λ r. ⌜ r ≡ pieceEnd c (now (s .entry)) at ⌝ }
 {

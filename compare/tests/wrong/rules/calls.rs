@@ -3,10 +3,12 @@
 use compare::buffer::put_at_front;
 use compare::{Answer, Permitted, Word};
 
+use super::book::taken_as;
 use super::mistake::Mistake;
 use super::rule::{same_up_to_128_octets, standings, Standing};
 
 pub fn judge(request: &[u8], issuer: &[u8], book: &[u8]) -> Result<Answer, Word> {
+    let book: &[u8] = &taken_as(request, book);
     if let refused @ Answer::Refused(_) = compare::judge(request, issuer, book) {
         return Ok(refused);
     }
@@ -51,6 +53,7 @@ pub fn permitted_issuers(
     book: &[u8],
     buffer: &mut [u8],
 ) -> Result<Permitted, Word> {
+    let book: &[u8] = &taken_as(request, book);
     let mut enough = vec![0; book.len()];
     if let refused @ Permitted::Refused(_) = compare::permitted_issuers(request, book, &mut enough)
     {

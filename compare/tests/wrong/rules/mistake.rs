@@ -18,6 +18,21 @@ macro_rules! mistakes {
 }
 
 mistakes! {
+    IN_THE_BOOK:
+        TagsAreNotLookedInto,
+        TagsOfCriticalRecordsAloneAreLookedInto,
+        TagsOfOtherRecordsAloneAreLookedInto,
+        TagsOfTheRootAreNotLookedInto,
+        TagsOfRelevantNamesAloneAreLookedInto,
+        TagsHoldHyphens,
+        TagsHoldUnderscores,
+        TagsHoldBlanks,
+        TagsHoldOctetZero,
+        TagsHoldOctetsFrom128On,
+        FirstOctetOfATagIsNotLookedAt,
+        LastOctetOfATagIsNotLookedAt,
+        TagsOfClass3AreLookedInto,
+        TagsAreLookedIntoBehindTheLayout;
     IN_THE_LOOK:
         OwnersAreComparedByTail,
         OwnersAreComparedUpTo128Octets,
@@ -53,7 +68,13 @@ mistakes! {
         LongNamesAreAbsent,
         NamesWithLongLabelsGrantTheirFront,
         LongNamesGrantTheirFront,
-        ParameterTagsHoldHyphens;
+        ParameterTagsHoldNoHyphens,
+        ParameterTagsHoldNoTwoHyphensInARow,
+        ParameterTagsBeginWithHyphens,
+        ParameterTagsEndWithHyphens,
+        ParameterTagsMayBeAHyphen,
+        ParameterTagsHoldBlanksBesideHyphens,
+        FirstParameterTagAloneHoldsHyphens;
     IN_THE_VERDICT:
         IssuersAreComparedByTail,
         IssuersAreComparedUpTo128Octets,

@@ -1,5 +1,6 @@
 //! The rule of issue with one mistake.
 
+mod book;
 mod calls;
 mod mistake;
 mod rule;
@@ -18,7 +19,7 @@ const LIST: Other = Other {
     ..Other::NOTHING
 };
 
-fn all_are_found_out(other: Other, groups: [&[Mistake]; 3]) {
+fn all_are_found_out(other: Other, groups: [&[Mistake]; 4]) {
     let is_missed = |mistake: &Mistake| {
         mistake.is_made_from_now_on();
         found_at_random(other).is_empty()
@@ -40,6 +41,7 @@ fn mistakes_in_judging_are_found_out() {
     all_are_found_out(
         JUDGE,
         [
+            Mistake::IN_THE_BOOK,
             Mistake::IN_THE_LOOK,
             Mistake::IN_THE_SET,
             Mistake::IN_THE_VERDICT,
@@ -52,6 +54,7 @@ fn mistakes_in_listing_are_found_out() {
     all_are_found_out(
         LIST,
         [
+            Mistake::IN_THE_BOOK,
             Mistake::IN_THE_LOOK,
             Mistake::IN_THE_SET,
             Mistake::IN_THE_LIST,

@@ -3,7 +3,7 @@
 use compare::book::{read_property, read_raw_record, Property};
 use compare::limits::{ISSUER_OCTETS, LABEL_OCTETS};
 use compare::request::read_requested_name;
-use compare::value::IssueValue;
+use compare::value::{leading_blanks, IssueValue};
 use compare::{read_issuer, read_value};
 
 use super::mistake::Mistake;
@@ -215,7 +215,7 @@ impl Record<'_> {
 impl Record<'_> {
     /// Whether the record is taken as if it weren't there.
     fn is_absent(&self) -> bool {
-        match read_value(self.property.value) {
+        match reading(self.property.value) {
             IssueValue::Malformed => {
                 Mistake::BadValuesAreAbsent.is_made()
                     || Mistake::BadValuesOfIssueAreAbsent.is_made() && self.has_tag("issue")
@@ -247,24 +247,66 @@ impl Beyond {
     }
 }
 
+/// How a value reads, with the mistakes in the grammar.
+fn reading(value: &[u8]) -> IssueValue<'_> {
+    let mut taken = value.split(|&octet| octet == b';').map(<[u8]>::to_vec);
+    let mut parts: Vec<Vec<u8>> = taken.next().into_iter().collect();
+    parts.extend(
+        taken
+            .enumerate()
+            .map(|(number, part)| taken_as(number, part)),
+    );
+    // The name stands before all parameters, so it is where it was.
+    match read_value(&parts.join(&b';')) {
+        IssueValue::Malformed => IssueValue::Malformed,
+        IssueValue::NoName => IssueValue::NoName,
+        IssueValue::Name(name) => {
+            let begins = leading_blanks(value);
+            IssueValue::Name(&value[begins..begins + name.len()])
+        }
+    }
+}
+
+/// The parameter that a wrong reader of tags takes this one for.
+fn taken_as(number: usize, parameter: Vec<u8>) -> Vec<u8> {
+    const WRONG: &[u8] = b"%";
+    let Some(equals) = parameter.iter().position(|&octet| octet == b'=') else {
+        return parameter;
+    };
+    let (tag, rest) = parameter.split_at(equals);
+    let tag = tag[leading_blanks(tag)..].trim_ascii_end();
+    let holds = |octets: &[u8]| tag.windows(octets.len()).any(|place| place == octets);
+    let taken_as = if Mistake::ParameterTagsHoldNoHyphens.is_made() && holds(b"-")
+        || Mistake::ParameterTagsHoldNoTwoHyphensInARow.is_made() && holds(b"--")
+        || Mistake::FirstParameterTagAloneHoldsHyphens.is_made() && number > 0 && holds(b"-")
+    {
+        Some(WRONG)
+    } else if Mistake::ParameterTagsBeginWithHyphens.is_made() {
+        tag.strip_prefix(b"-")
+    } else if Mistake::ParameterTagsEndWithHyphens.is_made() {
+        tag.strip_suffix(b"-")
+    } else if Mistake::ParameterTagsMayBeAHyphen.is_made() && tag == b"-"
+        || Mistake::ParameterTagsHoldBlanksBesideHyphens.is_made()
+            && (tag == b"a -b" || tag == b"a- b")
+    {
+        Some(&b"a"[..])
+    } else {
+        None
+    };
+    match taken_as {
+        Some(tag) => [tag, rest].concat(),
+        None => parameter,
+    }
+}
+
 /// In the letters of the record.
 fn grantee(value: &[u8]) -> Option<&[u8]> {
-    let name = match read_value(value) {
+    let name = match reading(value) {
         IssueValue::Name(name) => name,
-        IssueValue::NoName => return None,
-        IssueValue::Malformed => {
-            let (front, behind) = value.split_at(value.iter().position(|&octet| octet == b';')?);
-            let behind: Vec<u8> = behind.iter().copied().filter(|&o| o != b'-').collect();
-            let mended = [front, &behind].concat();
-            let reads = matches!(read_value(&mended), IssueValue::Name(_));
-            if reads && Mistake::ParameterTagsHoldHyphens.is_made()
-                || Mistake::BadValuesGrantTheirFront.is_made()
-            {
-                front.trim_ascii()
-            } else {
-                return None;
-            }
+        IssueValue::Malformed if Mistake::BadValuesGrantTheirFront.is_made() => {
+            value[..value.iter().position(|&octet| octet == b';')?].trim_ascii()
         }
+        IssueValue::NoName | IssueValue::Malformed => return None,
     };
     match Beyond::of(name) {
         None => Some(name),

@@ -27,8 +27,8 @@ same-length c = search needs
 returns-2 : tie.Need-returns-2 Inv-loop μ-loop
 returns-2 c = search (needs, rows-told, count-told, room-used)
 
-read-record-requires : tie.Need-read-record-requires Inv-loop μ-loop
-read-record-requires c κs = search needs
+read-record-fields-requires : tie.Need-read-record-fields-requires Inv-loop μ-loop
+read-record-fields-requires c κs = search needs
 
 enum-known-r : tie.Need-enum-known-r Inv-loop μ-loop
 enum-known-r c = search needs
@@ -76,7 +76,7 @@ fill-table-spec =
     loop-holds
     same-length
     returns-2
-    read-record-requires
+    read-record-fields-requires
     enum-known-r
     enum-told
     same-length-2

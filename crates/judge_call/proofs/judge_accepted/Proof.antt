@@ -1,51 +1,39 @@
 -- `judge_accepted` meets its contract.
-use mathlib.Core.Path.{refl}
 use borrow.Author.Needs.{needs}
 use Rattle.spec_limits.specs.Limits.{maxRecords}
-use Rattle.judge_call.proofs.TableMade.{made-ready}
+use Rattle.book_places.specs.Table.{fewRecords, shortBook}
+use Rattle.book_places.specs.Chains.{noRecord}
+use Rattle.judge_call.proofs.TableMade.{heads-lent}
 use Rattle.judge_call.proofs.judge_accepted.Statement.{statement}
 use Rattle.judge_call.proofs.judge_accepted.Tie as tie
 
-slice-aggregate-index-book : tie.Need-slice-aggregate-index-book
-slice-aggregate-index-book c = search needs
+slice-aggregate-judge-short : tie.Need-slice-aggregate-judge-short
+slice-aggregate-judge-short c = search needs
 
-slice-aggregate-index-book-2 : tie.Need-slice-aggregate-index-book-2
-slice-aggregate-index-book-2 c = search needs
-
-slice-aggregate-index-book-3 : tie.Need-slice-aggregate-index-book-3
-slice-aggregate-index-book-3 c = search needs
-
-index-book-requires : tie.Need-index-book-requires
-index-book-requires c κs = search needs
-
-slice-aggregate-judge-names : tie.Need-slice-aggregate-judge-names
-slice-aggregate-judge-names c = search needs
-
-slice-aggregate-judge-names-2 : tie.Need-slice-aggregate-judge-names-2
-slice-aggregate-judge-names-2 c = search needs
-
-slice-aggregate-judge-names-3 : tie.Need-slice-aggregate-judge-names-3
-slice-aggregate-judge-names-3 c = search needs
-
-judge-names-requires : tie.Need-judge-names-requires
-unfolding maxRecords
-judge-names-requires c κs =
-    let indexed = c .before .before .before .before .before .before .index-book .ensures in
-    made-ready _ _ _ (c .before .before .before .before .before .before .before .before .before .before .before .before .before .pre) _ _ refl refl _ _ _ (indexed .0) (indexed .1 .0) (indexed .1 .1)
+judge-short-requires : tie.Need-judge-short-requires
+unfolding maxRecords fewRecords shortBook noRecord
+judge-short-requires c κs = search (needs, heads-lent)
 
 returns : tie.Need-returns
 returns c = search needs
+
+slice-aggregate-judge-long : tie.Need-slice-aggregate-judge-long
+slice-aggregate-judge-long c = search needs
+
+judge-long-requires : tie.Need-judge-long-requires
+unfolding maxRecords fewRecords shortBook noRecord
+judge-long-requires c κs = search (needs, heads-lent)
+
+returns-2 : tie.Need-returns-2
+returns-2 c = search needs
 
 pub judge-accepted-spec : {M : Type 1} → statement M
 judge-accepted-spec =
     tie.close
     (tie.spec
-    slice-aggregate-index-book
-    slice-aggregate-index-book-2
-    slice-aggregate-index-book-3
-    index-book-requires
-    slice-aggregate-judge-names
-    slice-aggregate-judge-names-2
-    slice-aggregate-judge-names-3
-    judge-names-requires
-    returns)
+    slice-aggregate-judge-short
+    judge-short-requires
+    returns
+    slice-aggregate-judge-long
+    judge-long-requires
+    returns-2)

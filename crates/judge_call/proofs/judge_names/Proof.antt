@@ -2,10 +2,10 @@
 use Prim.Native.Nat.{_-_}
 use lib.ListN.{length}
 use borrow.Author.Needs.{needs}
-use Rattle.spec_limits.specs.Limits.{maxNames, maxRecords}
+use Rattle.spec_limits.specs.Limits.{maxNames}
 use Rattle.read_request.proofs.RequestPlaces.{next-inside, left-less}
 use Rattle.judge_call.specs.Asked.{Asked}
-use Rattle.judge_call.proofs.AskedLaws.{none-asked}
+use Rattle.judge_call.proofs.AskedLaws.{same-notes}
 use Rattle.judge_call.proofs.NameWalk.{Judged, names-start, few, no-bad-name, base-first, name-unrestricted, question-inside, asked-before, name-denied, name-permitted, name-noted, all-passed}
 use Rattle.judge_call.proofs.judge_names.Statement.{statement}
 use Rattle.judge_call.proofs.judge_names.Tie as tie
@@ -17,8 +17,7 @@ abbrev μ-loop : tie.MeasureT-loop
 μ-loop request issuer book table links heads asked₀ at₀ k₀ asked at k = length request - at
 
 loop-holds : tie.Need-loop-holds Inv-loop μ-loop
-unfolding maxRecords
-loop-holds c = search (needs, names-start, none-asked)
+loop-holds c = search (needs, names-start)
 
 requested-name-requires : tie.Need-requested-name-requires Inv-loop μ-loop
 requested-name-requires c κs = search needs
@@ -28,6 +27,9 @@ enum-known-n c = search needs
 
 enum-told : tie.Need-enum-told Inv-loop μ-loop
 enum-told c = search needs
+
+same-length : tie.Need-same-length Inv-loop μ-loop
+same-length c = search (needs, same-notes)
 
 returns : tie.Need-returns Inv-loop μ-loop
 returns c = search (needs, no-bad-name)
@@ -63,9 +65,8 @@ loop-again c = search (needs, name-unrestricted)
 question-number-requires : tie.Need-question-number-requires Inv-loop μ-loop
 question-number-requires c κs = search needs
 
-array-read-if1 : tie.Need-array-read-if1 Inv-loop μ-loop
-unfolding maxRecords
-array-read-if1 c = search (needs, question-inside)
+slice-read-if1 : tie.Need-slice-read-if1 Inv-loop μ-loop
+slice-read-if1 c = search (needs, question-inside)
 
 loop-less-2 : tie.Need-loop-less-2 Inv-loop μ-loop
 loop-less-2 c = search (needs, left-less)
@@ -79,18 +80,23 @@ judge-by-set-requires c κs = search needs
 enum-told-3 : tie.Need-enum-told-3 Inv-loop μ-loop
 enum-told-3 c = search needs
 
+same-length-2 : tie.Need-same-length-2 Inv-loop μ-loop
+same-length-2 c = search (needs, same-notes)
+
 returns-2 : tie.Need-returns-2 Inv-loop μ-loop
 returns-2 c = search (needs, name-denied)
 
-array-write-asked : tie.Need-array-write-asked Inv-loop μ-loop
-unfolding maxRecords
-array-write-asked c = search (needs, question-inside)
+slice-write-asked : tie.Need-slice-write-asked Inv-loop μ-loop
+slice-write-asked c = search (needs, question-inside)
 
 loop-less-3 : tie.Need-loop-less-3 Inv-loop μ-loop
 loop-less-3 c = search (needs, left-less)
 
 loop-again-3 : tie.Need-loop-again-3 Inv-loop μ-loop
 loop-again-3 c = search (needs, name-permitted, name-noted)
+
+same-length-3 : tie.Need-same-length-3 Inv-loop μ-loop
+same-length-3 c = search (needs, same-notes)
 
 returns-3 : tie.Need-returns-3 Inv-loop μ-loop
 returns-3 c = search (needs, all-passed)
@@ -105,6 +111,7 @@ judge-names-spec =
     requested-name-requires
     enum-known-n
     enum-told
+    same-length
     returns
     add-k
     sub-nearest-record
@@ -116,13 +123,15 @@ judge-names-spec =
     loop-less
     loop-again
     question-number-requires
-    array-read-if1
+    slice-read-if1
     loop-less-2
     loop-again-2
     judge-by-set-requires
     enum-told-3
+    same-length-2
     returns-2
-    array-write-asked
+    slice-write-asked
     loop-less-3
     loop-again-3
+    same-length-3
     returns-3)

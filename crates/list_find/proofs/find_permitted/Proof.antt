@@ -1,34 +1,13 @@
 -- `find_permitted` meets its contract.
 use mathlib.Core.Path.{refl}
 use borrow.Author.Needs.{needs}
-use Rattle.spec_limits.specs.Limits.{maxNames, maxRecords}
-use Rattle.list_find.proofs.FoundWays.{parts, made, nobody-found, all-found}
+use Rattle.spec_limits.specs.Limits.{maxNames}
+use Rattle.list_find.proofs.FoundWays.{parts, nobody-found, all-found}
 use Rattle.list_find.proofs.find_permitted.Statement.{statement}
 use Rattle.list_find.proofs.find_permitted.Tie as tie
 
-slice-aggregate-index-book : tie.Need-slice-aggregate-index-book
-slice-aggregate-index-book c = search needs
-
-slice-aggregate-index-book-2 : tie.Need-slice-aggregate-index-book-2
-slice-aggregate-index-book-2 c = search needs
-
-slice-aggregate-index-book-3 : tie.Need-slice-aggregate-index-book-3
-slice-aggregate-index-book-3 c = search needs
-
-index-book-requires : tie.Need-index-book-requires
-index-book-requires c κs = search needs
-
 slice-aggregate-note-questions : tie.Need-slice-aggregate-note-questions
 slice-aggregate-note-questions c = search needs
-
-slice-aggregate-note-questions-2 : tie.Need-slice-aggregate-note-questions-2
-slice-aggregate-note-questions-2 c = search needs
-
-slice-aggregate-note-questions-3 : tie.Need-slice-aggregate-note-questions-3
-slice-aggregate-note-questions-3 c = search needs
-
-slice-aggregate-note-questions-4 : tie.Need-slice-aggregate-note-questions-4
-slice-aggregate-note-questions-4 c = search needs
 
 note-questions-requires : tie.Need-note-questions-requires
 note-questions-requires c κs = search needs
@@ -40,11 +19,10 @@ enum-told : tie.Need-enum-told
 enum-told c = search needs
 
 returns : tie.Need-returns
-unfolding maxRecords maxNames
+unfolding maxNames
 returns c =
     let noted = c .before .before .before in
-    let indexed = noted .before .before .before .before .before .before .before .before in
-    parts _ _ _ _ (nobody-found _ _ _ _ _ _ _ _ (made _ _ _ _ _ refl refl refl _ _ _ (indexed .index-book .ensures .0) (indexed .index-book .ensures .1 .0) (indexed .index-book .ensures .1 .1) _ _ (noted .note-questions .ensures .0) (noted .note-questions .ensures .1)) (search needs))
+    parts _ _ _ _ _ _ _ (nobody-found _ _ _ _ _ _ _ _ refl _ _ (noted .note-questions .ensures .0) (noted .note-questions .ensures .1) (search needs))
 
 slice-aggregate-ask-once : tie.Need-slice-aggregate-ask-once
 slice-aggregate-ask-once c = search needs
@@ -54,12 +32,6 @@ ask-once-requires c κs = search needs
 
 slice-aggregate-ask-sets : tie.Need-slice-aggregate-ask-sets
 slice-aggregate-ask-sets c = search needs
-
-slice-aggregate-ask-sets-2 : tie.Need-slice-aggregate-ask-sets-2
-slice-aggregate-ask-sets-2 c = search needs
-
-slice-aggregate-ask-sets-3 : tie.Need-slice-aggregate-ask-sets-3
-slice-aggregate-ask-sets-3 c = search needs
 
 ask-sets-requires : tie.Need-ask-sets-requires
 ask-sets-requires c κs = search needs
@@ -71,26 +43,18 @@ same-length-2 : tie.Need-same-length-2
 same-length-2 c = search needs
 
 returns-2 : tie.Need-returns-2
-unfolding maxRecords maxNames
+unfolding maxNames
 returns-2 c =
     let kept = c .before .before .before .before in
-    let asked = kept .before .before .before .before .before .before .before in
+    let asked = kept .before .before .before .before .before in
     let noted = asked .before .before .before .before .before .before in
-    let indexed = noted .before .before .before .before .before .before .before .before in
-    parts _ _ _ _ (all-found _ _ _ _ _ _ _ _ (made _ _ _ _ _ refl refl refl _ _ _ (indexed .index-book .ensures .0) (indexed .index-book .ensures .1 .0) (indexed .index-book .ensures .1 .1) _ _ (noted .note-questions .ensures .0) (noted .note-questions .ensures .1)) (asked .before .before .before .noted .given .0 .0) (search needs) _ (asked .ask-once .ensures .0) _ (asked .ask-once .ensures .1) _ _ _ (kept .ask-sets .ensures .0) (kept .ask-sets .ensures .1 .0) (kept .ask-sets .ensures .1 .1))
+    parts _ _ _ _ _ _ _ (all-found _ _ _ _ _ _ _ _ refl _ _ (noted .note-questions .ensures .0) (noted .note-questions .ensures .1) (asked .before .before .before .noted .given .0 .0) (search needs) _ (asked .ask-once .ensures .0) _ (asked .ask-once .ensures .1) _ _ _ (kept .ask-sets .ensures .0) (kept .ask-sets .ensures .1 .0) (kept .ask-sets .ensures .1 .1))
 
 pub find-permitted-spec : {M : Type 1} → statement M
 find-permitted-spec =
     tie.close
     (tie.spec
-    slice-aggregate-index-book
-    slice-aggregate-index-book-2
-    slice-aggregate-index-book-3
-    index-book-requires
     slice-aggregate-note-questions
-    slice-aggregate-note-questions-2
-    slice-aggregate-note-questions-3
-    slice-aggregate-note-questions-4
     note-questions-requires
     enum-known-noted
     enum-told
@@ -98,8 +62,6 @@ find-permitted-spec =
     slice-aggregate-ask-once
     ask-once-requires
     slice-aggregate-ask-sets
-    slice-aggregate-ask-sets-2
-    slice-aggregate-ask-sets-3
     ask-sets-requires
     same-length
     same-length-2

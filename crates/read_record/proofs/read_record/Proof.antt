@@ -1,95 +1,51 @@
 -- `read_record` meets its contract: a law of recordAt for each return.
 use borrow.Author.Needs.{needs}
-use Rattle.read_name.proofs.PlaceLaws.{end-inside}
-use Rattle.read_record.proofs.RecordWays.{owner-fault, fields-cut-off, data-cut-off, wrong-data, record-read}
+use Rattle.read_record.proofs.RecordPlaces.{data-before, data-inside}
+use Rattle.read_record.proofs.RecordWays.{no-fields-no-record, wrong-data, record-read}
 use Rattle.read_record.proofs.read_record.Statement.{statement}
 use Rattle.read_record.proofs.read_record.Tie as tie
 
-name-end-requires : tie.Need-name-end-requires
-name-end-requires c κs = search needs
+read-record-fields-requires : tie.Need-read-record-fields-requires
+read-record-fields-requires c κs = search needs
 
-enum-known-fixed : tie.Need-enum-known-fixed
-enum-known-fixed c = search needs
+enum-known-r : tie.Need-enum-known-r
+enum-known-r c = search needs
 
 enum-told : tie.Need-enum-told
 enum-told c = search needs
 
 returns : tie.Need-returns
-returns c = search (needs, owner-fault)
-
-sub-if1 : tie.Need-sub-if1
-sub-if1 c = search (needs, end-inside)
-
-returns-2 : tie.Need-returns-2
-returns-2 c = search (needs, fields-cut-off)
-
-two-octets-requires : tie.Need-two-octets-requires
-two-octets-requires c κs = search needs
-
-add-two-octets : tie.Need-add-two-octets
-add-two-octets c = search needs
-
-two-octets-requires-2 : tie.Need-two-octets-requires-2
-two-octets-requires-2 c κs = search needs
-
-add-two-octets-2 : tie.Need-add-two-octets-2
-add-two-octets-2 c = search needs
-
-two-octets-requires-3 : tie.Need-two-octets-requires-3
-two-octets-requires-3 c κs = search needs
-
-add-rdata : tie.Need-add-rdata
-add-rdata c = search needs
-
-sub-if2 : tie.Need-sub-if2
-sub-if2 c = search needs
-
-returns-3 : tie.Need-returns-3
-returns-3 c = search (needs, data-cut-off)
-
-add-next : tie.Need-add-next
-add-next c = search needs
+returns c = search (needs, no-fields-no-record)
 
 sub-is-laid-out : tie.Need-sub-is-laid-out
-sub-is-laid-out c = search needs
+sub-is-laid-out c = search (needs, data-before)
 
 part-is-laid-out-start : tie.Need-part-is-laid-out-start
-part-is-laid-out-start c = search needs
+part-is-laid-out-start c = search (needs, data-before)
 
 part-is-laid-out-end : tie.Need-part-is-laid-out-end
-part-is-laid-out-end c = search needs
+part-is-laid-out-end c = search (needs, data-inside)
 
 is-laid-out-requires : tie.Need-is-laid-out-requires
 is-laid-out-requires c κs = search needs
 
-returns-4 : tie.Need-returns-4
-returns-4 c = search (needs, wrong-data)
+returns-2 : tie.Need-returns-2
+returns-2 c = search (needs, wrong-data)
 
-returns-5 : tie.Need-returns-5
-returns-5 c = search (needs, record-read)
+returns-3 : tie.Need-returns-3
+returns-3 c = search (needs, record-read)
 
 pub read-record-spec : {M : Type 1} → statement M
 read-record-spec =
     tie.close
     (tie.spec
-    name-end-requires
-    enum-known-fixed
+    read-record-fields-requires
+    enum-known-r
     enum-told
     returns
-    sub-if1
-    returns-2
-    two-octets-requires
-    add-two-octets
-    two-octets-requires-2
-    add-two-octets-2
-    two-octets-requires-3
-    add-rdata
-    sub-if2
-    returns-3
-    add-next
     sub-is-laid-out
     part-is-laid-out-start
     part-is-laid-out-end
     is-laid-out-requires
-    returns-4
-    returns-5)
+    returns-2
+    returns-3)

@@ -1,0 +1,42 @@
+-- What is known on the way: the inputs are accepted, and what is lent for the list has room for the records of the book.
+use Prim.Native.Nat.{ℕ, _*_}
+use mathlib.Core.Path.{_≡_}
+use mathlib.Core.List.{List}
+use mathlib.Core.Option.{none}
+use lib.ListN.{replicate}
+use Rattle.spec_limits.specs.Limits.{maxRecords}
+use Rattle.spec_request.specs.Request.{requestRefusal}
+use Rattle.spec_record.specs.Records.{bookRefusal}
+use Rattle.spec_rule.specs.declared.PermittedIssuers.{PermittedIssuers}
+use Rattle.spec_rule.specs.IssuerLists.{issuers}
+use Rattle.spec_rule.specs.Calls.{authorizations, listIssuers}
+use Rattle.book_places.specs.Table.{roomFor}
+use Rattle.book_places.specs.Chains.{noRecord}
+use Rattle.book_index.specs.Indexes.{Blank}
+use Rattle.list_places.specs.declared.Permitted.{Permitted}
+use Rattle.list_places.specs.PermittedBy.{issuersIn}
+
+-- arrays with nothing in them; and before, the heads of the chains alone
+pub record Lent (request book table links heads names rounds : List ℕ) : Type 0 where
+  pub names-good : requestRefusal request ≡ none
+  pub records-good : bookRefusal book ≡ none
+  pub blank : Blank book table links heads
+  pub candidates : names ≡ replicate (2 * roomFor book) 0
+  pub first-round : rounds ≡ replicate (roomFor book) 0
+
+pub record HeadsLent (request book heads : List ℕ) : Type 0 where
+  pub names-good : requestRefusal request ≡ none
+  pub records-good : bookRefusal book ≡ none
+  pub headed : heads ≡ replicate maxRecords noRecord
+
+-- those who may sign are found
+pub record Found (request book names rounds : List ℕ) (p : Permitted) : Type 0 where
+  pub names-good : requestRefusal request ≡ none
+  pub records-good : bookRefusal book ≡ none
+  pub issuers-found : issuersIn book (record { answer = p; names = names; rounds = rounds }) ≡ issuers (authorizations request book)
+
+-- the answer and the buffer afterwards are the call's, for any request for which they were found
+abbrev pub ListPut : List ℕ → List ℕ → List ℕ → Permitted → List ℕ → PermittedIssuers → List ℕ → Type 0
+ListPut book names rounds p buffer answer after =
+    (request : List ℕ) → Found request book names rounds p →
+    (answer ≡ listIssuers request book buffer .answer) × (after ≡ listIssuers request book buffer .buffer)
