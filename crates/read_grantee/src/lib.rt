@@ -46,7 +46,7 @@ pub fn read_grantee(d: &[u8], account: &[u8], method: &[u8]) -> GranteeRead
     };
     let at = n.parameters;
     if !read_limits::limits_met(&d[at..], account, method) {
-        return GranteeRead::Nobody;
+        return GranteeRead::Nobody; // a grant for another account or method
     }
     GranteeRead::At(n)
 }

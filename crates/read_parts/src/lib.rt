@@ -7,18 +7,18 @@ pub fn parameter_tag(s: &[u8]) -> &[u8]
     ensures { λ r. ⌜ now r ≡ parameterIn (now (s .entry)) .tag ⌝ }
 {
     let p = text_classes::trim_start(text_classes::trim_end(s));
-    let e = text_compare::piece_end(p, 0, b'=');
-    text_classes::trim_end(&p[..e])
+    let end = text_compare::piece_end(p, 0, b'=');
+    text_classes::trim_end(&p[..end])
 }
 
 // The value: the octets after the first "=", without the white space around them; empty without a "=".
 pub fn parameter_value(s: &[u8]) -> &[u8]
     ensures { λ r. ⌜ now r ≡ parameterIn (now (s .entry)) .value ⌝ }
 {
-    let p = text_classes::trim_start(text_classes::trim_end(s));
-    let e = text_compare::piece_end(p, 0, b'=');
-    if p.len() <= e {
-        return &p[0..0];
+    let t = text_classes::trim_start(text_classes::trim_end(s));
+    let equals = text_compare::piece_end(t, 0, b'=');
+    if t.len() <= equals {
+        return &t[0..0];
     }
-    text_classes::trim_start(&p[e + 1..])
+    text_classes::trim_start(&t[equals + 1..])
 }
