@@ -48,6 +48,7 @@ note "the documents"
 python3 tools/test_check_docs.py
 python3 tools/check-docs.py
 python3 tools/figures.py --check
+python3 tools/yardstick.py --check
 
 # What needs nothing of target/. It fills the time in which rt waits for the slowest of its checks.
 beside() {
@@ -72,15 +73,24 @@ rt ci 2>&1 | tee "$said" | progress "$crates" "$edits" | sed '$d' || { tail -n 1
 
 wait "$beside" || { cat "$said_beside"; note "the tests beside the proofs have failed"; exit 1; }
 cat "$said_beside"
-note "the library against the independent implementation"
 rt staticlib test_readers
 rt staticlib splinepearl
-independent --features readers,judge,list,lines -- library
+
+# On one processor the library against the independent implementation, on the other all that is left.
+compared() {
+    set -e
+    note "the library against the independent implementation"
+    independent --features readers,judge,list,lines -- library
+}
+compared > "$said_beside" 2>&1 &
+beside=$!
 note "linking"
 bash examples/link.sh
 note "the desk program and the scripts"
 bash desk-runs/test.sh
 note "the frauds that a reader tries"
 python3 tools/test_try_fraud.py
+wait "$beside" || { cat "$said_beside"; note "the comparison has failed"; exit 1; }
+cat "$said_beside"
 
 tail -n 1 "$said"

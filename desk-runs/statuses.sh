@@ -194,7 +194,7 @@ runs=$((runs + 1))
 
 # Every script with --help prints its usage, and with an unknown argument it ends with 2. Both start nothing: the commands that
 # do the work are replaced by one that leaves a mark.
-for command in rt cargo cc c++ python3 mktemp; do
+for command in rt cargo cc c++ go python3 mktemp; do
     printf '#!/bin/sh\necho "%s $*" >> "%s/started"\n' $command "$scratch" > "$repository/bin/$command"
     chmod +x "$repository/bin/$command"
 done
@@ -210,7 +210,7 @@ expect_script() {
     [ "$written [$status]" = "$wanted" ] || failed "$wanted" "$written [$status] $(head -c 300 "$scratch/said")"
     [ ! -e "$scratch/started" ] || failed 'starts nothing' "$(cat "$scratch/started")"
 }
-for name in examples/run.sh examples/link.sh desk-runs/test.sh test.sh .ci/run; do
+for name in examples/run.sh examples/link.sh compare/night.sh desk-runs/test.sh test.sh .ci/run; do
     expect_script 0 usage: bash "$root/$name" --help
     expect_script 0 usage: bash "$root/$name" -h
     expect_script 2 '' bash "$root/$name" --not-known

@@ -34,8 +34,9 @@ records.txt: one record to a line, CAA records as in a zone file. TTL and class 
     example.com. 300 IN CAA 128 tbs "Unknown"
     www.example.com CAA none
 
-The last line says that www.example.com was looked up and has no CAA record. A record of another type is
-written in the form of RFC 3597, such as: example.com TYPE1 \# 4 C0000201
+The last line says that www.example.com was looked up and has no CAA record. A tag is letters and digits:
+the desk program refuses a book with any other, and so does make. A record of another type is written in
+the form of RFC 3597, such as: example.com TYPE1 \# 4 C0000201
 
 The output of dig, drill and kdig can be pasted into records.txt as it is. Look up every requested name and
 every name above it, up to the top-level domain:

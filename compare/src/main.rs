@@ -25,6 +25,12 @@ usage: compare cases          run the stored cases
                               yardstick's, on every load or on those with TEXT in their
                               title; needs a build with --release, --features judge, list
                               or lines and SPLINEPEARL_LIBS
+       compare night          measure the night run: the proved library next to the
+                              yardstick on 200 names of three labels over a full book,
+                              and on all other loads; builds as for bench
+       compare night-files FOLDER
+                              write the loads of the night run into folders of FOLDER,
+                              with the verdict of each
        compare comparing      measure the proved library's comparison of two names next to
                               Rust's; needs a build with --release, --features readers
                               and SPLINEPEARL_LIBS";
@@ -46,6 +52,8 @@ fn main() -> ExitCode {
             Some(text) => run_bench(text),
             None => wrong_use(USAGE),
         },
+        [command] if command == "night" => run_night(),
+        [command, folder] if command == "night-files" => write_night_run(Path::new(folder)),
         [command] if command == "comparing" => run_comparing(),
         _ => wrong_use(USAGE),
     }
@@ -128,6 +136,29 @@ fn run_bench(text: &str) -> ExitCode {
         0 => wrong_use(&format!("compare: no load has `{text}` in its title")),
         _ if good => ExitCode::SUCCESS,
         _ => ExitCode::FAILURE,
+    }
+}
+
+fn run_night() -> ExitCode {
+    if library::LINKED.judge.is_none() || library::LINKED.permitted_issuers.is_none() {
+        return wrong_use("compare: built without --features judge and list");
+    }
+    if cfg!(debug_assertions) {
+        return wrong_use("compare: night needs a build with --release");
+    }
+    match bench::night::run(&library::LINKED, |line| println!("{line}")) {
+        Ok(()) => ExitCode::SUCCESS,
+        Err(difference) => {
+            println!("differ: {difference}");
+            ExitCode::FAILURE
+        }
+    }
+}
+
+fn write_night_run(folder: &Path) -> ExitCode {
+    match bench::write_night_run(folder) {
+        Ok(()) => ExitCode::SUCCESS,
+        Err(why) => wrong_use(&format!("compare: {}: {why}", folder.display())),
     }
 }
 

@@ -21,6 +21,8 @@ fn wrong_arguments_get_the_usage() {
         &["library", "--seed", "-1"],
         &["library", "--frown", "1"],
         &["bench", "1", "2"],
+        &["night", "1"],
+        &["night-files"],
     ] {
         let output = run(arguments);
         assert_eq!(output.status.code(), Some(2), "{arguments:?}");
@@ -62,7 +64,7 @@ fn without_a_library_there_is_nothing_to_compare() {
 #[cfg(any(debug_assertions, not(any(feature = "judge", feature = "lines"))))]
 #[test]
 fn nothing_is_measured_without_a_library_or_in_a_slow_build() {
-    for command in ["bench", "comparing"] {
+    for command in ["bench", "night", "comparing"] {
         let output = run(&[command]);
         assert_eq!(output.status.code(), Some(2), "{command}");
         let stderr = String::from_utf8_lossy(&output.stderr);

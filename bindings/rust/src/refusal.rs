@@ -166,7 +166,8 @@ mod tests {
         assert_eq!(refusal.to_string(), "refused 6 at 4");
         assert_eq!(
             format!("{refusal:#}"),
-            "refused 6 at 4: this record, or its CAA data, is malformed"
+            "refused 6 at 4: this record or its CAA data is malformed, \
+             or its tag isn't letters and digits only"
         );
     }
 }

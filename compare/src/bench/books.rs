@@ -12,7 +12,7 @@ const RECORD_FRAME: usize = 10;
 /// What each record has when they fill a book as long and as crowded as may be.
 const RECORD_OCTETS: usize = BOOK_OCTETS / BOOK_RECORDS;
 /// The least data of a CAA record: flags, length of the tag, a tag of one octet.
-const LEAST_CAA: &[u8] = b"\x00\x01t";
+pub const LEAST_CAA: &[u8] = b"\x00\x01t";
 /// Labels of the deepest name, and of the deepest owner that [`RECORD_OCTETS`] leave room for, all
 /// labels of one octet.
 pub const DEEPEST_NAME: usize = (NAME_OCTETS - 1) / 2;
@@ -123,7 +123,7 @@ pub fn full_record(owner: &[u8], issuer: &str) -> Vec<u8> {
 
 /// A CAA record with that octet behind its data, so often that [`BOOK_RECORDS`] such records fill a
 /// book.
-fn filled_up(owner: &[u8], mut data: Vec<u8>, octet: u8) -> Vec<u8> {
+pub fn filled_up(owner: &[u8], mut data: Vec<u8>, octet: u8) -> Vec<u8> {
     let room = RECORD_OCTETS.saturating_sub(RECORD_FRAME + owner.len());
     data.resize(room.max(data.len()), octet);
     caa(owner, &data)

@@ -7,17 +7,18 @@ use super::books::{
     issue, long_issuer, missed_book, missed_book_with_set_at_top, plain_book, plain_request, wire,
     Differs, DEEPEST_NAME, DEEPEST_NAMES, DEEPEST_OF_ALL, DEEPEST_OWNER, ISSUER,
 };
-use super::measure::{measure, Measured, Plan, Sides};
+use super::measure::{measure, race, Measured, Plan, Race, Sides};
 use super::shapes::{Shape, GRANTED, SHAPES};
-use super::{yardstick, CALLS_OF_ONE_NAME, NIGHT_RUN_NAMES};
+use super::{alike, yardstick, CALLS_OF_ONE_NAME, NIGHT_RUN_NAMES};
+use crate::answer::Answer;
 use crate::calls::{Desk, Judge};
 use crate::limits::{BOOK_RECORDS, REQUEST_NAMES};
 
 pub struct Load {
     pub title: String,
-    request: Vec<u8>,
-    issuer: Vec<u8>,
-    book: Vec<u8>,
+    pub request: Vec<u8>,
+    pub issuer: Vec<u8>,
+    pub book: Vec<u8>,
     calls: usize,
 }
 
@@ -32,7 +33,17 @@ impl Load {
         }
     }
 
+    /// All three programs.
     pub fn measure(&self, library: Judge) -> Result<Measured, String> {
+        self.with_sides(library, measure)
+    }
+
+    /// The library and the yardstick.
+    pub fn race(&self, library: Judge) -> Result<Race, String> {
+        self.with_sides(library, race)
+    }
+
+    fn with_sides<R>(&self, library: Judge, then: impl Fn(Plan, Sides<'_, Answer>) -> R) -> R {
         let plan = Plan {
             load: self.title.clone(),
             room: 0,
@@ -61,23 +72,38 @@ impl Load {
                 Ok(yardstick::judge(request, issuer, book))
             }),
         };
-        measure(plan, sides)
+        then(plan, sides)
     }
 }
 
 /// The loads, the same in every run.
 pub fn loads() -> Vec<Load> {
-    let mut counts = vec![NIGHT_RUN_NAMES, REQUEST_NAMES];
-    counts.dedup();
-    let mut loads = Vec::new();
-    for names in counts {
-        loads.extend(SHAPES.iter().map(|shape| three_labels(shape, names)));
-        loads.push(four_owners(names));
+    let mut loads = night_run();
+    loads.extend(beside_night_run());
+    loads
+}
+
+/// The night run: the names that it is about, in each shape.
+pub fn night_run() -> Vec<Load> {
+    let load = |shape| three_labels(shape, NIGHT_RUN_NAMES);
+    SHAPES.iter().map(load).collect()
+}
+
+/// All other loads.
+pub fn beside_night_run() -> Vec<Load> {
+    let mut loads = vec![four_owners(NIGHT_RUN_NAMES)];
+    if NIGHT_RUN_NAMES < REQUEST_NAMES {
+        let load = |shape| three_labels(shape, REQUEST_NAMES);
+        loads.extend(SHAPES.iter().map(load));
+        loads.push(four_owners(REQUEST_NAMES));
     }
     loads.extend(plain_and_deep());
     loads.push(crowded());
     loads.push(two_tops());
     loads.push(one_name());
+    let load =
+        |alike: alike::Alike| Load::new(alike.title, alike.request, alike.issuer, alike.book);
+    loads.extend(alike::loads().into_iter().map(load));
     loads
 }
 
@@ -190,7 +216,6 @@ fn one_name() -> Load {
 #[cfg(test)]
 mod tests {
     use super::*;
-    use crate::answer::Answer;
     use crate::book::RecordData;
     use crate::judge::judge;
     use crate::read_book;
@@ -212,10 +237,11 @@ mod tests {
         }
     }
 
-    /// Where a set is said to be found, another issuer is not permitted; where none is, it is.
+    /// Where a set is said to be found, another issuer is not permitted; where none is, it is. Loads of
+    /// keys have a test of their own.
     #[test]
     fn sets_are_found_where_said() {
-        for load in loads() {
+        for load in loads().iter().filter(|load| !load.title.contains("keys")) {
             let answer = judge(&load.request, b"ca9.example.net", &load.book);
             let records = read_book(&load.book).unwrap().len();
             let title = &load.title;

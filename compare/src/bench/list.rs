@@ -6,9 +6,10 @@ use super::books::{
     book_of, caa, deep_request, deep_request_of_two, full_record, issue, long_issuer, plain_book,
     plain_request, wire, ISSUER,
 };
-use super::measure::{measure, Measured, Plan, Sides};
+use super::measure::{measure, race, Measured, Plan, Race, Sides};
 use super::shapes::SHAPES;
-use super::{yardstick, CALLS_OF_ONE_NAME, NIGHT_RUN_NAMES};
+use super::{alike, yardstick, CALLS_OF_ONE_NAME, NIGHT_RUN_NAMES};
+use crate::answer::Permitted;
 use crate::calls::{Desk, PermittedIssuers};
 use crate::limits::{BOOK_RECORDS, REQUEST_NAMES};
 
@@ -32,8 +33,22 @@ impl Load {
         }
     }
 
-    /// A buffer as long as the book is always enough.
+    /// All three programs.
     pub fn measure(&self, library: PermittedIssuers) -> Result<Measured, String> {
+        self.with_sides(library, measure)
+    }
+
+    /// The library and the yardstick.
+    pub fn race(&self, library: PermittedIssuers) -> Result<Race, String> {
+        self.with_sides(library, race)
+    }
+
+    /// A buffer as long as the book is always enough.
+    fn with_sides<R>(
+        &self,
+        library: PermittedIssuers,
+        then: impl Fn(Plan, Sides<'_, Permitted>) -> R,
+    ) -> R {
         let plan = Plan {
             load: self.title.clone(),
             room: self.book.len(),
@@ -57,7 +72,7 @@ impl Load {
                 Ok(yardstick::permitted_issuers(request, book, buffer))
             }),
         };
-        measure(plan, sides)
+        then(plan, sides)
     }
 }
 
@@ -114,6 +129,8 @@ pub fn loads() -> Vec<Load> {
             )
         },
     ]);
+    let load = |alike: alike::Alike| Load::new(alike.title, alike.request, alike.book);
+    loads.extend(alike::loads().into_iter().map(load));
     loads
 }
 
@@ -135,7 +152,6 @@ fn many_owners() -> Load {
 #[cfg(test)]
 mod tests {
     use super::*;
-    use crate::answer::Permitted;
     use crate::permitted::permitted_issuers;
 
     #[test]
@@ -156,6 +172,15 @@ mod tests {
             BOOK_RECORDS / 2,
             1,
         ]);
+        let all = format!("{BOOK_RECORDS} grants at the top");
+        expected.extend(alike::loads().iter().map(|alike| {
+            let grants_all = alike.title.contains(&all);
+            if grants_all {
+                BOOK_RECORDS
+            } else {
+                1
+            }
+        }));
         assert_eq!(counts.collect::<Vec<_>>(), expected);
     }
 }

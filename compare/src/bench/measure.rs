@@ -8,10 +8,9 @@ use crate::calls::told;
 use crate::generate::Generator;
 use crate::word::Word;
 
-/// Each side runs at least so often on each load, and all together at least so long: a second for
-/// each of three sides.
+/// Each side runs at least so often on each load, and all together at least so long for each side.
 const LEAST_RUNS: usize = 11;
-const LEAST_TIME: Duration = Duration::from_secs(3);
+const LEAST_TIME: Duration = Duration::from_secs(1);
 
 /// A load's call, as one side makes it. It takes the buffer.
 pub type Call<'a, A> = &'a dyn Fn(&mut [u8]) -> Result<A, Word>;
@@ -22,6 +21,14 @@ pub struct Sides<'a, A> {
     pub independent: Call<'a, A>,
     /// The yardstick has no lines.
     pub yardstick: Option<Call<'a, A>>,
+}
+
+impl<'a, A> Sides<'a, A> {
+    fn named(&self) -> Vec<(&'static str, Call<'a, A>)> {
+        let mut named = vec![("library", self.library), ("independent", self.independent)];
+        named.extend(self.yardstick.map(|yardstick| ("yardstick", yardstick)));
+        named
+    }
 }
 
 /// What is measured, apart from the calls.
@@ -94,10 +101,18 @@ impl Times {
 
     /// The ratio of the medians, and that of the least times.
     pub fn over(&self, other: &Times) -> String {
-        let ratio =
-            |one: Duration, other: Duration| rounded(one.as_secs_f64() / other.as_secs_f64());
-        let median = ratio(self.median, other.median);
-        format!("{median} ({})", ratio(self.least, other.least))
+        let [median, least] = self.ratios(other).map(rounded);
+        format!("{median} ({least})")
+    }
+
+    /// The same as numbers.
+    pub fn ratios(&self, other: &Times) -> [f64; 2] {
+        [(self.median, other.median), (self.least, other.least)]
+            .map(|(one, other)| one.as_secs_f64() / other.as_secs_f64())
+    }
+
+    pub fn median(&self) -> Duration {
+        self.median
     }
 }
 
@@ -120,64 +135,89 @@ fn rounded(number: f64) -> String {
     }
 }
 
-/// Measures the sides in turns, so that what else the machine does hits all of them, in an order
-/// that is left to chance each time, or work that comes back at even times could hit one of them
-/// alone. The answers, and all octets of the buffers, are compared first.
+/// The library next to the yardstick alone.
+pub struct Race {
+    pub load: String,
+    pub runs: usize,
+    pub library: Times,
+    pub yardstick: Times,
+}
+
+/// Measures all sides. The answers, and all octets of the buffers, are compared first.
 pub fn measure<A: PartialEq + fmt::Display>(
     plan: Plan,
     sides: Sides<'_, A>,
 ) -> Result<Measured, String> {
-    let named: Vec<(&str, Call<A>)> = [
-        ("library", Some(sides.library)),
-        ("independent", Some(sides.independent)),
-        ("yardstick", sides.yardstick),
-    ]
-    .into_iter()
-    .filter_map(|(name, call)| Some((name, call?)))
-    .collect();
-    let Plan { load, room, calls } = plan;
-    let answer = same_answer(&load, room, &named)?;
+    let answer = same_answer(&plan, &sides.named())?;
+    let (library, independent) = (sides.library, sides.independent);
+    let (runs, library, independent, yardstick) = match sides.yardstick {
+        Some(yardstick) => {
+            let (runs, [library, independent, yardstick]) =
+                in_turns(&plan, [library, independent, yardstick]);
+            (runs, library, independent, Some(yardstick))
+        }
+        None => {
+            let (runs, [library, independent]) = in_turns(&plan, [library, independent]);
+            (runs, library, independent, None)
+        }
+    };
+    Ok(Measured {
+        load: plan.load,
+        answer,
+        runs,
+        library,
+        independent,
+        yardstick,
+    })
+}
 
-    let mut buffers = vec![vec![0; room]; named.len()];
-    let mut times = vec![Vec::new(); named.len()];
-    let mut order: Vec<usize> = (0..named.len()).collect();
+/// Measures the library and the yardstick. The answers of all sides, and all octets of the buffers,
+/// are compared first.
+pub fn race<A: PartialEq + fmt::Display>(plan: Plan, sides: Sides<'_, A>) -> Result<Race, String> {
+    same_answer(&plan, &sides.named())?;
+    let Some(yardstick) = sides.yardstick else {
+        return Err(format!("{}: no yardstick", plan.load));
+    };
+    let (runs, [library, yardstick]) = in_turns(&plan, [sides.library, yardstick]);
+    Ok(Race {
+        load: plan.load,
+        runs,
+        library,
+        yardstick,
+    })
+}
+
+/// How often each side ran, and how long it took. The sides run in turns, so that what else the
+/// machine does hits all of them, in an order that is left to chance each time, or work that comes
+/// back at even times could hit one of them alone.
+fn in_turns<A, const N: usize>(plan: &Plan, sides: [Call<A>; N]) -> (usize, [Times; N]) {
+    let mut buffers = [(); N].map(|()| vec![0u8; plan.room]);
+    let mut times = [(); N].map(|()| Vec::new());
+    let mut order: Vec<usize> = (0..N).collect();
     let mut chance = Generator::new(1);
     let start = Instant::now();
-    while times[0].len() < LEAST_RUNS || start.elapsed() < LEAST_TIME {
+    while times[0].len() < LEAST_RUNS || start.elapsed() < LEAST_TIME * N as u32 {
         for place in 1..order.len() {
             order.swap(place, chance.below(place + 1));
         }
         for &side in &order {
-            times[side].push(time(named[side].1, calls, &mut buffers[side]));
+            times[side].push(time(sides[side], plan.calls, &mut buffers[side]));
         }
     }
-
     let runs = times[0].len();
-    let mut times = times.into_iter().map(|times| Times::of(times, calls));
-    let mut next = || times.next();
-    match (next(), next(), next()) {
-        (Some(library), Some(independent), yardstick) => Ok(Measured {
-            load,
-            answer,
-            runs,
-            library,
-            independent,
-            yardstick,
-        }),
-        _ => Err(format!("{load}: a side is missing")),
-    }
+    (runs, times.map(|times| Times::of(times, plan.calls)))
 }
 
 /// What all sides answer, in words; else how they differ.
 fn same_answer<A: PartialEq + fmt::Display>(
-    load: &str,
-    room: usize,
+    plan: &Plan,
     sides: &[(&str, Call<A>)],
 ) -> Result<String, String> {
+    let Plan { load, room, .. } = plan;
     let answers: Vec<(&str, String, Vec<u8>)> = sides
         .iter()
         .map(|(name, call)| {
-            let mut buffer = vec![0; room];
+            let mut buffer = vec![0; *room];
             let answer = told(call(&mut buffer));
             (*name, answer, buffer)
         })

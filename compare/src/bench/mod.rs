@@ -2,17 +2,21 @@
 //! plain inputs, and on the longest work that we can think of among inputs that are not refused.
 //! Nothing here says what is fast enough.
 
+mod alike;
 mod books;
 pub mod comparing;
+mod folders;
 mod judge;
 mod lines;
 mod list;
 mod measure;
+pub mod night;
 mod shapes;
 pub mod yardstick;
 
 use crate::against::Other;
 use crate::limits::REQUEST_NAMES;
+pub use folders::write_night_run;
 pub use measure::{heading, Measured};
 
 /// Names of three labels in the loads that stand for a night run, where a request may have so many.

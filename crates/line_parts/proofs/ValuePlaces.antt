@@ -11,7 +11,7 @@ use lib.ListN.{length, take, drop, getD}
 use lib.Seq.{take-length}
 use borrow.Author.Tests.{eq-eqb, ne-eqb}
 use Rattle.spec_octets.specs.Lists.{ends}
-use Rattle.text_compare.proofs.LabelTests.{ends-at}
+use Rattle.text_labels.proofs.LabelTests.{ends-at}
 use Rattle.spec_line.specs.Written.{quote}
 use Rattle.spec_line.specs.Read.{unescaped, isInQuotes, isBare, lineValue}
 use Rattle.line_octet.specs.declared.Style.the-variants.{Quoted, Bare}

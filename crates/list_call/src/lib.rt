@@ -45,7 +45,7 @@ fn put_list(
     }
 }
 
-// The list of accepted inputs, made in arrays with nothing in them. The book is read once: into a table of its records, and chains through them.
+// Lists for accepted inputs. It reads the book once, and makes a table of its records and chains through them in the lent arrays.
 fn list_in(
     request: &[u8],
     account: &[u8],

@@ -17,7 +17,7 @@ use Rattle.spec_octets.proofs.ListLaws.{all-true, All-head, All-imp, not-passed
 use Rattle.spec_octets.proofs.PieceLaws.{pieces-join}
 use Rattle.text_classes.specs.declared.Class.the-variants.{ParameterOctet}
 use Rattle.text_classes.specs.Classes.{inClass}
-use Rattle.text_compare.specs.Places.{pieceEnd}
+use Rattle.text_labels.specs.Places.{pieceEnd}
 use Rattle.spec_value.proofs.Classes.{Free}
 use Rattle.spec_value.proofs.Cuts.{split-one}
 use Rattle.spec_applicant.specs.Applicant.{isAccount, isMethod, isApplicant, applicantRefusal}

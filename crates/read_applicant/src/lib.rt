@@ -24,7 +24,7 @@ fn is_account(t: &[u8]) -> bool
 fn is_method(t: &[u8]) -> bool
     ensures { λ r. ⌜ r ≡ isMethod (now (t .entry)) ⌝ }
 {
-    if text_compare::piece_end(t, 0, b',') < t.len() {
+    if text_labels::piece_end(t, 0, b',') < t.len() {
         return false;
     }
     is_account(t)

@@ -15,8 +15,8 @@ use Rattle.spec_octets.specs.Pieces.{split}
 use Rattle.spec_octets.proofs.ListLaws.{true-or-false, not-passed, all-true}
 use Rattle.spec_octets.proofs.Texts.{same-text}
 use Rattle.spec_octets.proofs.TrimEnds.{trimEnd-back}
-use Rattle.text_compare.specs.Places.{pieceEnd}
-use Rattle.text_compare.proofs.PieceWalk.{pieces-more, pieces-last}
+use Rattle.text_labels.specs.Places.{pieceEnd}
+use Rattle.text_labels.proofs.PieceWalk.{pieces-more, pieces-last}
 use Rattle.spec_value.specs.IssueValues.{isBlankAlone}
 use Rattle.spec_value.specs.Parameters.{Parameter, parameterIn, parametersIn}
 use Rattle.spec_applicant.specs.Applicant.{Applicant}

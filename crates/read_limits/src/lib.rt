@@ -59,7 +59,7 @@ pub fn limits_met(s: &[u8], account: &[u8], method: &[u8]) -> bool
     };
     let mut at: usize = 0;
     loop {
-        let e = text_compare::piece_end(s, at, b';');
+        let e = text_labels::piece_end(s, at, b';');
         let LimitStep::Admitted(next) = limit_step(&s[at..e], seen, account, method) else {
             return false;
         };

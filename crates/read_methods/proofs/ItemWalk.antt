@@ -13,8 +13,8 @@ use Rattle.spec_octets.specs.Lists.{any, isEmpty}
 use Rattle.spec_octets.specs.Octets.{same}
 use Rattle.spec_octets.specs.Pieces.{split}
 use Rattle.spec_octets.proofs.ListLaws.{true-or-false}
-use Rattle.text_compare.specs.Places.{pieceEnd}
-use Rattle.text_compare.proofs.PieceWalk.{pieces-more, pieces-last}
+use Rattle.text_labels.specs.Places.{pieceEnd}
+use Rattle.text_labels.proofs.PieceWalk.{pieces-more, pieces-last}
 use Rattle.read_methods.specs.Methods.{namesMethodIn}
 
 -- No item is empty, and the method was found before or is one of them.

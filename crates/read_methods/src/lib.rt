@@ -9,7 +9,7 @@ pub fn names_method(value: &[u8], method: &[u8]) -> bool
     let mut found: bool = false;
     let mut at: usize = 0;
     loop {
-        let e = text_compare::piece_end(value, at, b',');
+        let e = text_labels::piece_end(value, at, b',');
         let item = &value[at..e];
         if item.len() == 0 {
             return false;

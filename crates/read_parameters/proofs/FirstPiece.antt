@@ -5,8 +5,8 @@ use mathlib.Core.Path.{_≡_, refl}
 use mathlib.Core.List.{List, [], _∷_}
 use lib.ListN.{length, take, drop}
 use Rattle.spec_octets.specs.Pieces.{split}
-use Rattle.text_compare.specs.Places.{pieceEnd}
-use Rattle.text_compare.proofs.PieceWalk.{pieces-more, pieces-last}
+use Rattle.text_labels.specs.Places.{pieceEnd}
+use Rattle.text_labels.proofs.PieceWalk.{pieces-more, pieces-last}
 
 -- e is where the first piece ends
 module _ (c : ℕ) (s : List ℕ) (e : ℕ) (cut : e ≡ pieceEnd c s 0) where

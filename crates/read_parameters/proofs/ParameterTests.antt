@@ -10,7 +10,7 @@ use Rattle.spec_octets.specs.Lists.{all}
 use Rattle.spec_octets.specs.Octets.{isBlank, trimStart, trimEnd, isParameterOctet}
 use Rattle.spec_octets.specs.Label.{isLabel}
 use Rattle.spec_octets.specs.Pieces.{split}
-use Rattle.text_compare.specs.Places.{pieceEnd}
+use Rattle.text_labels.specs.Places.{pieceEnd}
 use Rattle.spec_octets.proofs.ListLaws.{all-true, not-passed}
 use Rattle.spec_octets.proofs.PieceLaws.{pieces-join}
 use Rattle.text_classes.specs.declared.Class.the-variants.{Blank, ParameterOctet}

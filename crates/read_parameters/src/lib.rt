@@ -9,12 +9,12 @@ fn is_parameter(s: &[u8]) -> bool
     ensures { λ r. ⌜ r ≡ isParameter (now (s .entry)) ⌝ }
 {
     let p = text_classes::trim_start(text_classes::trim_end(s));
-    let e = text_compare::piece_end(p, 0, b'=');
+    let e = text_labels::piece_end(p, 0, b'=');
     if p.len() <= e {
         return false;
     }
     let tag = text_classes::trim_end(&p[..e]);
-    if !text_compare::is_label(tag) {
+    if !text_labels::is_label(tag) {
         return false; // a tag has the form of a label
     }
     text_classes::all_of(text_classes::trim_start(&p[e + 1..]), Class::ParameterOctet)
@@ -29,7 +29,7 @@ pub fn are_parameters(s: &[u8]) -> bool
     }
     let mut at: usize = 0;
     loop {
-        let e = text_compare::piece_end(s, at, b';');
+        let e = text_labels::piece_end(s, at, b';');
         if !is_parameter(&s[at..e]) {
             return false; // a closing semicolon leaves an empty parameter here
         }

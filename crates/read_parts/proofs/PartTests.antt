@@ -13,7 +13,7 @@ use Rattle.spec_octets.specs.Pieces.{split}
 use Rattle.spec_octets.proofs.ListLaws.{true-or-false}
 use Rattle.spec_octets.proofs.PieceLaws.{pieces-join}
 use Rattle.spec_octets.proofs.Walks.{rest-whole}
-use Rattle.text_compare.specs.Places.{pieceEnd}
+use Rattle.text_labels.specs.Places.{pieceEnd}
 use Rattle.spec_value.specs.Parameters.{cutParameter, parameterIn}
 use Rattle.read_parameters.proofs.FirstPiece.{cut-last, cut-more}
 

@@ -7,7 +7,7 @@ pub fn parameter_tag(s: &[u8]) -> &[u8]
     ensures { λ r. ⌜ now r ≡ parameterIn (now (s .entry)) .tag ⌝ }
 {
     let p = text_classes::trim_start(text_classes::trim_end(s));
-    let end = text_compare::piece_end(p, 0, b'=');
+    let end = text_labels::piece_end(p, 0, b'=');
     text_classes::trim_end(&p[..end])
 }
 
@@ -16,7 +16,7 @@ pub fn parameter_value(s: &[u8]) -> &[u8]
     ensures { λ r. ⌜ now r ≡ parameterIn (now (s .entry)) .value ⌝ }
 {
     let t = text_classes::trim_start(text_classes::trim_end(s));
-    let equals = text_compare::piece_end(t, 0, b'=');
+    let equals = text_labels::piece_end(t, 0, b'=');
     if t.len() <= equals {
         return &t[0..0];
     }

@@ -51,7 +51,7 @@ fn are_host_labels(name: &[u8]) -> bool
         if next <= at {
             return 0 < at;
         }
-        if !text_compare::is_label(&name[at + 1..next]) {
+        if !text_labels::is_label(&name[at + 1..next]) {
             return false;
         }
         at = next;

@@ -12,7 +12,7 @@ use borrow.Author.Tests.{ltb-true, ltb-false}
 use Rattle.spec_octets.specs.Octets.{trimStart}
 use Rattle.spec_octets.proofs.ListLaws.{true-or-false}
 use Rattle.spec_octets.proofs.WholeLists.{not-empty}
-use Rattle.text_compare.specs.Places.{pieceEnd}
+use Rattle.text_labels.specs.Places.{pieceEnd}
 use Rattle.read_value.specs.declared.NameAt.{NameAt}
 use Rattle.read_value.specs.declared.ValueRead.{ValueRead}
 use Rattle.read_value.specs.declared.ValueRead.the-variants.{Malformed, Nameless, Named}

@@ -8,8 +8,8 @@ use mathlib.Core.List.{List}
 use lib.ListN.{length, take, drop, take-append-drop}
 use borrow.Author.Tests.{lt-ltb, le-ltb}
 use Rattle.spec_octets.specs.Pieces.{split}
-use Rattle.text_compare.specs.Places.{pieceEnd}
-use Rattle.text_compare.proofs.PieceWalk.{piece-within}
+use Rattle.text_labels.specs.Places.{pieceEnd}
+use Rattle.text_labels.proofs.PieceWalk.{piece-within}
 use Rattle.read_value.specs.declared.ValueRead.{ValueRead}
 use Rattle.read_value.specs.declared.ValueRead.the-variants.{Malformed}
 use Rattle.spec_value.specs.IssueValues.{trim, areParameters, nameIn, issueValue}

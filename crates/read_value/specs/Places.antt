@@ -6,7 +6,7 @@ use mathlib.Core.List.{List}
 use lib.Dec.{ltb}
 use lib.ListN.{length}
 use Rattle.spec_octets.specs.Octets.{trimStart}
-use Rattle.text_compare.specs.Places.{pieceEnd}
+use Rattle.text_labels.specs.Places.{pieceEnd}
 use Rattle.spec_value.specs.IssueValues.{IssueValue, malformed, nameless, named, issueValue}
 use Rattle.read_value.specs.declared.ValueRead.{ValueRead}
 use Rattle.read_value.specs.declared.ValueRead.the-variants.{Malformed, Nameless, Named}

@@ -43,7 +43,7 @@ fn read_name(s: &[u8], parameters: usize) -> ValueRead
 pub fn read_value(s: &[u8]) -> ValueRead
     ensures { λ r. ⌜ r ≡ valueAt (now (s .entry)) ⌝ }
 {
-    let e = text_compare::piece_end(s, 0, b';');
+    let e = text_labels::piece_end(s, 0, b';');
     let mut parameters: usize = e;
     if e < s.len() {
         parameters = e + 1;

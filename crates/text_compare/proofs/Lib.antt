@@ -1,4 +1,1 @@
 pub mod TextWalk
-pub mod LabelTests
-pub mod PieceEnds
-pub mod PieceWalk

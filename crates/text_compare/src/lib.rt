@@ -1,13 +1,10 @@
-// Texts of octets: comparing without regard to letter case, testing a label, and finding the end of a piece.
-use text_classes::Class;
+// Texts of octets: comparing without regard to letter case.
 ghost use mathlib.Core.Path.{_≡_};
 ghost use mathlib.Core.Bool.{_&&_};
 ghost use Prim.Native.Nat.{_≤_, _<_};
 ghost use lib.Dec.{eqb};
 ghost use lib.ListN.{length};
 ghost use Rattle.spec_octets.specs.Octets.{lower, equalIgnoringCase};
-ghost use Rattle.spec_octets.specs.Label.{isLabel};
-ghost use Rattle.text_compare.specs.Places.{pieceEnd};
 
 // How many octets of a long text are compared at once.
 const BLOCK: usize = 16;
@@ -127,35 +124,4 @@ fn still_same(same: bool, x: u8, y: u8) -> bool
         return same;
     }
     false
-}
-
-// Whether a text is a label: letters, digits and hyphens, with no hyphen at either end. The empty text is none.
-pub fn is_label(l: &[u8]) -> bool
-    ensures { λ r. ⌜ r ≡ isLabel (now (l .entry)) ⌝ }
-{
-    let n = l.len();
-    if n == 0 {
-        return false;
-    }
-    if l[0] == b'-' {
-        return false;
-    }
-    if l[n - 1] == b'-' {
-        return false;
-    }
-    text_classes::all_of(l, Class::LetterDigitHyphen)
-}
-
-// The offset where the piece that begins at offset `at` ends: at the next octet c, or at the end of the text.
-pub fn piece_end(s: &[u8], at: usize, c: u8) -> usize
-    ensures { λ r. ⌜ r ≡ pieceEnd c (now (s .entry)) at ⌝ }
-{
-    let mut e: usize = at;
-    while e < s.len() {
-        if s[e] == c {
-            return e;
-        }
-        e += 1;
-    }
-    e
 }

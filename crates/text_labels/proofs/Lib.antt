@@ -1,1 +1,4 @@
+pub mod LabelTests
+pub mod PieceEnds
+pub mod PieceWalk
 pub mod AnyLength

@@ -1,6 +1,6 @@
 -- `owner_at` meets its contract.
 use borrow.Author.Needs.{needs}
-use Rattle.book_places.specs.Table.{ownerAt}
+use Rattle.book_table.proofs.Cells.{owner-by-cells}
 use Rattle.book_table.proofs.owner_at.Statement.{statement}
 use Rattle.book_table.proofs.owner_at.Tie as tie
 
@@ -14,8 +14,7 @@ octets-at-requires : tie.Need-octets-at-requires
 octets-at-requires c κs = search needs
 
 returns : tie.Need-returns
-unfolding ownerAt
-returns c = cc
+returns c = search (needs, owner-by-cells)
 
 pub owner-at-spec : {M : Type 1} → statement M
 owner-at-spec = tie.close (tie.spec cell-requires cell-requires-2 octets-at-requires returns)

@@ -6,7 +6,7 @@ use mathlib.Core.List.{map}
 use lib.ListN.{length, drop}
 use borrow.Author.Needs.{needs}
 use Rattle.spec_octets.specs.Pieces.{split}
-use Rattle.text_compare.proofs.PieceWalk.{piece-from, piece-within, pieces-less}
+use Rattle.text_labels.proofs.PieceWalk.{piece-from, piece-within, pieces-less}
 use Rattle.spec_value.specs.Parameters.{parameterIn}
 use Rattle.spec_applicant.specs.Admission.{admits}
 use Rattle.read_parameters.specs.Parameters.{parametersBehind}

@@ -6,7 +6,7 @@ use mathlib.Core.Logic.{⊎-elim}
 use lib.ListN.{length, drop}
 use borrow.Author.Needs.{needs}
 use Rattle.spec_octets.specs.Pieces.{split}
-use Rattle.text_compare.proofs.PieceWalk.{piece-from, piece-within, pieces-less}
+use Rattle.text_labels.proofs.PieceWalk.{piece-from, piece-within, pieces-less}
 use Rattle.read_methods.specs.Methods.{namesMethodIn}
 use Rattle.read_methods.proofs.ItemWalk.{fromItems, item-empty, found-last, other-last, found-next, other-next}
 use Rattle.read_methods.proofs.names_method.Statement.{statement}

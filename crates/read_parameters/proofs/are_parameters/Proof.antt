@@ -7,7 +7,7 @@ use borrow.Author.Needs.{needs}
 use borrow.Author.Tests.{not-true, not-false}
 use Rattle.spec_octets.specs.Lists.{all}
 use Rattle.spec_octets.specs.Pieces.{split}
-use Rattle.text_compare.proofs.PieceWalk.{piece-from, piece-within, pieces-less, pieces-turn, pieces-end, pieces-stop}
+use Rattle.text_labels.proofs.PieceWalk.{piece-from, piece-within, pieces-less, pieces-turn, pieces-end, pieces-stop}
 use Rattle.spec_value.specs.IssueValues.{isParameter}
 use Rattle.read_parameters.proofs.ParameterTests.{only-blanks, by-pieces}
 use Rattle.read_parameters.proofs.are_parameters.Statement.{statement}

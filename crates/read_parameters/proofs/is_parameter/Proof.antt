@@ -3,7 +3,7 @@ use mathlib.Core.Path.{sym}
 use lib.Seq.{length-take-le}
 use borrow.Author.Needs.{needs}
 use borrow.Author.Tests.{not-true, not-false}
-use Rattle.text_compare.proofs.PieceWalk.{piece-within}
+use Rattle.text_labels.proofs.PieceWalk.{piece-within}
 use Rattle.read_parameters.proofs.ParameterTests.{no-equals, bad-tag, by-value}
 use Rattle.read_parameters.proofs.is_parameter.Statement.{statement}
 use Rattle.read_parameters.proofs.is_parameter.Tie as tie

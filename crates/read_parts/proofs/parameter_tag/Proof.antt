@@ -2,7 +2,7 @@
 use mathlib.Core.Path.{sym}
 use lib.Seq.{length-take-le}
 use borrow.Author.Needs.{needs}
-use Rattle.text_compare.proofs.PieceWalk.{piece-within}
+use Rattle.text_labels.proofs.PieceWalk.{piece-within}
 use Rattle.read_parts.proofs.PartTests.{tag-found}
 use Rattle.read_parts.proofs.parameter_tag.Statement.{statement}
 use Rattle.read_parts.proofs.parameter_tag.Tie as tie

@@ -4,7 +4,7 @@ use mathlib.Core.Logic.{⊎-elim}
 use lib.Seq.{length-take-le}
 use borrow.Author.Needs.{needs}
 use borrow.Author.Tests.{not-true, not-false}
-use Rattle.text_compare.proofs.PieceWalk.{piece-within}
+use Rattle.text_labels.proofs.PieceWalk.{piece-within}
 use Rattle.read_value.proofs.ValueTests.{name-alone, name-first, parameters-bad}
 use Rattle.read_value.proofs.read_value.Statement.{statement}
 use Rattle.read_value.proofs.read_value.Tie as tie

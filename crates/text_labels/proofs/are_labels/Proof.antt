@@ -7,7 +7,7 @@ use borrow.Author.Needs.{needs}
 use borrow.Author.Tests.{not-true, not-false}
 use Rattle.spec_octets.specs.Lists.{all}
 use Rattle.spec_octets.specs.Pieces.{split}
-use Rattle.text_compare.proofs.PieceWalk.{piece-from, piece-within, pieces-less, pieces-turn, pieces-end, pieces-stop}
+use Rattle.text_labels.proofs.PieceWalk.{piece-from, piece-within, pieces-less, pieces-turn, pieces-end, pieces-stop}
 use Rattle.text_labels.specs.DottedLabels.{isLabelWithin, areLabels}
 use Rattle.text_labels.proofs.are_labels.Statement.{statement}
 use Rattle.text_labels.proofs.are_labels.Tie as tie
