@@ -219,9 +219,9 @@ impl Generator {
         value
     }
 
-    /// What stands behind the `;` of a value: no parameter, or one or two that mostly fit.
+    /// What stands behind the `;` of a value: no parameter, or up to three that mostly fit.
     fn parameters(&mut self) -> Vec<u8> {
-        let count = self.near_front(&[1, 2, 0]);
+        let count = self.near_front(&[1, 2, 3, 0]);
         let mut text = self.one_of(&BLANKS).to_vec();
         for number in 0..count {
             if number > 0 {
@@ -238,12 +238,19 @@ impl Generator {
     }
 
     fn parameter(&mut self) -> Vec<u8> {
-        let tag = match self.below(6) {
+        let tag = match self.below(12) {
             0 => self.one_of(&WRONG_PARAMETER_TAGS),
-            _ => self.one_of(&PARAMETER_TAGS),
+            1..=5 => self.one_of(&PARAMETER_TAGS),
+            6 => return self.nearly_limit(),
+            _ => return self.limit(),
         };
         let value = self.one_of(&PARAMETER_VALUES);
-        let [before, behind] = [(); 2].map(|()| self.one_of(&BLANKS));
+        let [before, behind] = [(); 2].map(|()| self.blanks());
         [tag, before, b"=", behind, value].concat()
+    }
+
+    /// None, one or two.
+    pub(super) fn blanks(&mut self) -> &'static [u8] {
+        self.one_of(&BLANKS)
     }
 }
