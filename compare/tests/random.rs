@@ -19,7 +19,7 @@ fn listed(count: usize, octets: usize, buffer: &[u8]) -> Vec<Vec<u8>> {
     names
 }
 
-/// Half of the time one whose records all limit their grants.
+/// Half of the time one whose records mostly limit their grants.
 fn any_book(generator: &mut Generator, account: &[u8], method: &[u8]) -> Vec<u8> {
     let issuer = generator.issuer();
     match generator.once_in(2) {

@@ -133,8 +133,8 @@ impl Generator {
         items.join(&b',')
     }
 
-    /// A few records of the top labels that all limit their grants, most of them to this issuer, this
-    /// account or this method.
+    /// A few records of the top labels that all have parameters. Most grant this issuer, and most
+    /// limit that to this account or this method.
     pub fn book_of_limits(&mut self, issuer: &[u8], account: &[u8], method: &[u8]) -> Vec<u8> {
         let records = 1 + self.near_front(&[0, 1, 2, 3]);
         let grant = |_| {
@@ -148,9 +148,19 @@ impl Generator {
         (0..records).flat_map(grant).collect()
     }
 
-    /// One limit, both, or one of them twice; sometimes with another parameter.
+    /// One limit, both, or one of them twice; sometimes with another parameter, or that alone.
     fn limits(&mut self, account: &[u8], method: &[u8]) -> Vec<Vec<u8>> {
-        let (accounts, methods) = self.one_of(&[(1, 0), (0, 1), (1, 1), (1, 1), (2, 0), (0, 2)]);
+        const COUNTS: [(usize, usize); 8] = [
+            (1, 0),
+            (0, 1),
+            (1, 1),
+            (1, 1),
+            (2, 0),
+            (0, 2),
+            (0, 0),
+            (0, 0),
+        ];
+        let (accounts, methods) = self.one_of(&COUNTS);
         let mut parameters = Vec::new();
         for _ in 0..accounts {
             parameters.push(self.account_limit(account));
@@ -159,9 +169,13 @@ impl Generator {
             let place = self.below(parameters.len() + 1);
             parameters.insert(place, self.methods_limit(method));
         }
-        if self.once_in(4) {
+        if parameters.is_empty() || self.once_in(4) {
+            let other = match self.once_in(3) {
+                true => self.nearly_limit(),
+                false => self.other_parameter(),
+            };
             let place = self.below(parameters.len() + 1);
-            parameters.insert(place, self.nearly_limit());
+            parameters.insert(place, other);
         }
         parameters
     }

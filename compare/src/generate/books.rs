@@ -72,7 +72,7 @@ impl Generator {
             true => BOOK_RECORDS,
             false => self.below(BOOK_RECORDS + 1),
         };
-        let issuers = self.one_of(&[200, 4 * BOOK_RECORDS]);
+        let issuers = self.one_of(&[200, 4 * BOOK_RECORDS, 4 * BOOK_RECORDS]);
         let grant = |_| {
             let tag = self.near_front(&KNOWN_TAGS);
             let issuer = format!("x{}", self.below(issuers));
@@ -238,11 +238,18 @@ impl Generator {
     }
 
     fn parameter(&mut self) -> Vec<u8> {
-        let tag = match self.below(12) {
-            0 => self.one_of(&WRONG_PARAMETER_TAGS),
-            1..=5 => self.one_of(&PARAMETER_TAGS),
-            6 => return self.nearly_limit(),
-            _ => return self.limit(),
+        match self.below(12) {
+            0..=6 => self.other_parameter(),
+            7 => self.nearly_limit(),
+            _ => self.limit(),
+        }
+    }
+
+    /// One that limits nothing, with a tag that mostly fits.
+    pub(super) fn other_parameter(&mut self) -> Vec<u8> {
+        let tag = match self.below(4) {
+            0 => self.near_front(&WRONG_PARAMETER_TAGS),
+            _ => self.one_of(&PARAMETER_TAGS),
         };
         let value = self.one_of(&PARAMETER_VALUES);
         let [before, behind] = [(); 2].map(|()| self.blanks());

@@ -86,9 +86,9 @@ impl Generator {
                 let rdata = self.caa_data();
                 [self.book(), self.record_of(owner, 257, 1, &rdata)].concat()
             }
-            8 | 9 => self.crowded_book(),
-            10 => self.book_of_long_list(),
-            11 | 12 => self.book_with_wrong_tag(),
+            8..=10 => self.crowded_book(),
+            11 => self.book_of_long_list(),
+            12 | 13 => self.book_with_wrong_tag(),
             _ => self.book(),
         }
     }
