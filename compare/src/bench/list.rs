@@ -4,7 +4,7 @@ use std::hint::black_box;
 
 use super::books::{
     book_of, caa, deep_request, deep_request_of_two, full_record, issue, long_issuer, plain_book,
-    plain_request, wire, ISSUER,
+    plain_request, wire, ACCOUNT, ISSUER, METHOD,
 };
 use super::measure::{measure, race, Measured, Plan, Race, Sides};
 use super::shapes::SHAPES;
@@ -61,15 +61,17 @@ impl Load {
         let sides = Sides {
             library: &|buffer| {
                 let (request, book) = inputs();
-                library(request, book, buffer)
+                library(request, ACCOUNT, METHOD, book, buffer)
             },
             independent: &|buffer| {
                 let (request, book) = inputs();
-                (Desk::OWN.permitted_issuers)(request, book, buffer)
+                (Desk::OWN.permitted_issuers)(request, ACCOUNT, METHOD, book, buffer)
             },
             yardstick: Some(&|buffer| {
                 let (request, book) = inputs();
-                Ok(yardstick::permitted_issuers(request, book, buffer))
+                Ok(yardstick::permitted_issuers(
+                    request, ACCOUNT, METHOD, book, buffer,
+                ))
             }),
         };
         then(plan, sides)
@@ -158,7 +160,7 @@ mod tests {
     fn every_load_makes_its_list() {
         let counts = loads().into_iter().map(|load| {
             let mut buffer = vec![0; load.book.len()];
-            match permitted_issuers(&load.request, &load.book, &mut buffer) {
+            match permitted_issuers(&load.request, ACCOUNT, METHOD, &load.book, &mut buffer) {
                 Permitted::List { count, .. } => count,
                 other => panic!("{}: {other}", load.title),
             }
