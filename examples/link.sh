@@ -170,6 +170,25 @@ build examples/c/judge.c "$work/later" "$work/judge-later"
 expect 'unknown answer 22
 unknown answer 32 [2]' "$work/judge-later" "$work/anyone"
 
+# Which numbers the header takes for refusals.
+cat > "$work/refusals.c" <<'end'
+#include <stdio.h>
+#include "splinepearl.h"
+int main(void)
+{
+    uint64_t number;
+
+    for (number = 0; number < 256; number++) {
+        if (caa_is_refusal(number)) {
+            printf("%u ", caa_number(number));
+        }
+    }
+    return 0;
+}
+end
+build "$work/refusals.c" "$libs" "$work/refusals"
+expect '1 2 3 4 5 6 7 8 9 10 11 15  [0]' "$work/refusals"
+
 build tools/caa-lines.c "$libs" "$work/caa-lines"
 expect '128 tbs "Unk\"\\\000n"
 refused 11 at 0 [0]' "$work/caa-lines" write <<< '8003544253556E6B225C006E

@@ -1,5 +1,5 @@
 /*
- * Splinepearl: may this certificate authority issue? CAA by RFC 8659, proved.
+ * Splinepearl: may this certificate authority issue? CAA by RFC 8659 and RFC 8657, proved.
  *
  * The four calls of libsplinepearl.a, for programs on x86-64 Linux (System V calling convention). A
  * call takes octets, each input as a pointer and a length. It accepts any octets, checks them itself,
