@@ -60,5 +60,5 @@ pub fn data_offset(table: &[u16], i: usize) -> usize
 pub fn is_caa_at(table: &[u16], i: usize) -> bool
     ensures { λ r. ⌜ r ≡ isCaaAt (now (table .entry)) i ⌝ }
 {
-    read_record::is_caa(cell(table, i, 1), cell(table, i, 5))
+    read_kinds::is_caa(cell(table, i, 1), cell(table, i, 5))
 }

@@ -17,7 +17,7 @@ pub fn is_unknown_critical(d: &[u8]) -> bool
     if p.flags < 128 {
         return false;
     }
-    let PropertyTag::Unknown = read_property::tag_of(read_property::tag_part(d)) else {
+    let PropertyTag::Unknown = read_kinds::tag_of(read_property::tag_part(d)) else {
         return false;
     };
     true
@@ -42,7 +42,7 @@ pub fn has_tag(d: &[u8], tag: PropertyTag) -> bool
     let PropertyRead::Good(_) = read_property::read_property(d) else {
         return false;
     };
-    let found = read_property::tag_of(read_property::tag_part(d));
+    let found = read_kinds::tag_of(read_property::tag_part(d));
     tag_number(found) == tag_number(tag)
 }
 

@@ -1,25 +1,9 @@
 // CAA data (RFC 8659 section 4.1): its property, tag and value, and whether it is well formed.
-use spec_record::PropertyTag;
 use text_classes::Class;
 ghost use mathlib.Core.Path.{_≡_};
-ghost use Rattle.spec_record.specs.Property.{property, tagOf};
+ghost use Rattle.spec_record.specs.Property.{property};
 ghost use Rattle.spec_record.specs.Records.{isCaaData};
 ghost use Rattle.read_property.specs.Places.{propertyAt, tagPart, valuePart};
-
-pub fn tag_of(t: &[u8]) -> PropertyTag
-    ensures { λ r. ⌜ r ≡ tagOf (now (t .entry)) ⌝ }
-{
-    if text_compare::same_ignoring_case(t, b"issue") {
-        return PropertyTag::Issue;
-    }
-    if text_compare::same_ignoring_case(t, b"issuewild") {
-        return PropertyTag::IssueWild;
-    }
-    if text_compare::same_ignoring_case(t, b"iodef") {
-        return PropertyTag::Iodef;
-    }
-    PropertyTag::Unknown
-}
 
 // The flags, and the offset of the value. The tag is the octets from offset 2 up to there.
 pub struct PropertyAt {

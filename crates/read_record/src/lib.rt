@@ -10,24 +10,14 @@ ghost use Prim.Native.Nat.{_+_, _≤_};
 ghost use lib.ListN.{length, take, drop};
 ghost use Rattle.spec_refusal.specs.Checks.{checked};
 ghost use Rattle.spec_octets.specs.Reader.{valueFrom};
-ghost use Rattle.spec_record.specs.Records.{isCaa, isLaidOut, bookRefusal};
+ghost use Rattle.spec_record.specs.Records.{isLaidOut, bookRefusal};
 ghost use Rattle.read_record.specs.Places.{fieldsAt, recordAt};
-
-// Class 1 with type 257 is a CAA record.
-pub fn is_caa(rtype: usize, class: usize) -> bool
-    ensures { λ r. ⌜ r ≡ isCaa rtype class ⌝ }
-{
-    if rtype == 257 {
-        return class == 1;
-    }
-    false
-}
 
 // Whether data is well formed for its type and class.
 fn is_laid_out(rtype: usize, class: usize, d: &[u8]) -> bool
     ensures { λ r. ⌜ r ≡ isLaidOut rtype class (now (d .entry)) ⌝ }
 {
-    if is_caa(rtype, class) {
+    if read_kinds::is_caa(rtype, class) {
         return read_property::is_caa_data(d);
     }
     true

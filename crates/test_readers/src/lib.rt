@@ -64,7 +64,7 @@ fn property(d: &[u8]) -> u64
 fn tag(t: &[u8]) -> u64
     ensures { λ r. ⌜ r ≡ packedTag (tagOf (now (t .entry))) ⌝ }
 {
-    match read_property::tag_of(t) {
+    match read_kinds::tag_of(t) {
         PropertyTag::Unknown => 0,
         PropertyTag::Issue => 1,
         PropertyTag::IssueWild => 2,

@@ -2,8 +2,8 @@
 use borrow.Author.Needs.{needs}
 use Rattle.spec_octets.proofs.Tests.{tests}
 use Rattle.spec_record.specs.Records.{isCaa}
-use Rattle.read_record.proofs.is_caa.Statement.{statement}
-use Rattle.read_record.proofs.is_caa.Tie as tie
+use Rattle.read_kinds.proofs.is_caa.Statement.{statement}
+use Rattle.read_kinds.proofs.is_caa.Tie as tie
 
 returns : tie.Need-returns
 unfolding isCaa

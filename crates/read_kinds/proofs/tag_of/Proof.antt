@@ -1,8 +1,8 @@
 -- `tag_of` meets its contract.
 use borrow.Author.Needs.{needs}
-use Rattle.read_property.proofs.TagTests.{is-issue, is-issuewild, is-iodef, is-unknown}
-use Rattle.read_property.proofs.tag_of.Statement.{statement}
-use Rattle.read_property.proofs.tag_of.Tie as tie
+use Rattle.read_kinds.proofs.TagTests.{is-issue, is-issuewild, is-iodef, is-unknown}
+use Rattle.read_kinds.proofs.tag_of.Statement.{statement}
+use Rattle.read_kinds.proofs.tag_of.Tie as tie
 
 slice-aggregate-same-ignoring-case : tie.Need-slice-aggregate-same-ignoring-case
 slice-aggregate-same-ignoring-case c = search needs
