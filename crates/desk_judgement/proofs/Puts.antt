@@ -10,7 +10,7 @@ use Rattle.spec_octets.specs.Buffer.{Put, filled, filledLength}
 use Rattle.text_buffer.proofs.Filled.{put-room}
 use Rattle.text_buffer.proofs.LentRest.{rest-room, put-length, put-more, put-octet}
 use Rattle.spec_octets.specs.WrittenDecimal.{decimal}
-use Rattle.text_decimal.proofs.DecimalPieces.{decimal-few}
+use Rattle.text_digits.proofs.DecimalPieces.{decimal-few}
 use Rattle.spec_desk.specs.Lines.{lineEnd, numbered}
 
 -- A text and a number.

@@ -16,7 +16,7 @@ fn put_number(first: &[u8], n: u64, out: &mut [u8]) -> usize
     ensures few { λ r. ⌜ r ≤ length (now (first .entry)) + 20 ⌝ }
 {
     let w = text_buffer::put_octets(first, out);
-    w + text_decimal::put_decimal(n, &mut out[w..])
+    w + text_digits::put_decimal(n, &mut out[w..])
 }
 
 // Writes a line of a text, a number, a text and a number.

@@ -42,5 +42,5 @@ pub fn put_escaped(b: u8, out: &mut [u8]) -> usize
         out[1] = b;
         return 2;
     }
-    1 + text_decimal::put_three_digits(b, &mut out[1..])
+    1 + text_digits::put_three_digits(b, &mut out[1..])
 }

@@ -28,7 +28,7 @@ fn put_head(flags: u8, tag: &[u8], out: &mut [u8]) -> usize
     requires { ⌜ length (lineHead flags (now tag)) ≤ length (now out) ⌝ }
     ensures { λ r. ⌜ Put (lineHead flags (now (tag .entry))) (now (out .entry)) (now (out .exit)) r ⌝ }
 {
-    let w = text_decimal::put_decimal(flags as u64, out);
+    let w = text_digits::put_decimal(flags as u64, out);
     out[w] = b' ';
     let next: usize = w + 1;
     next + text_buffer::put_lowered(tag, &mut out[next..])
@@ -75,7 +75,7 @@ fn line_length(flags: u8, tag: &[u8], value: &[u8]) -> usize
     requires { ⌜ length (now value) ≤ maxDataOctets ⌝ }
     ensures { λ r. ⌜ r ≡ length (lineOf flags (now (tag .entry)) (now (value .entry))) ⌝ }
 {
-    text_decimal::decimal_length(flags as u64) + tag.len() + value_length(value) + 4
+    text_digits::decimal_length(flags as u64) + tag.len() + value_length(value) + 4
 }
 
 // Writes the line of a property at the start of the buffer. Nothing is written unless the buffer is long enough and both tag and value are

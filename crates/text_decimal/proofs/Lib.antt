@@ -1,2 +1,1 @@
-pub mod DecimalPieces
 pub mod DecimalWalk

@@ -4,12 +4,12 @@ use Prim.Native.Nat.{ℕ, _<_}
 use borrow.Fn.Kinds.{In}
 use borrow.Fn.PlainCycle.{Measures, is, falls, and}
 use Rattle.text_buffer.proofs.LentRest.{set-length}
-use Rattle.text_decimal.proofs.DecimalPieces.{digit-room, digit-put, tens-room, last-room, last-fits, last-put}
-use Rattle.text_decimal.proofs.put_digits.Reads as reads
-use Rattle.text_decimal.proofs.put_digits.Kinds as kinds
-use Rattle.text_decimal.proofs.+put_digits.Lts-put_digits as lts
-use Rattle.text_decimal.proofs.+put_digits.{statement}
-use Rattle.text_decimal.proofs.+put_digits.Tie.{close}
+use Rattle.text_digits.proofs.DecimalPieces.{digit-room, digit-put, tens-room, last-room, last-fits, last-put}
+use Rattle.text_digits.proofs.put_digits.Reads as reads
+use Rattle.text_digits.proofs.put_digits.Kinds as kinds
+use Rattle.text_digits.proofs.+put_digits.Lts-put_digits as lts
+use Rattle.text_digits.proofs.+put_digits.{statement}
+use Rattle.text_digits.proofs.+put_digits.Tie.{close}
 
 abbrev μ-put-digits : Measures 1 kinds.ps ℕ
 μ-put-digits κs a = a .0

@@ -4,9 +4,9 @@ use mathlib.Core.Path.{_≡_}
 use borrow.Author.Needs.{needs}
 use lib.ListN.{length}
 use Rattle.spec_octets.specs.WrittenDecimal.{decimal}
-use Rattle.text_decimal.proofs.DecimalPieces.{count-fits, count-turn, count-end}
-use Rattle.text_decimal.proofs.decimal_length.Statement.{statement}
-use Rattle.text_decimal.proofs.decimal_length.Tie as tie
+use Rattle.text_digits.proofs.DecimalPieces.{count-fits, count-turn, count-end}
+use Rattle.text_digits.proofs.decimal_length.Statement.{statement}
+use Rattle.text_digits.proofs.decimal_length.Tie as tie
 
 abbrev Inv-loop : tie.InvT-loop
 Inv-loop n count₀ left₀ count left = count + length (decimal left) ≡ length (decimal n) + 1

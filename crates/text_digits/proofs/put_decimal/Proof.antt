@@ -1,8 +1,8 @@
 -- `put_decimal` meets its contract.
 use borrow.Author.Needs.{needs}
-use Rattle.text_decimal.proofs.DecimalPieces.{no-digits-answer, no-digits-octets, digits-room, digits-answer, digits-octets}
-use Rattle.text_decimal.proofs.put_decimal.Statement.{statement}
-use Rattle.text_decimal.proofs.put_decimal.Tie as tie
+use Rattle.text_digits.proofs.DecimalPieces.{no-digits-answer, no-digits-octets, digits-room, digits-answer, digits-octets}
+use Rattle.text_digits.proofs.put_decimal.Statement.{statement}
+use Rattle.text_digits.proofs.put_decimal.Tie as tie
 
 decimal-length-requires : tie.Need-decimal-length-requires
 decimal-length-requires c κs = search needs

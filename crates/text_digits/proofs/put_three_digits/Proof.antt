@@ -2,9 +2,9 @@
 use native.Mathlib.Omega.{arith}
 use lib.ListN.{length-set}
 use borrow.Author.Needs.{needs}
-use Rattle.text_decimal.proofs.DecimalPieces.{none-of-three-answer, none-of-three-octets, three-digits-answer, three-digits-octets}
-use Rattle.text_decimal.proofs.put_three_digits.Statement.{statement}
-use Rattle.text_decimal.proofs.put_three_digits.Tie as tie
+use Rattle.text_digits.proofs.DecimalPieces.{none-of-three-answer, none-of-three-octets, three-digits-answer, three-digits-octets}
+use Rattle.text_digits.proofs.put_three_digits.Statement.{statement}
+use Rattle.text_digits.proofs.put_three_digits.Tie as tie
 
 returns : tie.Need-returns
 returns c = search (needs, none-of-three-answer, none-of-three-octets)
