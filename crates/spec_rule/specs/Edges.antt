@@ -144,6 +144,25 @@ edges =
     -- A record that grants nobody is reported if it is the first, and takes nothing away from the other.
     ∷ nameEdge (caa "example.com" 0 "issue" ";" ∷ caa "example.com" 0 "issue" "ca1.example.net" ∷ []) "example.com" (granted 0 (ca1 ∷ []))
     ∷ nameEdge (caa "example.com" 0 "issue" "ca1.example.net" ∷ caa "example.com" 0 "issue" "%%%%%" ∷ []) "example.com" (granted 0 (ca1 ∷ []))
+    -- Limits of RFC 8657, for the account https://a/1 and the method dns-01. A record with a limit that is not met grants nobody and still
+    -- governs. So does a record that has the same limit twice, though both are met.
+    ∷ nameEdge (issuing "ca1.example.net; accounturi=https://a/1") "example.com" (granted 0 (ca1 ∷ []))
+    ∷ nameEdge (issuing "ca1.example.net; accounturi=https://a/2") "example.com" (granted 0 [])
+    ∷ nameEdge (issuing "ca1.example.net; validationmethods=http-01,dns-01") "example.com" (granted 0 (ca1 ∷ []))
+    ∷ nameEdge (issuing "ca1.example.net; validationmethods=http-01") "example.com" (granted 0 [])
+    ∷ nameEdge (issuing "ca1.example.net; accounturi=https://a/1; accounturi=https://a/1") "example.com" (granted 0 [])
+    -- Next to another record: it is reported if it is the first, and takes nothing away from the other.
+    ∷ nameEdge (caa "example.com" 0 "issue" "ca1.example.net; accounturi=https://a/2" ∷ caa "example.com" 0 "issue" "ca2.example.org" ∷ []) "example.com"
+    (granted 0 (ca2 ∷ []))
+    ∷ nameEdge
+    (caa "example.com" 0 "issue" "ca1.example.net; accounturi=https://a/1" ∷ caa "example.com" 0 "issue" "ca2.example.org; accounturi=https://a/2" ∷ [])
+    "example.com" (granted 0 (ca1 ∷ []))
+    -- In issuewild, for *.X: met, not met, and not met next to an issue record, which still does not govern *.X.
+    ∷ nameEdge (caa "example.com" 0 "issuewild" "ca2.example.org; accounturi=https://a/1" ∷ []) "*.example.com" (granted 0 (ca2 ∷ []))
+    ∷ nameEdge (caa "example.com" 0 "issuewild" "ca2.example.org; accounturi=https://a/2" ∷ []) "*.example.com" (granted 0 [])
+    ∷ nameEdge
+    (caa "example.com" 0 "issue" "ca1.example.net" ∷ caa "example.com" 0 "issuewild" "ca2.example.org; accounturi=https://a/2" ∷ [])
+    "*.example.com" (granted 1 [])
     -- Of two critical records with unknown tags the first is reported, for X and for *.X.
     ∷ nameEdge (caa "example.com" 128 "tbs" "Unknown" ∷ caa "example.com" 255 "other" "Unknown" ∷ []) "example.com" (forbidden 0)
     ∷ nameEdge (caa "example.com" 127 "tbs" "Unknown" ∷ caa "example.com" 255 "other" "Unknown" ∷ caa "example.com" 128 "tbs" "Unknown" ∷ [])
