@@ -11,7 +11,7 @@ use Rattle.book_fill.specs.Theorems.{emptyTable}
 unfoldable pub indexedChains : List ℕ → List ℕ → Chains → Chains
 indexedChains book table c = linkedBelow book (filledTable book table) (atMost maxRecords (filledRows book table)) c
 
--- nothing is written yet, and there is room for the records of the book
+-- Empty arrays with room for the records of the book.
 pub record Blank (book table links heads : List ℕ) : Type 0 where
   pub rows : table ≡ emptyTable (roomFor book)
   pub chained : links ≡ unlinked (roomFor book) .links

@@ -38,12 +38,13 @@ module _ (who : Applicant) (issuer book table links : List ℕ) where
     pub long : length asked ≡ 2 * roomFor book
     pub permit : (question : ℕ) → getD asked question false ≡ true → answerPermits question ≡ true
 
--- accepted inputs, and arrays with nothing in them that have room for the records of the book; and before, the heads of the chains alone
+-- What the inner function is lent: accepted inputs, and empty arrays with room for the records of the book.
 pub record Lent (who : Applicant) (request issuer book table links heads : List ℕ) (asked : List Bool) : Type 0 where
   pub accepted : firstRefusal (judgeChecks request issuer who book) ≡ none
   pub blank : Blank book table links heads
   pub unasked : asked ≡ replicate (2 * roomFor book) false
 
+-- The same for the heads of the chains alone, before the size of the other arrays is chosen.
 pub record HeadsLent (who : Applicant) (request issuer book heads : List ℕ) : Type 0 where
   pub accepted : firstRefusal (judgeChecks request issuer who book) ≡ none
   pub headed : heads ≡ replicate maxRecords noRecord

@@ -17,7 +17,7 @@ use Rattle.book_index.specs.Indexes.{Blank}
 use Rattle.list_places.specs.declared.Permitted.{Permitted}
 use Rattle.list_places.specs.PermittedBy.{issuersIn}
 
--- arrays with nothing in them; and before, the heads of the chains alone
+-- What the inner function is lent: an accepted request and book, and empty arrays with room for the records of the book.
 pub record Lent (who : Applicant) (request book table links heads names rounds : List ℕ) : Type 0 where
   pub names-good : requestRefusal request ≡ none
   pub applicant-good : applicantRefusal who ≡ none
@@ -26,20 +26,21 @@ pub record Lent (who : Applicant) (request book table links heads names rounds :
   pub candidates : names ≡ replicate (2 * roomFor book) 0
   pub first-round : rounds ≡ replicate (roomFor book) 0
 
+-- The same for the heads of the chains alone, before the size of the other arrays is chosen.
 pub record HeadsLent (who : Applicant) (request book heads : List ℕ) : Type 0 where
   pub names-good : requestRefusal request ≡ none
   pub applicant-good : applicantRefusal who ≡ none
   pub records-good : bookRefusal book ≡ none
   pub headed : heads ≡ replicate maxRecords noRecord
 
--- those who may sign are found
+-- The candidates and their rounds are those who may issue, by the rule.
 pub record Found (who : Applicant) (request book names rounds : List ℕ) (p : Permitted) : Type 0 where
   pub names-good : requestRefusal request ≡ none
   pub applicant-good : applicantRefusal who ≡ none
   pub records-good : bookRefusal book ≡ none
   pub issuers-found : issuersIn book (record { answer = p; names = names; rounds = rounds }) ≡ issuers (authorizations request who book)
 
--- the answer and the buffer afterwards are the call's, for any applicant and request for which they were found
+-- The answer, and the buffer afterwards, are those of the call, for every applicant and request whose issuers were found.
 abbrev pub ListPut : List ℕ → List ℕ → List ℕ → Permitted → List ℕ → PermittedIssuers → List ℕ → Type 0
 ListPut book names rounds p buffer answer after =
     (who : Applicant) (request : List ℕ) → Found who request book names rounds p →
