@@ -4,9 +4,6 @@ use std::fmt;
 
 use crate::cases::to_hex;
 
-/// Comparing stops at that many differences.
-const ENOUGH: usize = 5;
-
 /// A compared call, with the kinds of its answers: a number for each, and what it says.
 pub struct Call {
     pub name: &'static str,
@@ -58,14 +55,22 @@ impl fmt::Display for Tally {
 }
 
 /// The differences found so far, each told in some lines.
-#[derive(Default)]
 pub struct Differences {
     pub told: Vec<String>,
+    enough: usize,
 }
 
 impl Differences {
+    /// None so far. Comparing stops at `enough` of them.
+    pub fn up_to(enough: usize) -> Differences {
+        Differences {
+            told: Vec::new(),
+            enough,
+        }
+    }
+
     pub fn are_enough(&self) -> bool {
-        self.told.len() >= ENOUGH
+        self.told.len() >= self.enough
     }
 
     /// Tells the inputs, in the hex of the case files, and both answers.
@@ -107,5 +112,22 @@ mod tests {
         let told: Vec<String> = tally.rarer_than(2).collect();
         assert_eq!(told, ["too rare: check refused 4: 1 times of 2"]);
         assert_eq!(tally.rarer_than(3).count(), 2);
+    }
+
+    #[test]
+    fn no_more_is_told_than_enough() {
+        static CALL: Call = Call {
+            name: "check",
+            kinds: &[(0, "accepted")],
+        };
+        let mut differences = Differences::up_to(2);
+        for theirs in 1..=3 {
+            assert_eq!(differences.are_enough(), theirs == 3);
+            differences.tell(&CALL, &[("request", b"\x01a\x00")], theirs, 0);
+        }
+        let told = |theirs| {
+            format!("differs: check\n  request (3): 01 61 00\n  theirs: {theirs}\n  ours:   0")
+        };
+        assert_eq!(differences.told, [told(1), told(2)]);
     }
 }

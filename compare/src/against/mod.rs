@@ -27,6 +27,9 @@ use readers::ReadersComparison;
 pub const LONG_RUN: usize = 20_000;
 const WANTED_TIMES: usize = 100;
 
+/// Comparing stops at that many differences.
+const ENOUGH: usize = 5;
+
 /// What there is of the other implementation.
 #[derive(Clone, Copy)]
 pub struct Other {
@@ -143,10 +146,27 @@ trait Part {
 }
 
 /// Compares all that the other has: on short inputs, on the stored cases, and on so many random
-/// ones.
+/// ones. Stops at some differences.
 pub fn compare(other: &Other, stored: &[Case], cases: usize, seed: u64) -> Comparison {
+    compare_up_to(ENOUGH, other, stored, cases, seed)
+}
+
+/// Whether random cases alone find a difference, and stops there.
+pub fn differs_at_random(other: &Other, cases: usize, seed: u64) -> bool {
+    !compare_up_to(1, other, &[], cases, seed)
+        .differences
+        .is_empty()
+}
+
+fn compare_up_to(
+    enough: usize,
+    other: &Other,
+    stored: &[Case],
+    cases: usize,
+    seed: u64,
+) -> Comparison {
     let mut parts = parts(other, seed);
-    let mut differences = Differences::default();
+    let mut differences = Differences::up_to(enough);
     for part in &mut parts {
         part.short_ones(&mut differences);
         for case in stored {

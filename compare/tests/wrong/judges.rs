@@ -6,7 +6,7 @@ use compare::limits::{APPLICANT_OCTETS, BOOK_OCTETS, ISSUER_OCTETS, REQUEST_OCTE
 use compare::{judge, Answer, Refusal, Word};
 
 use super::cut::{self, first_names, first_records, names_within, records_within};
-use super::found_at_random;
+use super::is_found_at_random;
 
 const TOO_LONG_A_REQUEST: usize = REQUEST_OCTETS + 1;
 const TOO_LONG_A_BOOK: usize = BOOK_OCTETS + 1;
@@ -305,8 +305,7 @@ fn all_are_found_out(wrong_ones: &[Judge]) {
             judge: Some(*judge),
             ..Other::NOTHING
         };
-        let found = found_at_random(other);
-        assert!(!found.is_empty(), "wrong judge {number}");
+        assert!(is_found_at_random(other), "wrong judge {number}");
     }
 }
 

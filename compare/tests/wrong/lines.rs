@@ -6,7 +6,7 @@ use compare::calls::{Convert, Lines};
 use compare::limits::{DATA_OCTETS, LINE_OCTETS};
 use compare::{read_line, write_line, Made, Refusal, Word};
 
-use super::found_at_random;
+use super::is_found_at_random;
 
 const OWN: Lines = compare::calls::Desk::OWN.lines;
 
@@ -50,7 +50,7 @@ fn all_are_found_out(wrong_ones: &[(&str, Convert)], lines: fn(Convert) -> Lines
             lines: Some(lines(convert)),
             ..Other::NOTHING
         };
-        assert!(!found_at_random(other).is_empty(), "{mistake}");
+        assert!(is_found_at_random(other), "{mistake}");
     }
 }
 

@@ -7,9 +7,9 @@ mod lists;
 mod readers;
 mod rules;
 
-use compare::against::{compare, Other};
+use compare::against::{differs_at_random, Other};
 
 /// Without the stored cases, so that it is the others that find something.
-fn found_at_random(other: Other) -> Vec<String> {
-    compare(&other, &[], 20_000, 1).differences
+fn is_found_at_random(other: Other) -> bool {
+    differs_at_random(&other, 20_000, 1)
 }
