@@ -6,7 +6,7 @@ use crate::limits::{
 };
 
 pub const ISSUER: &str = "ca1.example.net";
-/// Of all loads. No record limits its grant.
+/// Of all loads. Records limit their grants only where a load says so.
 pub const ACCOUNT: &[u8] = b"https://ca1.example.net/acct/230123";
 pub const METHOD: &[u8] = b"dns-01";
 

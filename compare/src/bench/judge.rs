@@ -9,7 +9,7 @@ use super::books::{
 };
 use super::measure::{measure, race, Measured, Plan, Race, Sides};
 use super::shapes::{Shape, GRANTED, SHAPES};
-use super::{alike, yardstick, CALLS_OF_ONE_NAME, NIGHT_RUN_NAMES};
+use super::{alike, limited, yardstick, CALLS_OF_ONE_NAME, NIGHT_RUN_NAMES};
 use crate::answer::Answer;
 use crate::calls::{Desk, Judge};
 use crate::limits::{BOOK_RECORDS, REQUEST_NAMES};
@@ -104,6 +104,9 @@ pub fn beside_night_run() -> Vec<Load> {
     let load =
         |alike: alike::Alike| Load::new(alike.title, alike.request, alike.issuer, alike.book);
     loads.extend(alike::loads().into_iter().map(load));
+    let load =
+        |limited: limited::Limited| Load::new(limited.title, limited.request, ISSUER, limited.book);
+    loads.extend(limited::loads().into_iter().map(load));
     loads
 }
 

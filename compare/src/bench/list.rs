@@ -8,7 +8,7 @@ use super::books::{
 };
 use super::measure::{measure, race, Measured, Plan, Race, Sides};
 use super::shapes::SHAPES;
-use super::{alike, yardstick, CALLS_OF_ONE_NAME, NIGHT_RUN_NAMES};
+use super::{alike, limited, yardstick, CALLS_OF_ONE_NAME, NIGHT_RUN_NAMES};
 use crate::answer::Permitted;
 use crate::calls::{Desk, PermittedIssuers};
 use crate::limits::{BOOK_RECORDS, REQUEST_NAMES};
@@ -133,6 +133,8 @@ pub fn loads() -> Vec<Load> {
     ]);
     let load = |alike: alike::Alike| Load::new(alike.title, alike.request, alike.book);
     loads.extend(alike::loads().into_iter().map(load));
+    let load = |limited: limited::Limited| Load::new(limited.title, limited.request, limited.book);
+    loads.extend(limited::loads().into_iter().map(load));
     loads
 }
 
@@ -183,6 +185,7 @@ mod tests {
                 1
             }
         }));
+        expected.extend(limited::loads().iter().map(|_| 1));
         assert_eq!(counts.collect::<Vec<_>>(), expected);
     }
 }

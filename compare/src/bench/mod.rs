@@ -7,6 +7,7 @@ mod books;
 pub mod comparing;
 mod folders;
 mod judge;
+mod limited;
 mod lines;
 mod list;
 mod measure;
