@@ -19,7 +19,7 @@ from C and Rust, and runs the desk program, the scripts and the tools. Removes t
 goes to standard error.
 
 The last line is `N passed, 0 failed` exactly when everything has passed. RT_JOBS is the number of
-checks that run at a time (four for each processor).
+checks that run at a time (eight for each processor).
 
 Exit status: 0 everything passed; 2 wrong use, or a command is missing; any other: something failed.
 end
@@ -37,8 +37,8 @@ for command in rt cargo cc git python3; do
 done
 check_kit
 
-# rt starts that many checks and waits for all of them: four for each processor keep the processors busy.
-export RT_JOBS="${RT_JOBS:-$((4 * $(nproc)))}"
+# rt starts that many checks and waits for all of them: eight for each processor keep the processors busy. A check takes about 60 MB.
+export RT_JOBS="${RT_JOBS:-$((8 * $(nproc)))}"
 
 independent() {
     SPLINEPEARL_LIBS="$root/target/staticlib" cargo run --quiet --offline --locked --release --manifest-path compare/Cargo.toml "$@"
