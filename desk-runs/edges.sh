@@ -135,6 +135,44 @@ begin 'an issuer name with a closing dot'
 printf ca1.example.net. > issuer.txt
 expect 'refused 4 at 0'
 
+# Account and method: 1 to 255 octets, each 33 to 126 but no semicolon; the method has no comma.
+for file in account.txt method.txt; do
+    begin "$file of 1"
+    letters 1 > $file
+    expect 'verdict 0'
+
+    begin "$file of 255"
+    letters 255 > $file
+    expect 'verdict 0'
+
+    begin "$file of 256"
+    letters 256 > $file
+    expect 'refused 15 at 0'
+
+    begin "$file of 100,000"
+    letters 100000 > $file
+    expect 'refused 15 at 0'
+
+    for octet in 33 58 60 126; do
+        begin "$file with the octet $octet"
+        octets $octet > $file
+        expect 'verdict 0'
+    done
+    for octet in 0 9 10 13 32 59 127 128 255; do
+        begin "$file with the octet $octet"
+        octets 97 $octet 97 > $file
+        expect 'refused 15 at 0'
+    done
+done
+
+begin 'an account with a comma'
+printf a,b > account.txt
+expect 'verdict 0'
+
+begin 'a method with a comma'
+printf a,b > method.txt
+expect 'refused 15 at 0'
+
 # Book: at most 1,024 records; what remains after 1,024 good ones is refusal 7, a bad one among them refusal 6.
 begin '1,024 records'
 repeated 1024 other > book.bin

@@ -32,12 +32,16 @@ caa example.com 128 tbs Unknown > book.bin
 expect_run 1 'verdict 20 name 0 record 0' "$PWD"
 
 begin 'run.sh: the stored example, in an empty folder'
-rm request.bin issuer.txt book.bin
+rm request.bin issuer.txt account.txt method.txt book.bin
 expect_run 1 'verdict 21 name 1 record 3'
 
 begin 'run.sh: refused'
 echo >> issuer.txt
 expect_run 2 'refused 4 at 0' .
+
+begin 'run.sh: refused for a method'
+echo >> method.txt
+expect_run 2 'refused 15 at 0' .
 
 begin 'run.sh: no book'
 rm book.bin
@@ -174,7 +178,7 @@ done
 begin_copy 'a folder without permission' 'verdict 0
 '
 mkdir closed
-cp request.bin issuer.txt book.bin closed
+cp request.bin issuer.txt account.txt method.txt book.bin closed
 chmod 000 closed
 chmod 755 "$scratch"
 as_nobody=

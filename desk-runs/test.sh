@@ -37,7 +37,7 @@ trap 'rm -rf "$scratch"' EXIT
 runs=0
 failures=0
 
-# begin TITLE: a new folder to change, with a good request, a good issuer name and an empty book, and so `verdict 0`
+# begin TITLE: a new folder to change, with a good request, issuer name, account and method and an empty book, and so `verdict 0`
 begin() {
     title=$1
     rm -rf "$scratch/folder"
@@ -45,6 +45,8 @@ begin() {
     cd "$scratch/folder"
     name www.example.com > request.bin
     printf %s ca1.example.net > issuer.txt
+    printf %s https://ca1.example.net/acct/230123 > account.txt
+    printf %s dns-01 > method.txt
     : > book.bin
 }
 

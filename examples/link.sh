@@ -73,8 +73,25 @@ folder anyone
 : > "$work/anyone/book.bin"
 folder critical # example.com CAA 128 tbs "Unknown"
 printf '\7example\3com\0\1\1\0\1\0\0\0\0\0\14\200\3tbsUnknown' > "$work/critical/book.bin"
+folder limited # example.com CAA 0 issue "ca1.example.net; accounturi=https://ca1.example.net/acct/230123"
+printf '\7example\3com\0\1\1\0\1\0\0\0\0\0\106\0\5issueca1.example.net; accounturi=%s' "$(cat "$whole/account.txt")" > "$work/limited/book.bin"
+folder other-account # the same record, for another account
+cp "$work/limited/book.bin" "$work/other-account/book.bin"
+printf '%s' https://ca1.example.net/acct/230124 > "$work/other-account/account.txt"
 folder line-end
 echo >> "$work/line-end/issuer.txt"
+folder account-line-end
+echo >> "$work/account-line-end/account.txt"
+folder method-comma
+printf '%s' http-01,dns-01 > "$work/method-comma/method.txt"
+folder no-account
+rm "$work/no-account/account.txt"
+folder no-method
+rm "$work/no-method/method.txt"
+folder issuer-first # the issuer name is checked before the account, and both before the book
+cp "$work/line-end/issuer.txt" "$work/issuer-first/issuer.txt"
+rm "$work/issuer-first/account.txt"
+head -c 199 "$whole/book.bin" > "$work/issuer-first/book.bin"
 folder cut
 head -c 199 "$whole/book.bin" > "$work/cut/book.bin"
 folder no-request
@@ -88,12 +105,14 @@ mkdir "$work/nothing"
 mkdir "$work/later"
 cat > "$work/later.c" <<'end'
 #include "splinepearl.h"
-#define UNUSED (void)a, (void)b, (void)c, (void)d, (void)e, (void)f
-uint64_t caa_judge(const uint8_t *a, size_t b, const uint8_t *c, size_t d, const uint8_t *e, size_t f)
+#define UNUSED (void)a, (void)b, (void)c, (void)d, (void)e, (void)f, (void)g, (void)h, (void)i, (void)j
+uint64_t caa_judge_for(const uint8_t *a, size_t b, const uint8_t *c, size_t d, const uint8_t *e, size_t f,
+                       const uint8_t *g, size_t h, const uint8_t *i, size_t j)
 {
     return UNUSED, 22 | 1 << 8;
 }
-uint64_t caa_permitted_issuers(const uint8_t *a, size_t b, const uint8_t *c, size_t d, uint8_t *e, size_t f)
+uint64_t caa_permitted_issuers_for(const uint8_t *a, size_t b, const uint8_t *c, size_t d, const uint8_t *e, size_t f,
+                                   const uint8_t *g, size_t h, uint8_t *i, size_t j)
 {
     return UNUSED, 32;
 }
@@ -120,9 +139,20 @@ expect 'verdict 0
 anyone [0]' "$work/judge" "$work/anyone"
 expect 'verdict 20 name 0 record 0
 list of 0 in 0 octets [1]' "$work/judge" "$work/critical"
+expect 'verdict 0
+list of 1 in 16 octets
+ca1.example.net [0]' "$work/judge" "$work/limited"
+expect 'verdict 21 name 0 record 0
+list of 0 in 0 octets [1]' "$work/judge" "$work/other-account"
 expect 'refused 4 at 0
 list of 1 in 16 octets
 ca2.example.org [2]' "$work/judge" "$work/line-end"
+for folder in account-line-end method-comma no-account no-method; do
+    expect 'refused 15 at 0
+refused 15 at 0 [2]' "$work/judge" "$work/$folder"
+done
+expect 'refused 4 at 0
+refused 15 at 0 [2]' "$work/judge" "$work/issuer-first"
 expect 'refused 6 at 3
 refused 6 at 3 [2]' "$work/judge" "$work/cut"
 expect 'refused 2 at 0
@@ -139,6 +169,25 @@ expect_status 2 "$work/judge" --not-known
 build examples/c/judge.c "$work/later" "$work/judge-later"
 expect 'unknown answer 22
 unknown answer 32 [2]' "$work/judge-later" "$work/anyone"
+
+# Which numbers the header takes for refusals.
+cat > "$work/refusals.c" <<'end'
+#include <stdio.h>
+#include "splinepearl.h"
+int main(void)
+{
+    uint64_t number;
+
+    for (number = 0; number < 256; number++) {
+        if (caa_is_refusal(number)) {
+            printf("%u ", caa_number(number));
+        }
+    }
+    return 0;
+}
+end
+build "$work/refusals.c" "$libs" "$work/refusals"
+expect '1 2 3 4 5 6 7 8 9 10 11 15  [0]' "$work/refusals"
 
 build tools/caa-lines.c "$libs" "$work/caa-lines"
 expect '128 tbs "Unk\"\\\000n"
@@ -171,7 +220,13 @@ expect 'verdict 21 name 1 record 3 [1]' desk "$whole"
 expect 'verdict 0 [0]' desk "$work/www"
 expect 'verdict 0 [0]' desk "$work/anyone"
 expect 'verdict 20 name 0 record 0 [1]' desk "$work/critical"
+expect 'verdict 0 [0]' desk "$work/limited"
+expect 'verdict 21 name 0 record 0 [1]' desk "$work/other-account"
 expect 'refused 4 at 0 [2]' desk "$work/line-end"
+for folder in account-line-end method-comma no-account no-method; do
+    expect 'refused 15 at 0 [2]' desk "$work/$folder"
+done
+expect 'refused 4 at 0 [2]' desk "$work/issuer-first"
 expect 'refused 6 at 3 [2]' desk "$work/cut"
 expect 'refused 2 at 0 [2]' desk "$work/no-request"
 for folder in nothing book-is-a-folder not-there; do

@@ -14,9 +14,10 @@ usage() {
     cat <<'end'
 usage: bash examples/run.sh [FOLDER]
 
-Judges request.bin, issuer.txt and book.bin in FOLDER with the desk program, and prints the program's
-line. Without FOLDER it judges examples/whole-case. Before that it proves and builds what has changed:
-about 2 minutes the first time, about 2 seconds after that. Progress goes to standard error.
+Judges request.bin, issuer.txt, account.txt, method.txt and book.bin in FOLDER with the desk program, and
+prints the program's line. Without FOLDER it judges examples/whole-case. Before that it proves and builds
+what has changed: about 2 minutes the first time, about 2 seconds after that. Progress goes to standard
+error.
 
 Exit status: 0 permitted; 1 not permitted; 2 anything else: refused, no book, a folder that can't be
 entered, a failed build, a line that isn't known, output that can't be written.

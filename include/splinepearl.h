@@ -1,5 +1,5 @@
 /*
- * Splinepearl: may this certificate authority issue? CAA by RFC 8659, proved.
+ * Splinepearl: may this certificate authority issue? CAA by RFC 8659 and RFC 8657, proved.
  *
  * The four calls of libsplinepearl.a, for programs on x86-64 Linux (System V calling convention). A
  * call takes octets, each input as a pointer and a length. It accepts any octets, checks them itself,
@@ -37,7 +37,7 @@ extern "C" {
 
 /* The numbers of the answers. README.md says what to do about each. */
 enum caa_answer {
-    CAA_PERMITTED = 0,         /* judge: this issuer may issue */
+    CAA_PERMITTED = 0,         /* judge_for: this issuer may issue */
     CAA_MADE = 0,              /* write_line, read_line: written to the start of buffer; a = length */
 
     /* Refusals: an input breaks a rule, and nothing was decided. a is 0 unless it is named here. */
@@ -53,12 +53,14 @@ enum caa_answer {
     CAA_BAD_LINE = 9,          /* line breaks a rule */
     CAA_LINE_TOO_LONG = 10,    /* line over 16,384 octets, or data over 4,096 */
     CAA_BAD_DATA = 11,         /* CAA data is malformed, or its tag isn't letters and digits only */
+    CAA_BAD_ACCOUNT_OR_METHOD = 15, /* account or method breaks a rule: see caa_judge_for */
 
-    /* judge: this issuer may not issue. a = number of the first name not permitted, b = number of a record */
+    /* judge_for: this issuer may not issue. a = number of the first name not permitted, b = number of a record */
     CAA_UNKNOWN_CRITICAL = 20, /* its tag is unknown and critical; b = the first such record */
-    CAA_NOT_GRANTED = 21,      /* restricted, and not granted to this issuer; b = the first governing record */
+    CAA_NOT_GRANTED = 21,      /* restricted, and not granted to this issuer for this account and method;
+                                  b = the first governing record */
 
-    /* permitted_issuers */
+    /* permitted_issuers_for */
     CAA_ANYONE = 30,           /* no requested name is restricted; nothing is written */
     CAA_LIST = 31              /* only those listed in buffer; a = octets, b = count; 0 is nobody */
 };
@@ -68,28 +70,37 @@ enum caa_answer {
 #define CAA_MAX_LINE_OCTETS 16384
 
 /*
- * May `issuer` issue for every name of `request`, by the records of `book`? Don't issue unless the
- * number is CAA_PERMITTED.
+ * May `issuer` issue for every name of `request`, for this account and by this validation method, by the
+ * records of `book`? Don't issue unless the number is CAA_PERMITTED.
  *
  *   request   1 to 250 DNS names in wire form (RFC 1035), one after the other; not a CSR
  *   issuer    one issuer domain name of the CA, as text: no trailing dot, no zero octet, no line end
+ *   account   the URI of the account that asks, as text (RFC 8657, section 3): 1 to 255 octets, each 33 to
+ *             126 but no `;`. So no white space, no zero octet, no line end
+ *   method    the validation method used, as text (RFC 8657, section 4), such as dns-01: the same rule, and
+ *             no `,`
  *   book      0 to 1,024 resource records in wire form without compression, one after the other.
  *             Their CAA records are the answers to the lookups; a failed lookup is not an empty answer
  *
- * Answers 0, 20, 21, or a refusal 1 to 7.
+ * A record may limit its grant to one account (accounturi) and to some methods (validationmethods). Both
+ * are compared octet for octet, so give both texts as your CA publishes them.
+ *
+ * Answers 0, 20, 21, or a refusal 1 to 7 or 15.
  */
-uint64_t caa_judge(const uint8_t *request, size_t request_len, const uint8_t *issuer, size_t issuer_len,
-                   const uint8_t *book, size_t book_len);
+uint64_t caa_judge_for(const uint8_t *request, size_t request_len, const uint8_t *issuer, size_t issuer_len,
+                       const uint8_t *account, size_t account_len, const uint8_t *method, size_t method_len,
+                       const uint8_t *book, size_t book_len);
 
 /*
- * Who may issue for every name of `request`? A list is written to the start of `buffer`: each issuer
- * domain name once, as a length octet and the name in lower case. A buffer as long as the book is
- * always enough.
+ * Who may issue for every name of `request`, for this account and by this method? The inputs are those of
+ * caa_judge_for, without an issuer. A list is written to the start of `buffer`: each issuer domain name
+ * once, as a length octet and the name in lower case. A buffer as long as the book is always enough.
  *
- * Answers 30, 31, or a refusal 1 to 3 or 5 to 8.
+ * Answers 30, 31, or a refusal 1 to 3, 5 to 8 or 15.
  */
-uint64_t caa_permitted_issuers(const uint8_t *request, size_t request_len, const uint8_t *book, size_t book_len,
-                               uint8_t *buffer, size_t buffer_len);
+uint64_t caa_permitted_issuers_for(const uint8_t *request, size_t request_len, const uint8_t *account,
+                                   size_t account_len, const uint8_t *method, size_t method_len,
+                                   const uint8_t *book, size_t book_len, uint8_t *buffer, size_t buffer_len);
 
 /*
  * Writes CAA data (flags, tag length, tag, value) as a line of text, such as
@@ -113,13 +124,15 @@ static inline unsigned caa_number(uint64_t answer)
     return (unsigned)(answer & 0xFF);
 }
 
-/* Is it one of the refusals 1 to 11? */
+/* Is it one of the refusals 1 to 11 and 15? */
 static inline int caa_is_refusal(uint64_t answer)
 {
-    return caa_number(answer) >= CAA_REQUEST_TOO_LONG && caa_number(answer) <= CAA_BAD_DATA;
+    const unsigned number = caa_number(answer);
+
+    return (number >= CAA_REQUEST_TOO_LONG && number <= CAA_BAD_DATA) || number == CAA_BAD_ACCOUNT_OR_METHOD;
 }
 
-/* 1 to 11: field a, the number that the refusal comes with: of a name, of a record, of octets needed. */
+/* 1 to 11 and 15: field a, the number that the refusal comes with: of a name, of a record, of octets needed. */
 static inline size_t caa_place(uint64_t answer)
 {
     return (size_t)(answer >> 8 & 0xFFFFFF);

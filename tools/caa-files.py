@@ -1,12 +1,13 @@
 #!/usr/bin/env python3
 """Makes the files that the desk program reads from readable text, and shows them as text.
 
-  caa-files.py make FOLDER --issuer NAME   writes request.bin, issuer.txt and book.bin to FOLDER,
-                                           from FOLDER/names.txt and FOLDER/records.txt
-  caa-files.py show FOLDER                 shows the three files, with the numbers that the desk
-                                           program gives to names and records
-  caa-files.py names FILE                  prints a request.bin as a names.txt
-  caa-files.py records FILE                prints a book.bin as a records.txt
+  caa-files.py make FOLDER --issuer NAME --account URI --method NAME
+                              writes request.bin, issuer.txt, account.txt, method.txt and book.bin to
+                              FOLDER, from FOLDER/names.txt and FOLDER/records.txt
+  caa-files.py show FOLDER    shows the five files, with the numbers that the desk program gives to
+                              names and records
+  caa-files.py names FILE     prints a request.bin as a names.txt
+  caa-files.py records FILE   prints a book.bin as a records.txt
 
 caa-files.py COMMAND --help tells more about one command.
 """
@@ -67,6 +68,7 @@ Exit status: 0 done; 1 something is wrong with a file or with the output, and ma
 MAX_LABEL = 63
 MAX_NAME = 255
 MAX_ISSUER = 253
+MAX_ACCOUNT = 255  # of the method too
 MAX_NAMES = 250
 MAX_REQUEST = 16_384
 MAX_RECORDS = 1_024
@@ -200,6 +202,31 @@ def check_issuer(issuer):
         if not 1 <= len(label) <= MAX_LABEL:
             raise Fault(f"a label of {len(label)} octets in the issuer name; 1 to {MAX_LABEL} are allowed")
         check_host_label(label)
+
+
+def check_account(account):
+    """An account text, as octets."""
+    check_limited_text("the account", account, "give the URI of the account that asks, such as https://ca1.example.net/acct/230123")
+
+
+def check_method(method):
+    """A method text, as octets."""
+    advice = "give the one validation method that was used, such as dns-01"
+    check_limited_text("the method", method, advice)
+    if b"," in method:
+        raise Fault(f"the method has a comma: {advice}")
+
+
+def check_limited_text(what, text, advice):
+    """What an account and a method have in common: 1 to 255 octets of 33 to 126, and no semicolon."""
+    if text.endswith((b"\n", b"\r")):
+        raise Fault(f"{what} has a line end behind it: write the file with printf '%s', not with echo")
+    if not 1 <= len(text) <= MAX_ACCOUNT:
+        raise Fault(f"{what} has {len(text)} octets; 1 to {MAX_ACCOUNT} are allowed: {advice}")
+    for octet in text:
+        if not 33 <= octet <= 126 or octet == ord(";"):
+            shown = repr(chr(octet)) if octet < 127 else f"octet {octet}"
+            raise Fault(f"{what} has {shown} in it; only printable ASCII without white space and without ; is allowed: {advice}")
 
 
 # ---- Records
@@ -1004,15 +1031,28 @@ def make(options):
         check_issuer(issuer)
     except Fault as fault:
         raise Fault(f"--issuer {options.issuer}: {fault}") from None
+    account, method = os.fsencode(options.account), os.fsencode(options.method)
+    for option, check, text in [("account", check_account, account), ("method", check_method, method)]:
+        try:
+            check(text)
+        except Fault as fault:
+            raise Fault(f"--{option}: {fault}") from None
     notes = check_climbs(records, request, book)
 
     def announce():
-        print(f"{options.folder}: names {name_count}, records {book.items.count}, issuer {options.issuer}")
+        counts = f"names {name_count}, records {book.items.count}"
+        print(f"{options.folder}: {counts}, issuer {options.issuer}, account {options.account}, method {options.method}")
         for note in notes:
             print(note)
         flush_output()
 
-    files = {"request.bin": request, "issuer.txt": issuer, "book.bin": book.items.octets}
+    files = {
+        "request.bin": request,
+        "issuer.txt": issuer,
+        "account.txt": account,
+        "method.txt": method,
+        "book.bin": book.items.octets,
+    }
     write_all(options.folder, files, options.force, announce)
 
 
@@ -1094,7 +1134,9 @@ def show(options):
     faults = []
     for file, texts_of, what in [
         ("request.bin", names_shown, "name"),
-        ("issuer.txt", issuer_shown, None),
+        ("issuer.txt", text_shown(check_issuer), None),
+        ("account.txt", text_shown(check_account), None),
+        ("method.txt", text_shown(check_method), None),
         ("book.bin", records_shown, "record"),
     ]:
         path = os.path.join(options.folder, file)
@@ -1113,12 +1155,17 @@ def show(options):
         raise Fault("\n".join(faults))
 
 
-def issuer_shown(path, octets):
-    try:
-        check_issuer(octets)
-    except Fault as fault:
-        raise Fault(f"{path}: {fault}") from None
-    return [octets.decode()]
+def text_shown(check):
+    """Shows a file that holds one text, once it is checked."""
+
+    def shown(path, octets):
+        try:
+            check(octets)
+        except Fault as fault:
+            raise Fault(f"{path}: {fault}") from None
+        return [octets.decode()]
+
+    return shown
 
 
 def print_names(options):
@@ -1144,7 +1191,8 @@ class Parser(argparse.ArgumentParser):
 def arguments():
     parser = Parser(
         prog="caa-files.py",
-        usage="caa-files.py make FOLDER --issuer NAME [--names FILE] [--records FILE] [--force]\n"
+        usage="caa-files.py make FOLDER --issuer NAME --account URI --method NAME\n"
+        "                    [--names FILE] [--records FILE] [--force]\n"
         "       caa-files.py show FOLDER | names FILE | records FILE",
         description=__doc__,
         epilog=TEXT_FORM + EXIT_STATUS,
@@ -1165,18 +1213,22 @@ def arguments():
 
     command = add(
         "make",
-        "Writes request.bin, issuer.txt and book.bin to FOLDER: all three, or on any fault none.",
+        "Writes request.bin, issuer.txt, account.txt, method.txt and book.bin to FOLDER: all five, or on any\nfault none.",
         make,
         TEXT_FORM + EXIT_STATUS,
     )
-    command.add_argument("folder", metavar="FOLDER", help="where the three files go; it is made if it is missing")
+    command.add_argument("folder", metavar="FOLDER", help="where the five files go; it is made if it is missing")
     command.add_argument("--issuer", metavar="NAME", required=True, help="the CA's issuer domain name, such as ca1.example.net")
+    command.add_argument(
+        "--account", metavar="URI", required=True, help="the account that asks, such as https://ca1.example.net/acct/230123"
+    )
+    command.add_argument("--method", metavar="NAME", required=True, help="the validation method that was used, such as dns-01")
     command.add_argument("--names", metavar="FILE", help="the requested names (default: FOLDER/names.txt; - is standard input)")
     command.add_argument("--records", metavar="FILE", help="the records (default: FOLDER/records.txt; - is standard input)")
-    command.add_argument("--force", action="store_true", help="overwrite the three files if they are there")
+    command.add_argument("--force", action="store_true", help="overwrite the five files if they are there")
 
-    command = add("show", "Shows the request.bin, issuer.txt and book.bin of FOLDER as text.", show)
-    command.add_argument("folder", metavar="FOLDER", help="the folder that has the three files")
+    command = add("show", "Shows the request.bin, issuer.txt, account.txt, method.txt and book.bin of FOLDER as text.", show)
+    command.add_argument("folder", metavar="FOLDER", help="the folder that has the five files")
 
     for name, print_all, file in [("names", print_names, "request.bin"), ("records", print_records, "book.bin")]:
         command = add(name, f"Prints a {file} as a {name}.txt.", print_all)

@@ -18,6 +18,14 @@ TOOL = os.path.join(HERE, "caa-files.py")
 WHOLE_CASE = os.path.join(HERE, "..", "examples", "whole-case")
 CAPTURED = os.path.join(HERE, "captured")
 
+# The files that make writes, and others in their place.
+FILES = ["request.bin", "issuer.txt", "account.txt", "method.txt", "book.bin"]
+NEW_FILES = {"request.bin": b"r", "issuer.txt": b"i", "account.txt": b"a", "method.txt": b"m", "book.bin": b"b"}
+
+# What make is given, and what it tells of that.
+APPLICANT = ["--issuer", "ca1.example.net", "--account", "https://ca1.example.net/acct/230123", "--method", "dns-01"]
+TOLD = "issuer ca1.example.net, account https://ca1.example.net/acct/230123, method dns-01"
+
 # The file's name is no module name.
 _spec = importlib.util.spec_from_file_location("caa_files", TOOL)
 caa = importlib.util.module_from_spec(_spec)
@@ -176,6 +184,41 @@ class Faults(unittest.TestCase):
                 ("b\u00fccher.example".encode("latin-1"), "xn-- form"),
                 (b"ca1.example.net; account=1", "domain name alone"),
                 (b"https://ca1.example.net", "domain name alone"),
+            ],
+        )
+
+    def test_accounts(self):
+        for good in [b"https://ca1.example.net/acct/230123", b"!", b"~", b"a,b", b"a" * 255]:
+            caa.check_account(good)
+        self.check(
+            caa.check_account,
+            [
+                (b"", "the account has 0 octets; 1 to 255 are allowed: give the URI of the account that asks"),
+                (b"a" * 256, "256 octets"),
+                (b"a b", "has ' ' in it"),
+                (b"a\tb", r"has '\\t' in it"),
+                (b"https://x/1\n", "line end behind it: write the file with printf"),
+                (b"https://x/1\r\n", "line end behind it"),
+                (b"a\nb", r"has '\\n' in it"),
+                (b"a;b", "has ';' in it"),
+                (b"a\x7f", "has octet 127 in it"),
+                ("b\u00fccher".encode(), "has octet 195 in it; only printable ASCII"),
+            ],
+        )
+
+    def test_methods(self):
+        for good in [b"dns-01", b"m" * 255]:
+            caa.check_method(good)
+        self.check(
+            caa.check_method,
+            [
+                (b"", "the method has 0 octets; 1 to 255 are allowed: give the one validation method that was used"),
+                (b"m" * 256, "256 octets"),
+                (b"dns 01", "has ' ' in it"),
+                (b"dns-01\n", "line end behind it"),
+                (b"dns-01;", "has ';' in it"),
+                (b"dns-01\xff", "has octet 255 in it"),
+                (b"http-01,dns-01", "has a comma: give the one validation method"),
             ],
         )
 
@@ -712,7 +755,7 @@ class Commands(unittest.TestCase):
         return done.returncode, done.stdout.decode(), done.stderr.decode()
 
     def make(self, *words, **more):
-        return self.run_tool("make", self.folder, "--issuer", "ca1.example.net", *words, **more)
+        return self.run_tool("make", self.folder, *APPLICANT, *words, **more)
 
     def whole_case(self):
         for command, file, text in [("names", "request.bin", "names.txt"), ("records", "book.bin", "records.txt")]:
@@ -724,8 +767,8 @@ class Commands(unittest.TestCase):
         self.whole_case()
         status, out, error = self.make()
         self.assertEqual((status, error), (0, ""))
-        self.assertEqual(out, f"{self.folder}: names 2, records 4, issuer ca1.example.net\n")
-        for file in ["request.bin", "issuer.txt", "book.bin"]:
+        self.assertEqual(out, f"{self.folder}: names 2, records 4, {TOLD}\n")
+        for file in FILES:
             self.assertEqual(octets_of(self.path(file)), octets_of(os.path.join(WHOLE_CASE, file)), file)
 
     def test_show(self):
@@ -733,6 +776,8 @@ class Commands(unittest.TestCase):
         self.assertEqual(status, 0)
         self.assertIn("  name 1: pay.example.com\n", out)
         self.assertIn("issuer.txt:\n  ca1.example.net\n", out)
+        self.assertIn("account.txt:\n  https://ca1.example.net/acct/230123\n", out)
+        self.assertIn("method.txt:\n  dns-01\n", out)
         self.assertIn('  record 3: pay.example.com 3600 IN CAA 0 issue "ca2.example.org"\n', out)
 
     def test_show_tells_of_each_file(self):
@@ -742,6 +787,13 @@ class Commands(unittest.TestCase):
         self.assertEqual((status, out), (1, "book.bin: empty\n"))
         self.assertIn("request.bin: No such file", error)
         self.assertIn("issuer.txt: the issuer name has a line end", error)
+        self.assertIn("account.txt: No such file", error)
+        self.assertIn("method.txt: No such file", error)
+        self.write("account.txt", "")
+        self.write("method.txt", "dns-01\n")
+        error = self.run_tool("show", self.folder)[2]
+        self.assertIn("account.txt: the account has 0 octets", error)
+        self.assertIn("method.txt: the method has a line end behind it: write the file with printf '%s', not with echo", error)
 
     def test_show_tells_why_a_record_is_refused(self):
         def caa_record(data, rr_class=1):
@@ -840,6 +892,8 @@ class Commands(unittest.TestCase):
         self.write("names.txt", "a\n")
         self.write("records.txt", "")
         self.assertIn("closing dot", self.make("--issuer", "x.")[2])
+        self.assertIn("--account: the account has ';' in it", self.make("--account", "x;y")[2])
+        self.assertIn("--method: the method has a comma", self.make("--method", "http-01,dns-01")[2])
         status, out, _ = self.make()
         self.assertEqual(status, 0)
         self.assertIn("records.txt: there is no record in it, so the book restricts nothing", out)
@@ -859,7 +913,9 @@ class Commands(unittest.TestCase):
         for command, sign in [
             ("make", "--force"),
             ("make", "does not follow aliases"),
-            ("show", "the folder that has the three files"),
+            ("make", "--account URI"),
+            ("make", "--method NAME"),
+            ("show", "the folder that has the five files"),
             ("names", "a request.bin; - is standard input"),
             ("records", "a book.bin; - is standard input"),
         ]:
@@ -867,6 +923,14 @@ class Commands(unittest.TestCase):
             self.assertEqual((status, error), (0, ""))
             self.assertIn(sign, out)
             self.assertIn("Exit status: 0 done", out)
+
+    def test_issuer_account_and_method_are_needed(self):
+        self.whole_case()
+        for left_out in range(0, len(APPLICANT), 2):
+            words = APPLICANT[:left_out] + APPLICANT[left_out + 2 :]
+            status, _, error = self.run_tool("make", self.folder, *words)
+            self.assertEqual(status, 2)
+            self.assertIn(f"required: {APPLICANT[left_out]}", error)
 
     def snapshot(self):
         """All that is in the folder: each path with its octets, None for a folder."""
@@ -879,7 +943,7 @@ class Commands(unittest.TestCase):
     def old_case(self):
         """Texts for a new case, and files of an old one."""
         self.whole_case()
-        for file in ["request.bin", "issuer.txt", "book.bin"]:
+        for file in FILES:
             self.write(file, "old " + file)
         return self.snapshot()
 
@@ -906,13 +970,13 @@ class Commands(unittest.TestCase):
     def test_an_alias_of_a_name_without_records(self):
         self.write("names.txt", "alias-of-none.example.com\n")
         self.write("records.txt", captured("kdig-found") + "alias-of-none.example.com CAA none\n")
-        self.assertEqual(self.make()[:2], (0, f"{self.folder}: names 1, records 3, issuer ca1.example.net\n"))
+        self.assertEqual(self.make()[:2], (0, f"{self.folder}: names 1, records 3, {TOLD}\n"))
 
     def test_lookups_of_all_three_programs(self):
         self.write("names.txt", "www.example.com\n*.pay.example.com\nno-such.example.com\n")
         parts = ["dig-no-caa", "drill-pay", "kdig-nxdomain", "dig-found.answer"]
         self.write("records.txt", "".join(map(captured, parts)))
-        self.assertEqual(self.make()[:2], (0, f"{self.folder}: names 3, records 4, issuer ca1.example.net\n"))
+        self.assertEqual(self.make()[:2], (0, f"{self.folder}: names 3, records 4, {TOLD}\n"))
         self.write("records.txt", "".join(map(captured, parts[:-1])))
         status, out, error = self.make("--force")
         self.assertEqual((status, out), (1, ""))
@@ -941,7 +1005,7 @@ class Commands(unittest.TestCase):
         self.assertEqual(self.snapshot(), before)
 
     def make_with(self, *words, preexec_fn):
-        command = [sys.executable, TOOL, "make", self.folder, "--issuer", "ca1.example.net", *words]
+        command = [sys.executable, TOOL, "make", self.folder, *APPLICANT, *words]
         done = subprocess.run(command, capture_output=True, check=False, preexec_fn=preexec_fn)
         return done.returncode, done.stderr.decode()
 
@@ -951,7 +1015,7 @@ class Commands(unittest.TestCase):
         os.close(reading)
         self.addCleanup(os.close, writing)
         commands = [
-            ["make", self.folder, "--issuer", "ca1.example.net", "--force"],
+            ["make", self.folder, *APPLICANT, "--force"],
             ["show", WHOLE_CASE],
             ["records", os.path.join(WHOLE_CASE, "book.bin")],
             ["--help"],
@@ -989,21 +1053,20 @@ class Commands(unittest.TestCase):
 
     def test_a_step_that_fails_is_undone(self):
         """Each call that changes something fails once, over an old case and in a new folder."""
-        files = {"request.bin": b"r", "issuer.txt": b"i", "book.bin": b"b"}
         before = self.old_case()
         for folder, calls in [
-            (self.folder, {"open": 3, "fsync": 3, "rename": 6}),
-            (self.path("new/folder"), {"mkdir": 2, "open": 3, "fsync": 3, "rename": 3}),
+            (self.folder, {"open": 5, "fsync": 5, "rename": 10}),
+            (self.path("new/folder"), {"mkdir": 2, "open": 5, "fsync": 5, "rename": 5}),
         ]:
             for name, count in calls.items():
                 for failing in range(count):
                     with self.subTest(folder=folder, name=name, failing=failing):
                         with failing_call(name, failing), self.assertRaisesRegex(caa.Fault, ": Input/output error"):
-                            caa.write_all(folder, files, True, lambda: None)
+                            caa.write_all(folder, NEW_FILES, True, lambda: None)
                         self.assertEqual(self.snapshot(), before)
         # These were all renames: one more is not made.
-        with failing_call("rename", 6):
-            caa.write_all(self.folder, files, True, lambda: None)
+        with failing_call("rename", 10):
+            caa.write_all(self.folder, NEW_FILES, True, lambda: None)
         self.assertEqual(octets_of(self.path("book.bin")), b"b")
 
     def test_an_interrupt_is_undone(self):
@@ -1014,7 +1077,7 @@ class Commands(unittest.TestCase):
 
         for folder in [self.folder, self.path("new")]:
             with self.assertRaises(caa.Interrupted):
-                caa.write_all(folder, {"request.bin": b"r", "issuer.txt": b"i", "book.bin": b"b"}, True, announce)
+                caa.write_all(folder, NEW_FILES, True, announce)
             self.assertEqual(self.snapshot(), before)
 
     def test_the_book_goes_first_and_comes_last(self):
@@ -1029,14 +1092,12 @@ class Commands(unittest.TestCase):
 
         os.rename = watched
         try:
-            caa.write_all(self.folder, {"request.bin": b"r", "issuer.txt": b"i", "book.bin": b"b"}, True, lambda: None)
+            caa.write_all(self.folder, NEW_FILES, True, lambda: None)
         finally:
             os.rename = rename
-        self.assertEqual(seen, [False] * 5 + [True])
+        self.assertEqual(seen, [False] * 9 + [True])
         self.assertEqual(octets_of(self.path("book.bin")), b"b")
-        self.assertEqual(
-            sorted(os.listdir(self.folder)), ["book.bin", "issuer.txt", "names.txt", "records.txt", "request.bin"]
-        )
+        self.assertEqual(sorted(os.listdir(self.folder)), sorted([*FILES, "names.txt", "records.txt"]))
 
     def test_a_folder_in_the_way(self):
         self.whole_case()
@@ -1054,13 +1115,13 @@ class Commands(unittest.TestCase):
     def make_in(self, folder):
         """With the texts of this folder, in another one."""
         texts = ["--names", self.path("names.txt"), "--records", self.path("records.txt")]
-        return self.run_tool("make", self.path(folder), "--issuer", "ca1.example.net", *texts)
+        return self.run_tool("make", self.path(folder), *APPLICANT, *texts)
 
     def test_a_new_folder(self):
         self.whole_case()
         status, _, error = self.make_in("a/b/")
         self.assertEqual((status, error), (0, ""))
-        self.assertEqual(sorted(os.listdir(self.path("a/b"))), ["book.bin", "issuer.txt", "request.bin"])
+        self.assertEqual(sorted(os.listdir(self.path("a/b"))), sorted(FILES))
 
     def test_text_in_another_encoding(self):
         self.write("names.txt", "a\n")

@@ -28,7 +28,7 @@ FRONT = f"""\
 Written by `tools/yardstick.py`, and held equal to the source by the test command.
 
 The ordinary Rust program that the library's speed is measured against ([PERFORMANCE.md](PERFORMANCE.md)). It makes the same checks and gives the
-same answers as `caa_judge` and `caa_permitted_issuers`. `compare library` compares its answers on the stored and the generated cases,
+same answers as `caa_judge_for` and `caa_permitted_issuers_for`. `compare library` compares its answers on the stored and the generated cases,
 with every octet of the buffers, as it does for the library ([COMPARISON.md](COMPARISON.md)). Before each measurement the answers are compared again.
 
 What makes it an ordinary program, and a fair one:

@@ -32,6 +32,8 @@ pub enum Refusal {
     /// CAA data that can't be written as a line: laid out wrongly, or its tag holds something other
     /// than letters and digits.
     BadData,
+    /// The account text or the method text breaks its rule.
+    BadApplicant,
 }
 
 impl Refusal {
@@ -48,6 +50,7 @@ impl Refusal {
             Refusal::BadLine => 9,
             Refusal::LineOrDataTooLong => 10,
             Refusal::BadData => 11,
+            Refusal::BadApplicant => 15,
         }
     }
 
@@ -58,7 +61,8 @@ impl Refusal {
             | Refusal::BookTooLong
             | Refusal::BadLine
             | Refusal::LineOrDataTooLong
-            | Refusal::BadData => 0,
+            | Refusal::BadData
+            | Refusal::BadApplicant => 0,
             Refusal::BadRequestedName { name } => name,
             Refusal::TooManyNames { read } | Refusal::TooManyRecords { read } => read,
             Refusal::BadRecord { record } => record,

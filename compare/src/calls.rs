@@ -9,11 +9,11 @@ use crate::permitted::permitted_issuers;
 use crate::presentation::{read_line, write_line};
 use crate::word::Word;
 
-/// Takes request, issuer name and book.
-pub type Judge = fn(&[u8], &[u8], &[u8]) -> Result<Answer, Word>;
+/// Takes request, issuer name, account, method and book.
+pub type Judge = fn(&[u8], &[u8], &[u8], &[u8], &[u8]) -> Result<Answer, Word>;
 
-/// Takes request, book and buffer.
-pub type PermittedIssuers = fn(&[u8], &[u8], &mut [u8]) -> Result<Permitted, Word>;
+/// Takes request, account, method, book and buffer.
+pub type PermittedIssuers = fn(&[u8], &[u8], &[u8], &[u8], &mut [u8]) -> Result<Permitted, Word>;
 
 /// Takes data or a line, and the buffer for the other.
 pub type Convert = fn(&[u8], &mut [u8]) -> Result<Made, Word>;
@@ -36,8 +36,12 @@ pub struct Desk {
 impl Desk {
     /// This package's own.
     pub const OWN: Desk = Desk {
-        judge: |request, issuer, book| Ok(judge(request, issuer, book)),
-        permitted_issuers: |request, book, buffer| Ok(permitted_issuers(request, book, buffer)),
+        judge: |request, issuer, account, method, book| {
+            Ok(judge(request, issuer, account, method, book))
+        },
+        permitted_issuers: |request, account, method, book, buffer| {
+            Ok(permitted_issuers(request, account, method, book, buffer))
+        },
         lines: Lines {
             write: |data, buffer| Ok(write_line(data, buffer)),
             read: |line, buffer| Ok(read_line(line, buffer)),

@@ -1,4 +1,4 @@
-//! The desk program's work: three files of a folder in, one line out.
+//! The desk program's work: five files of a folder in, one line out.
 
 use std::fmt;
 use std::fs;
@@ -23,14 +23,15 @@ impl fmt::Display for DeskLine {
     }
 }
 
-/// A book that can't be read whole is no book: a cut one could permit what the whole one forbids. A
-/// request or issuer file that can't be read is taken as empty, which is refused.
+/// A book that can't be read whole is no book: a cut one could permit what the whole one forbids. Any
+/// other file that can't be read is taken as empty, which is refused.
 pub fn judge_folder(folder: &Path) -> DeskLine {
     let read = |file: &str| fs::read(folder.join(file));
     let Ok(book) = read("book.bin") else {
         return DeskLine::NoBook;
     };
-    let request = read("request.bin").unwrap_or_default();
-    let issuer = read("issuer.txt").unwrap_or_default();
-    DeskLine::Judged(judge(&request, &issuer, &book))
+    let [request, issuer, account, method] =
+        ["request.bin", "issuer.txt", "account.txt", "method.txt"]
+            .map(|file| read(file).unwrap_or_default());
+    DeskLine::Judged(judge(&request, &issuer, &account, &method, &book))
 }

@@ -1,21 +1,30 @@
-//! May this issuer sign this request?
+//! May this issuer sign this request, asked for by this account and validated by this method?
 
 use crate::answer::{Answer, Refusal};
+use crate::applicant::read_applicant;
 use crate::book::read_book;
 use crate::issuer::read_issuer;
 use crate::request::read_request;
 use crate::rule::{caa_records, standing, Standing};
 
-pub fn judge(request: &[u8], issuer: &[u8], book: &[u8]) -> Answer {
-    verdict(request, issuer, book).unwrap_or_else(Answer::Refused)
+pub fn judge(request: &[u8], issuer: &[u8], account: &[u8], method: &[u8], book: &[u8]) -> Answer {
+    verdict(request, issuer, account, method, book).unwrap_or_else(Answer::Refused)
 }
 
-/// The inputs are checked in the order of the requirements: request, issuer name, book.
-fn verdict(request: &[u8], issuer: &[u8], book: &[u8]) -> Result<Answer, Refusal> {
+/// The inputs are checked in the order of the requirements: request, issuer name, account and method,
+/// book.
+fn verdict(
+    request: &[u8],
+    issuer: &[u8],
+    account: &[u8],
+    method: &[u8],
+    book: &[u8],
+) -> Result<Answer, Refusal> {
     let names = read_request(request)?;
     let issuer = read_issuer(issuer)?;
+    let applicant = read_applicant(account, method)?;
     let book = read_book(book)?;
-    let records = caa_records(&book);
+    let records = caa_records(&book, applicant);
     for (name, requested) in names.iter().enumerate() {
         match standing(&records, requested) {
             Standing::Unrestricted => {}

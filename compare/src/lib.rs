@@ -1,5 +1,6 @@
-//! An independent implementation of CAA (RFC 8659), written from the requirements, the RFC and the
-//! readings of docs/DECISIONS.md, so that its answers can be compared with those of the proved library.
+//! An independent implementation of CAA (RFC 8659 with the limits of RFC 8657), written from the
+//! requirements, the RFCs and the readings of docs/DECISIONS.md, so that its answers can be compared
+//! with those of the proved library.
 //!
 //! Four calls: [`judge()`] says whether an issuer may sign a request, [`permitted_issuers`] says who
 //! may, [`write_line`] and [`read_line`] turn a record's CAA data into a line and back. All take raw
@@ -15,6 +16,7 @@
 
 pub mod against;
 pub mod answer;
+pub mod applicant;
 pub mod bench;
 pub mod book;
 pub mod buffer;
@@ -27,6 +29,7 @@ pub mod judge;
 pub mod library;
 pub mod limits;
 pub mod name;
+pub mod parameters;
 pub mod permitted;
 pub mod presentation;
 pub mod readers;
@@ -37,6 +40,7 @@ pub mod value;
 pub mod word;
 
 pub use answer::{Answer, Made, Permitted, Refusal};
+pub use applicant::read_applicant;
 pub use book::read_book;
 pub use issuer::read_issuer;
 pub use judge::judge;

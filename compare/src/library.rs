@@ -42,17 +42,25 @@ extern "C" {
     ) -> u64;
 
     // libsplinepearl.a
-    fn caa_judge(
+    fn caa_judge_for(
         request: *const u8,
         request_length: usize,
         issuer: *const u8,
         issuer_length: usize,
+        account: *const u8,
+        account_length: usize,
+        method: *const u8,
+        method_length: usize,
         book: *const u8,
         book_length: usize,
     ) -> u64;
-    fn caa_permitted_issuers(
+    fn caa_permitted_issuers_for(
         request: *const u8,
         request_length: usize,
+        account: *const u8,
+        account_length: usize,
+        method: *const u8,
+        method_length: usize,
         book: *const u8,
         book_length: usize,
         buffer: *mut u8,
@@ -94,13 +102,17 @@ fn reader(number: usize, octets: &[u8], other: &[u8], at: usize) -> Word {
 }
 
 #[cfg(feature = "judge")]
-const JUDGE: Option<Judge> = Some(|request, issuer, book| {
+const JUDGE: Option<Judge> = Some(|request, issuer, account, method, book| {
     let word = unsafe {
-        caa_judge(
+        caa_judge_for(
             request.as_ptr(),
             request.len(),
             issuer.as_ptr(),
             issuer.len(),
+            account.as_ptr(),
+            account.len(),
+            method.as_ptr(),
+            method.len(),
             book.as_ptr(),
             book.len(),
         )
@@ -111,19 +123,24 @@ const JUDGE: Option<Judge> = Some(|request, issuer, book| {
 const JUDGE: Option<Judge> = None;
 
 #[cfg(feature = "list")]
-const PERMITTED_ISSUERS: Option<PermittedIssuers> = Some(|request, book, buffer| {
-    let word = unsafe {
-        caa_permitted_issuers(
-            request.as_ptr(),
-            request.len(),
-            book.as_ptr(),
-            book.len(),
-            buffer.as_mut_ptr(),
-            buffer.len(),
-        )
-    };
-    Word::unpacked(word).permitted()
-});
+const PERMITTED_ISSUERS: Option<PermittedIssuers> =
+    Some(|request, account, method, book, buffer| {
+        let word = unsafe {
+            caa_permitted_issuers_for(
+                request.as_ptr(),
+                request.len(),
+                account.as_ptr(),
+                account.len(),
+                method.as_ptr(),
+                method.len(),
+                book.as_ptr(),
+                book.len(),
+                buffer.as_mut_ptr(),
+                buffer.len(),
+            )
+        };
+        Word::unpacked(word).permitted()
+    });
 #[cfg(not(feature = "list"))]
 const PERMITTED_ISSUERS: Option<PermittedIssuers> = None;
 
@@ -145,18 +162,22 @@ const LINES: Option<Lines> = None;
 
 /// A call on copies of its inputs, on a small stack. `None` where it isn't linked.
 const JUDGE_ON_SMALL_STACK: Option<Judge> = match JUDGE {
-    Some(_) => Some(|request, issuer, book| {
-        let [request, issuer, book] = [request, issuer, book].map(<[u8]>::to_vec);
-        on_small_stack(move || (linked(JUDGE))(&request, &issuer, &book))
+    Some(_) => Some(|request, issuer, account, method, book| {
+        let inputs = [request, issuer, account, method, book].map(<[u8]>::to_vec);
+        on_small_stack(move || {
+            let [request, issuer, account, method, book] = &inputs;
+            (linked(JUDGE))(request, issuer, account, method, book)
+        })
     }),
     None => None,
 };
 
 const PERMITTED_ISSUERS_ON_SMALL_STACK: Option<PermittedIssuers> = match PERMITTED_ISSUERS {
-    Some(_) => Some(|request, book, buffer| {
-        let [request, book] = [request, book].map(<[u8]>::to_vec);
+    Some(_) => Some(|request, account, method, book, buffer| {
+        let inputs = [request, account, method, book].map(<[u8]>::to_vec);
         on_small_stack_with_buffer(buffer, move |buffer| {
-            (linked(PERMITTED_ISSUERS))(&request, &book, buffer)
+            let [request, account, method, book] = &inputs;
+            (linked(PERMITTED_ISSUERS))(request, account, method, book, buffer)
         })
     }),
     None => None,

@@ -14,6 +14,8 @@ pub const NAME_OCTETS: usize = 255;
 pub const LABEL_OCTETS: usize = 63;
 /// Octets of an issuer domain name as text.
 pub const ISSUER_OCTETS: usize = 253;
+/// Octets of an account text, and of a method text.
+pub const APPLICANT_OCTETS: usize = 255;
 /// Octets of CAA data that is written as a line or read from one.
 pub const DATA_OCTETS: usize = 4_096;
 /// Octets of a line.

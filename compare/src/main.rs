@@ -14,7 +14,8 @@ use compare::library;
 
 const USAGE: &str = "\
 usage: compare cases          run the stored cases
-       compare judge FOLDER   judge request.bin, issuer.txt and book.bin of FOLDER
+       compare judge FOLDER   judge request.bin, issuer.txt, account.txt, method.txt and
+                              book.bin of FOLDER
        compare library [--cases N] [--seed S]
                               compare the proved library's answers and the yardstick's
                               with ours, on the stored cases and on N random ones (20000)

@@ -1,8 +1,9 @@
-//! Who may sign this request?
+//! Who may sign this request, asked for by this account and validated by this method?
 
 use std::collections::HashSet;
 
 use crate::answer::{Permitted, Refusal};
+use crate::applicant::read_applicant;
 use crate::book::read_book;
 use crate::buffer::put_at_front;
 use crate::issuer::IssuerName;
@@ -11,14 +12,28 @@ use crate::rule::{caa_records, standing, Standing};
 
 /// Writes the permitted issuer names to the front of `buffer`, each as a length octet and the name
 /// in lower case. Nothing else of the buffer changes; on a refusal and on "anyone" nothing does.
-pub fn permitted_issuers(request: &[u8], book: &[u8], buffer: &mut [u8]) -> Permitted {
-    list(request, book, buffer).unwrap_or_else(Permitted::Refused)
+pub fn permitted_issuers(
+    request: &[u8],
+    account: &[u8],
+    method: &[u8],
+    book: &[u8],
+    buffer: &mut [u8],
+) -> Permitted {
+    list(request, account, method, book, buffer).unwrap_or_else(Permitted::Refused)
 }
 
-fn list(request: &[u8], book: &[u8], buffer: &mut [u8]) -> Result<Permitted, Refusal> {
+/// No issuer name is given; account and method are checked where it would be.
+fn list(
+    request: &[u8],
+    account: &[u8],
+    method: &[u8],
+    book: &[u8],
+    buffer: &mut [u8],
+) -> Result<Permitted, Refusal> {
     let names = read_request(request)?;
+    let applicant = read_applicant(account, method)?;
     let book = read_book(book)?;
-    let records = caa_records(&book);
+    let records = caa_records(&book, applicant);
     let mut restricted = names
         .iter()
         .map(|name| standing(&records, name))
@@ -89,7 +104,7 @@ mod tests {
         let (book, list) = book_and_list((0..1_024).map(|number| format!("ca{number:04}")));
         let mut buffer = vec![0xFF; 1_024 * 7];
         assert_eq!(
-            permitted_issuers(b"\x01a\x00", &book, &mut buffer),
+            permitted_issuers(b"\x01a\x00", b"a", b"m", &book, &mut buffer),
             Permitted::List {
                 count: 1_024,
                 octets: 7_168
@@ -107,13 +122,13 @@ mod tests {
         assert_eq!(book.len(), 49_140);
         let mut buffer = vec![0xFF; 45_719];
         assert_eq!(
-            permitted_issuers(b"\x01a\x00", &book, &mut buffer),
+            permitted_issuers(b"\x01a\x00", b"a", b"m", &book, &mut buffer),
             Permitted::Refused(Refusal::BufferTooShort { needed: 45_720 })
         );
         assert_eq!(buffer, [0xFF; 45_719]);
         buffer.push(0xFF);
         assert_eq!(
-            permitted_issuers(b"\x01a\x00", &book, &mut buffer),
+            permitted_issuers(b"\x01a\x00", b"a", b"m", &book, &mut buffer),
             Permitted::List {
                 count: 180,
                 octets: 45_720

@@ -121,7 +121,7 @@ fn value(octets: &[u8]) -> Word {
     match read_value(octets) {
         IssueValue::Malformed => Word::number(0),
         IssueValue::NoName => Word::number(1),
-        IssueValue::Name(name) => {
+        IssueValue::Name { name, .. } => {
             let begins = leading_blanks(octets);
             Word::with(2, [begins + name.len(), begins, 0])
         }

@@ -1,5 +1,6 @@
 //! The rule of issue for one requested name (RFC 8659 sections 3 and 4).
 
+use crate::applicant::Applicant;
 use crate::book::{Property, Record, RecordData};
 use crate::issuer::IssuerName;
 use crate::name::Name;
@@ -11,7 +12,7 @@ const ISSUEWILD: &str = "issuewild";
 const IODEF: &str = "iodef";
 pub const KNOWN_TAGS: [&str; 3] = [ISSUE, ISSUEWILD, IODEF];
 
-/// A CAA record as the rule sees it, read once for all requested names.
+/// A CAA record as the rule sees it, read once for all requested names and for one applicant.
 #[derive(Debug)]
 pub struct CaaRecord<'a> {
     number: usize,
@@ -52,21 +53,22 @@ impl CaaRecord<'_> {
     }
 }
 
-/// The CAA records of a book, under the numbers that they have there.
-pub fn caa_records<'a>(book: &'a [Record<'a>]) -> Vec<CaaRecord<'a>> {
+/// The CAA records of a book, under the numbers that they have there. The applicant counts only for
+/// whom they grant.
+pub fn caa_records<'a>(book: &'a [Record<'a>], applicant: Applicant) -> Vec<CaaRecord<'a>> {
     let caa = |(number, record): (usize, &'a Record<'a>)| match &record.data {
         RecordData::Caa(property) => Some(CaaRecord {
             number,
             owner: record.owner,
-            says: said_by(property),
+            says: said_by(property, applicant),
         }),
         RecordData::Other => None,
     };
     book.iter().enumerate().filter_map(caa).collect()
 }
 
-fn said_by(property: &Property) -> Says {
-    let grantee = || read_value(property.value).grantee();
+fn said_by(property: &Property, applicant: Applicant) -> Says {
+    let grantee = || read_value(property.value).grantee(applicant);
     if property.has_tag(ISSUE) {
         Says::Issue(grantee())
     } else if property.has_tag(ISSUEWILD) {
@@ -92,6 +94,21 @@ pub enum Standing<'a> {
         first_governing: usize,
         grantees: Vec<&'a IssuerName>,
     },
+}
+
+/// The values of the records that govern, in their order. With an unknown critical record none does.
+pub fn governing_values<'a>(book: &'a [Record<'a>], name: &RequestedName) -> Vec<&'a [u8]> {
+    let records = caa_records(book, Applicant::SOMEONE);
+    let relevant = relevant_set(&records, name);
+    if relevant.iter().any(|record| record.is_unknown_critical()) {
+        return Vec::new();
+    }
+    let governing = governing_records(&relevant, name.wildcard);
+    let value = |(number, _): Governing| match &book[number].data {
+        RecordData::Caa(property) => Some(property.value),
+        RecordData::Other => None,
+    };
+    governing.into_iter().filter_map(value).collect()
 }
 
 /// How many labels the climb takes off X to reach the relevant set, 0 where X owns it; `None` where

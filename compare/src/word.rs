@@ -82,6 +82,7 @@ impl Word {
             (9, 0, 0, 0) => Some(Refusal::BadLine),
             (10, 0, 0, 0) => Some(Refusal::LineOrDataTooLong),
             (11, 0, 0, 0) => Some(Refusal::BadData),
+            (15, 0, 0, 0) => Some(Refusal::BadApplicant),
             _ => None,
         }
     }
@@ -132,6 +133,10 @@ mod tests {
             Ok(Answer::Refused(refusal))
         );
         assert_eq!(
+            Word::number(15).judged(),
+            Ok(Answer::Refused(Refusal::BadApplicant))
+        );
+        assert_eq!(
             Word::with(21, [1, 3, 0]).judged(),
             Ok(Answer::NotGranted { name: 1, record: 3 })
         );
@@ -156,6 +161,7 @@ mod tests {
             Word::number(30),
             Word::with(0, [1, 0, 0]),
             Word::with(4, [1, 0, 0]),
+            Word::with(15, [1, 0, 0]),
             Word::with(2, [0, 1, 0]),
             Word::with(21, [0, 0, 1]),
         ] {

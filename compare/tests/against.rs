@@ -128,7 +128,7 @@ fn a_difference_is_told_with_its_inputs_and_both_answers() {
 #[test]
 fn stored_cases_are_held_against_the_answers_worked_out_by_hand() {
     let other = Other {
-        judge: Some(|_, _, _| Ok(Answer::Permitted)),
+        judge: Some(|_, _, _, _, _| Ok(Answer::Permitted)),
         ..Other::NOTHING
     };
     let comparison = compared(other, 0);

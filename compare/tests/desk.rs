@@ -5,7 +5,7 @@ use std::path::{Path, PathBuf};
 
 use compare::cases;
 use compare::desk::judge_folder;
-use compare::read_book;
+use compare::{read_applicant, read_book};
 
 /// A folder of its own for one test, taken away at the end.
 struct Folder(PathBuf);
@@ -35,6 +35,13 @@ impl Drop for Folder {
 
 const REQUEST: &[u8] = b"\x01a\x00";
 
+/// A folder with good account and method files.
+fn folder(test: &str) -> Folder {
+    Folder::new(test)
+        .with("account.txt", b"https://x/1")
+        .with("method.txt", b"dns-01")
+}
+
 fn whole_case_folder() -> PathBuf {
     Path::new(env!("CARGO_MANIFEST_DIR")).join("../examples/whole-case")
 }
@@ -57,6 +64,7 @@ fn the_example_is_the_stored_case() {
     let read = |file: &str| fs::read(whole_case_folder().join(file)).unwrap();
     assert_eq!(read("request.bin"), case.request);
     assert_eq!(read("issuer.txt"), b"ca1.example.net");
+    assert!(read_applicant(&read("account.txt"), &read("method.txt")).is_ok());
     // As values: their times to live differ.
     let records = |octets: &[u8]| format!("{:?}", read_book(octets).unwrap());
     assert_eq!(records(&read("book.bin")), records(&case.book));
@@ -84,7 +92,42 @@ fn other_files_that_are_missing_are_empty() {
     let folder = folder.with("request.bin", REQUEST);
     assert_eq!(folder.line(), "refused 4 at 0");
     let folder = folder.with("issuer.txt", b"x");
+    assert_eq!(folder.line(), "refused 15 at 0");
+    let folder = folder.with("account.txt", b"a");
+    assert_eq!(folder.line(), "refused 15 at 0");
+    let folder = folder.with("method.txt", b"m");
     assert_eq!(folder.line(), "verdict 0");
+    fs::remove_file(folder.0.join("account.txt")).unwrap();
+    assert_eq!(folder.line(), "refused 15 at 0");
+}
+
+#[test]
+fn account_and_method_files_are_taken_octet_for_octet() {
+    let rdata = b"\x00\x05issuex; accounturi=https://x/1; validationmethods=dns-01";
+    let record = [
+        b"\x01a\x00\x01\x01\x00\x01\x00\x00\x00\x00\x00",
+        &[rdata.len() as u8][..],
+        rdata,
+    ]
+    .concat();
+    let folder = folder("octet-for-octet")
+        .with("request.bin", REQUEST)
+        .with("issuer.txt", b"x")
+        .with("book.bin", &record);
+    assert_eq!(folder.line(), "verdict 0");
+    let folder = folder.with("account.txt", b"https://x/1\n");
+    assert_eq!(folder.line(), "refused 15 at 0");
+    let folder = folder.with("account.txt", b"https://x/2");
+    assert_eq!(folder.line(), "verdict 21 name 0 record 0");
+    let folder = folder
+        .with("account.txt", b"https://x/1")
+        .with("method.txt", b"dns-01\n");
+    assert_eq!(folder.line(), "refused 15 at 0");
+    let folder = folder.with("method.txt", b"DNS-01");
+    assert_eq!(folder.line(), "verdict 21 name 0 record 0");
+    // A bad issuer name is told first.
+    let folder = folder.with("method.txt", b"").with("issuer.txt", b"x\n");
+    assert_eq!(folder.line(), "refused 4 at 0");
 }
 
 #[test]
@@ -96,6 +139,14 @@ fn other_files_that_cannot_be_read_are_empty() {
     fs::remove_file(folder.0.join("request.bin")).unwrap();
     fs::create_dir(folder.0.join("request.bin")).unwrap();
     assert_eq!(folder.line(), "refused 2 at 0");
+
+    let folder = Folder::new("more-folders")
+        .with("book.bin", b"")
+        .with("request.bin", REQUEST)
+        .with("issuer.txt", b"x")
+        .with("account.txt", b"a");
+    fs::create_dir(folder.0.join("method.txt")).unwrap();
+    assert_eq!(folder.line(), "refused 15 at 0");
 }
 
 #[test]
@@ -109,7 +160,7 @@ fn a_line_end_in_the_issuer_file_is_refused() {
 
 #[test]
 fn a_file_over_a_limit_gets_the_limits_refusal() {
-    let folder = Folder::new("limit")
+    let folder = folder("limit")
         .with("request.bin", &[0; 16_385])
         .with("issuer.txt", b"x")
         .with("book.bin", &[0; 49_153]);
@@ -121,7 +172,7 @@ fn a_file_over_a_limit_gets_the_limits_refusal() {
 /// A zero octet is no name, and FF no length of a label.
 #[test]
 fn a_file_as_long_as_may_be_is_read() {
-    let folder = Folder::new("as-long-as-may-be")
+    let folder = folder("as-long-as-may-be")
         .with("request.bin", &[0; 16_384])
         .with("issuer.txt", b"x")
         .with("book.bin", &[0xFF; 49_152]);
@@ -133,7 +184,7 @@ fn a_file_as_long_as_may_be_is_read() {
 #[test]
 fn names_and_records_over_their_limits_are_told() {
     let record = b"\x00\x00\x10\x00\x01\x00\x00\x00\x00\x00\x00";
-    let folder = Folder::new("too-many")
+    let folder = folder("too-many")
         .with("request.bin", &REQUEST.repeat(250))
         .with("issuer.txt", b"x")
         .with("book.bin", &record.repeat(1_024));

@@ -2,7 +2,8 @@
 
 use std::collections::BTreeMap;
 
-use compare::generate::Generator;
+use compare::book::read_raw_record;
+use compare::generate::{Generator, Inputs};
 use compare::{judge, permitted_issuers, read_issuer, Answer, Permitted, Refusal};
 
 /// The names of a list, read back from the front of a buffer.
@@ -16,6 +17,15 @@ fn listed(count: usize, octets: usize, buffer: &[u8]) -> Vec<Vec<u8>> {
     }
     assert_eq!(names.len(), count);
     names
+}
+
+/// Half of the time one whose records mostly limit their grants.
+fn any_book(generator: &mut Generator, account: &[u8], method: &[u8]) -> Vec<u8> {
+    let issuer = generator.issuer();
+    match generator.once_in(2) {
+        true => generator.book_of_limits(&issuer, account, method),
+        false => generator.book(),
+    }
 }
 
 /// Every name of one or two labels that the generator's issuers are near to, and longer ones.
@@ -41,10 +51,12 @@ fn judge_permits_whom_the_list_holds() {
     let mut generator = Generator::new(1);
     let candidates = candidates();
     for _ in 0..3_000 {
-        let (request, book) = (generator.request(), generator.book());
+        let (account, method) = (generator.account(), generator.method());
+        let book = any_book(&mut generator, &account, &method);
+        let request = generator.request();
         let before = generator.buffer(book.len());
         let mut buffer = before.clone();
-        let list = match permitted_issuers(&request, &book, &mut buffer) {
+        let list = match permitted_issuers(&request, &account, &method, &book, &mut buffer) {
             Permitted::Anyone => {
                 assert_eq!(buffer, before);
                 None
@@ -60,7 +72,7 @@ fn judge_permits_whom_the_list_holds() {
             assert!(!list.iter().flatten().take(place).any(|other| other == name));
         }
         for issuer in &candidates {
-            let permits = judge(&request, issuer, &book) == Answer::Permitted;
+            let permits = judge(&request, issuer, &account, &method, &book) == Answer::Permitted;
             let allowed = match &list {
                 None => true,
                 Some(names) => names.contains(&issuer.to_ascii_lowercase()),
@@ -100,7 +112,7 @@ fn the_list_follows_the_first_grants_of_the_lowest_restricted_name() {
             }
         }
         let mut buffer = generator.buffer(book.len());
-        match permitted_issuers(&names.concat(), &book, &mut buffer) {
+        match permitted_issuers(&names.concat(), b"a", b"m", &book, &mut buffer) {
             Permitted::List { count, octets } => {
                 assert_eq!(
                     listed(count, octets, &buffer).iter().collect::<Vec<_>>(),
@@ -116,21 +128,22 @@ fn the_list_follows_the_first_grants_of_the_lowest_restricted_name() {
 fn room_is_enough_exactly_from_the_octets_told_on() {
     let mut generator = Generator::new(2);
     for _ in 0..2_000 {
-        let (request, book) = (generator.request(), generator.book());
-        let answer = permitted_issuers(&request, &book, &mut generator.buffer(book.len()));
+        let (account, method) = (generator.account(), generator.method());
+        let book = any_book(&mut generator, &account, &method);
+        let request = generator.request();
+        let list =
+            |buffer: &mut [u8]| permitted_issuers(&request, &account, &method, &book, buffer);
+        let answer = list(&mut generator.buffer(book.len()));
         let needed = match answer {
             Permitted::List { octets, .. } => octets,
             _ => 0,
         };
-        assert_eq!(
-            permitted_issuers(&request, &book, &mut generator.buffer(needed)),
-            answer
-        );
+        assert_eq!(list(&mut generator.buffer(needed)), answer);
         if needed > 0 {
             let before = generator.buffer(needed - 1);
             let mut buffer = before.clone();
             assert_eq!(
-                permitted_issuers(&request, &book, &mut buffer),
+                list(&mut buffer),
                 Permitted::Refused(Refusal::BufferTooShort { needed })
             );
             assert_eq!(buffer, before);
@@ -144,11 +157,14 @@ fn a_verdict_is_that_of_the_first_name_not_permitted() {
     let mut generator = Generator::new(3);
     for _ in 0..3_000 {
         let parts: Vec<Vec<u8>> = (0..3).map(|_| generator.request()).collect();
-        let (issuer, book) = (generator.issuer(), generator.book());
+        let (account, method) = (generator.account(), generator.method());
+        let book = any_book(&mut generator, &account, &method);
+        let issuer = generator.issuer();
+        let judge = |request: &[u8]| judge(request, &issuer, &account, &method, &book);
         let mut names_before = 0;
         let mut expected = Answer::Permitted;
         for part in &parts {
-            expected = match judge(part, &issuer, &book) {
+            expected = match judge(part) {
                 Answer::NotGranted { name, record } => Answer::NotGranted {
                     name: names_before + name,
                     record,
@@ -164,7 +180,7 @@ fn a_verdict_is_that_of_the_first_name_not_permitted() {
             }
             names_before += compare::read_request(part).unwrap().len();
         }
-        assert_eq!(judge(&parts.concat(), &issuer, &book), expected);
+        assert_eq!(judge(&parts.concat()), expected);
     }
 }
 
@@ -174,9 +190,11 @@ fn a_record_in_front_moves_the_numbers_and_nothing_else() {
     let root_owned = b"\x00\x01\x01\x00\x01\x00\x00\x00\x00\x00\x05\x80\x03tbs";
     let mut generator = Generator::new(4);
     for _ in 0..2_000 {
-        let inputs = (generator.request(), generator.issuer(), generator.book());
-        let (request, issuer, book) = &inputs;
-        let expected = match judge(request, issuer, book) {
+        let (request, issuer) = (generator.request(), generator.issuer());
+        let (account, method) = (generator.account(), generator.method());
+        let book = any_book(&mut generator, &account, &method);
+        let judge = |book: &[u8]| judge(&request, &issuer, &account, &method, book);
+        let expected = match judge(&book) {
             Answer::NotGranted { name, record } => Answer::NotGranted {
                 name,
                 record: record + 1,
@@ -187,9 +205,48 @@ fn a_record_in_front_moves_the_numbers_and_nothing_else() {
             },
             other => other,
         };
-        let moved = [root_owned.as_slice(), book].concat();
-        assert_eq!(judge(request, issuer, &moved), expected);
+        let moved = [root_owned.as_slice(), &book].concat();
+        assert_eq!(judge(&moved), expected);
     }
+}
+
+/// Limits only take away: without any parameter a record grants at least as much, and restricts and
+/// governs alike.
+#[test]
+fn limits_take_grants_away_and_nothing_else() {
+    let mut generator = Generator::new(8);
+    let mut taken_away = 0;
+    for _ in 0..4_000 {
+        let (request, issuer) = (generator.request(), generator.issuer());
+        let (account, method) = (generator.account(), generator.method());
+        let book = generator.book_of_limits(&issuer, &account, &method);
+        let judge = |book: &[u8]| judge(&request, &issuer, &account, &method, book);
+        let without = judge(&without_parameters(&book));
+        match (judge(&book), without) {
+            (Answer::Permitted, without) => assert_eq!(without, Answer::Permitted),
+            (Answer::NotGranted { .. }, Answer::Permitted) => taken_away += 1,
+            (Answer::NotGranted { name, .. }, Answer::NotGranted { name: without, .. }) => {
+                assert!(name <= without);
+            }
+            (with, without) => panic!("{with}, {without}"),
+        }
+    }
+    assert!(taken_away > 400, "{taken_away}");
+}
+
+/// The `;` of each value and what stands behind it made blanks.
+fn without_parameters(book: &[u8]) -> Vec<u8> {
+    let mut octets = book.to_vec();
+    let mut rest = book;
+    while let Some((record, behind)) = read_raw_record(rest) {
+        let end = book.len() - behind.len();
+        let data = end - record.rdata.len();
+        if let Some(semicolon) = record.rdata.iter().position(|&octet| octet == b';') {
+            octets[data + semicolon..end].fill(b' ');
+        }
+        rest = behind;
+    }
+    octets
 }
 
 /// Letter case means nothing in requests and issuer names.
@@ -197,14 +254,14 @@ fn a_record_in_front_moves_the_numbers_and_nothing_else() {
 fn letter_case_changes_no_verdict() {
     let mut generator = Generator::new(5);
     for _ in 0..2_000 {
-        let (request, issuer, book) = (generator.request(), generator.issuer(), generator.book());
+        let (request, issuer) = (generator.request(), generator.issuer());
+        let (account, method) = (generator.account(), generator.method());
+        let book = any_book(&mut generator, &account, &method);
+        let judge =
+            |request: &[u8], issuer: &[u8]| judge(request, issuer, &account, &method, &book);
         assert_eq!(
-            judge(&request, &issuer, &book),
-            judge(
-                &generator.any_case(&request),
-                &generator.any_case(&issuer),
-                &book
-            )
+            judge(&request, &issuer),
+            judge(&generator.any_case(&request), &generator.any_case(&issuer))
         );
     }
 }
@@ -216,25 +273,34 @@ fn every_answer_comes() {
     let mut seen: BTreeMap<String, usize> = BTreeMap::new();
     for _ in 0..6_000 {
         let inputs = generator.inputs();
-        let judged = match judge(&inputs.request, &inputs.issuer, &inputs.book) {
+        let Inputs {
+            request,
+            issuer,
+            account,
+            method,
+            book,
+            buffer: before,
+        } = &inputs;
+        let judged = match judge(request, issuer, account, method, book) {
             Answer::Permitted => "verdict 0".to_string(),
             Answer::UnknownCritical { .. } => "verdict 20".to_string(),
             Answer::NotGranted { .. } => "verdict 21".to_string(),
             Answer::Refused(refusal) => format!("refused {}", refusal.number()),
         };
         *seen.entry(judged).or_default() += 1;
-        let mut buffer = inputs.buffer.clone();
-        let permitted = match permitted_issuers(&inputs.request, &inputs.book, &mut buffer) {
+        let mut buffer = before.clone();
+        let permitted = match permitted_issuers(request, account, method, book, &mut buffer) {
             Permitted::Anyone => "anyone".to_string(),
             Permitted::List { count, .. } => format!("list of {}", count.min(3)),
             Permitted::Refused(refusal) => {
-                assert_eq!(buffer, inputs.buffer);
+                assert_eq!(&buffer, before);
                 format!("refused {}", refusal.number())
             }
         };
         *seen.entry(permitted).or_default() += 1;
     }
     let wanted = (1..=8)
+        .chain([15])
         .map(|number| format!("refused {number}"))
         .chain(["verdict 0", "verdict 20", "verdict 21", "anyone"].map(String::from))
         .chain((0..=3).map(|count| format!("list of {count}")));

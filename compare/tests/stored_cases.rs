@@ -4,7 +4,7 @@ use std::collections::HashSet;
 use std::fs;
 use std::path::Path;
 
-use compare::calls::{Convert, Desk, Lines};
+use compare::calls::{Convert, Desk, Judge, Lines, PermittedIssuers};
 use compare::cases::{self, run};
 use compare::{permitted_issuers, read_line, write_line, Answer, Made, Permitted, Word};
 
@@ -40,54 +40,74 @@ fn wrong_cases(desk: Desk) -> usize {
 
 #[test]
 fn a_desk_with_one_verdict_is_found_out() {
-    for judge in [
-        |_: &[u8], _: &[u8], _: &[u8]| Ok(Answer::Permitted),
-        |_: &[u8], _: &[u8], _: &[u8]| Ok(Answer::NotGranted { name: 0, record: 0 }),
-        |_: &[u8], _: &[u8], _: &[u8]| Err(Word::number(99)),
-    ] {
+    let judges: [Judge; 3] = [
+        |_, _, _, _, _| Ok(Answer::Permitted),
+        |_, _, _, _, _| Ok(Answer::NotGranted { name: 0, record: 0 }),
+        |_, _, _, _, _| Err(Word::number(99)),
+    ];
+    for judge in judges {
         assert!(wrong_cases(Desk { judge, ..Desk::OWN }) > 50);
     }
 }
 
+fn wrong_lists(permitted_issuers: PermittedIssuers) -> usize {
+    wrong_cases(Desk {
+        permitted_issuers,
+        ..Desk::OWN
+    })
+}
+
 #[test]
 fn a_list_with_a_made_up_count_is_found_out() {
-    let permitted_issuers = |request: &[u8], book: &[u8], buffer: &mut [u8]| match permitted_issuers(
-        request, book, buffer,
-    ) {
-        Permitted::List { count, octets } => Ok(Permitted::List {
-            count: count + 1,
-            octets,
-        }),
-        other => Ok(other),
-    };
-    assert!(
-        wrong_cases(Desk {
-            permitted_issuers,
-            ..Desk::OWN
-        }) > 50
-    );
+    let wrong = wrong_lists(|request, account, method, book, buffer| {
+        Ok(
+            match permitted_issuers(request, account, method, book, buffer) {
+                Permitted::List { count, octets } => Permitted::List {
+                    count: count + 1,
+                    octets,
+                },
+                other => other,
+            },
+        )
+    });
+    assert!(wrong > 50);
 }
 
 #[test]
 fn a_touched_octet_is_found_out() {
-    let touches_the_end = |request: &[u8], book: &[u8], buffer: &mut [u8]| {
-        let answer = permitted_issuers(request, book, buffer);
+    let touches_the_end = wrong_lists(|request, account, method, book, buffer| {
+        let answer = permitted_issuers(request, account, method, book, buffer);
         if let Some(last) = buffer.last_mut() {
             *last = 0;
         }
         Ok(answer)
+    });
+    assert!(touches_the_end > 50);
+    let writes_nothing = wrong_lists(|request, account, method, book, buffer| {
+        let mut copy = buffer.to_vec();
+        Ok(permitted_issuers(request, account, method, book, &mut copy))
+    });
+    assert!(writes_nothing > 50);
+}
+
+/// One account and one method for all, whoever asks.
+#[test]
+fn a_desk_that_does_not_look_at_the_asker_is_found_out() {
+    let judge: Judge =
+        |request, issuer, _, method, book| Ok(compare::judge(request, issuer, b"u", method, book));
+    assert!(wrong_cases(Desk { judge, ..Desk::OWN }) > 10);
+    let judge: Judge = |request, issuer, account, _, book| {
+        Ok(compare::judge(request, issuer, account, b"m", book))
     };
-    let writes_nothing = |request: &[u8], book: &[u8], buffer: &mut [u8]| {
-        Ok(permitted_issuers(request, book, &mut buffer.to_vec()))
-    };
-    for permitted_issuers in [touches_the_end, writes_nothing] {
-        assert!(
-            wrong_cases(Desk {
-                permitted_issuers,
-                ..Desk::OWN
-            }) > 50
-        );
-    }
+    assert!(wrong_cases(Desk { judge, ..Desk::OWN }) > 10);
+    let no_account = wrong_lists(|request, _, method, book, buffer| {
+        Ok(permitted_issuers(request, b"u", method, book, buffer))
+    });
+    assert!(no_account > 10);
+    let no_method = wrong_lists(|request, account, _, book, buffer| {
+        Ok(permitted_issuers(request, account, b"m", book, buffer))
+    });
+    assert!(no_method > 10);
 }
 
 #[test]

@@ -1,5 +1,6 @@
 /*
- * Judges request.bin, issuer.txt and book.bin of a folder, then says who may issue:
+ * Judges request.bin, issuer.txt, account.txt, method.txt and book.bin of a folder, then says who may
+ * issue:
  *
  *     rt staticlib splinepearl
  *     cc -std=c99 -Iinclude -o target/judge examples/c/judge.c target/staticlib/libsplinepearl.a
@@ -15,7 +16,8 @@
 static const char usage[] =
     "usage: judge FOLDER\n"
     "\n"
-    "Judges request.bin, issuer.txt and book.bin in FOLDER, then says who may issue.\n"
+    "Judges request.bin, issuer.txt, account.txt, method.txt and book.bin in FOLDER, then says who may\n"
+    "issue.\n"
     "\n"
     "Exit status: 0 permitted; 1 not permitted; 2 anything else: refused, no book, an answer that isn't\n"
     "known, output that can't be written, wrong use.\n";
@@ -25,7 +27,7 @@ enum status { PERMITTED = 0, NOT_PERMITTED = 1, NOTHING_DECIDED = 2 };
 /* Over every limit of the library: a file cut off here is still refused for its length. */
 #define MOST 65536
 
-static uint8_t request[MOST], issuer[MOST], book[MOST];
+static uint8_t request[MOST], issuer[MOST], account[MOST], method[MOST], book[MOST];
 
 /* Longer than any book, so always long enough for a list. */
 static uint8_t buffer[MOST];
@@ -100,7 +102,7 @@ static void print_permitted_issuers(uint64_t answer)
 
 static enum status judge(const char *folder)
 {
-    size_t request_len, issuer_len, book_len;
+    size_t request_len, issuer_len, account_len, method_len, book_len;
     enum status status;
 
     /* A part of a book could permit what the whole of it forbids. */
@@ -108,16 +110,24 @@ static enum status judge(const char *folder)
         printf("no book\n");
         return NOTHING_DECIDED;
     }
-    /* An empty request and an empty issuer name are refused. */
+    /* An empty request, issuer name, account or method is refused. */
     if (!read_file(folder, "request.bin", request, &request_len)) {
         request_len = 0;
     }
     if (!read_file(folder, "issuer.txt", issuer, &issuer_len)) {
         issuer_len = 0;
     }
+    if (!read_file(folder, "account.txt", account, &account_len)) {
+        account_len = 0;
+    }
+    if (!read_file(folder, "method.txt", method, &method_len)) {
+        method_len = 0;
+    }
 
-    status = print_judgement(caa_judge(request, request_len, issuer, issuer_len, book, book_len));
-    print_permitted_issuers(caa_permitted_issuers(request, request_len, book, book_len, buffer, sizeof buffer));
+    status = print_judgement(caa_judge_for(request, request_len, issuer, issuer_len, account, account_len,
+                                           method, method_len, book, book_len));
+    print_permitted_issuers(caa_permitted_issuers_for(request, request_len, account, account_len, method,
+                                                      method_len, book, book_len, buffer, sizeof buffer));
     return status;
 }
 

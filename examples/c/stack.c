@@ -31,7 +31,7 @@ struct octets {
     uint8_t at[MOST];
     size_t length;
 };
-static struct octets request, issuer, book, line;
+static struct octets request, issuer, account, method, book, line;
 static uint8_t buffer[MOST];
 
 static uint64_t answer;
@@ -39,11 +39,13 @@ static uint64_t answer;
 static void call_nothing(void) { }
 static void call_judge(void)
 {
-    answer = caa_judge(request.at, request.length, issuer.at, issuer.length, book.at, book.length);
+    answer = caa_judge_for(request.at, request.length, issuer.at, issuer.length, account.at, account.length,
+                           method.at, method.length, book.at, book.length);
 }
 static void call_list(void)
 {
-    answer = caa_permitted_issuers(request.at, request.length, book.at, book.length, buffer, sizeof buffer);
+    answer = caa_permitted_issuers_for(request.at, request.length, account.at, account.length, method.at,
+                                       method.length, book.at, book.length, buffer, sizeof buffer);
 }
 static void call_write(void) { answer = caa_write_line(line.at, line.length, buffer, sizeof buffer); }
 static void call_read(void) { answer = caa_read_line(line.at, line.length, buffer, sizeof buffer); }
@@ -184,6 +186,34 @@ static void make_book(int count, const char *first, const char *second, const ch
     }
 }
 
+/* An account text and a method text of `length` octets. */
+static void make_applicant(int length)
+{
+    clear(&account);
+    clear(&method);
+    put_many(&account, "a", length);
+    put_many(&method, "m", length);
+}
+
+/* `count` records in turn at the owners, each granting ca1.e for the account and the method alone. */
+static void make_limited_book(int count, const char *first, const char *second, const char *tag)
+{
+    static struct octets value;
+    int n;
+
+    clear(&value);
+    put_text(&value, "ca1.e;x=1;AccountURI=");
+    put(&value, account.at, account.length);
+    put_text(&value, ";validationmethods=dns-01,");
+    put(&value, method.at, method.length);
+    put_text(&value, ";y=");
+    put_octet(&value, 0); /* the end of the text */
+    clear(&book);
+    for (n = 0; n < count; n++) {
+        put_caa(&book, n % 2 == 0 ? first : second, 0, tag, (const char *)value.at);
+    }
+}
+
 static uint32_t random_below(uint32_t limit)
 {
     static uint64_t state = 88172645463325252u;
@@ -228,14 +258,17 @@ static void ask_line(void)
 
 static void ask_changed_book(void)
 {
-    const struct octets good_request = request, good_book = book;
+    struct octets *const inputs[] = {&request, &account, &method, &book, &book, &book, &book, &book};
+    struct octets good;
     int n;
 
     for (n = 0; n < CHANGED; n++) {
-        change_some(n % 4 == 0 ? &request : &book);
+        struct octets *const input = inputs[n % 8];
+
+        memcpy(&good, input, sizeof good);
+        change_some(input);
         ask_book();
-        memcpy(&request, &good_request, sizeof request);
-        memcpy(&book, &good_book, sizeof book);
+        memcpy(input, &good, sizeof good);
     }
 }
 
@@ -268,6 +301,7 @@ static void books(void)
 
     clear(&issuer);
     put_text(&issuer, "ca1.e");
+    make_applicant(255);
 
     /* the longest that are accepted: many names and records, deep names, many issuers listed */
     for (tag = 0; tag < 2; tag++) {
@@ -288,6 +322,21 @@ static void books(void)
         expect(call_judge, CAA_NOT_GRANTED);
         ask_book();
         issuer.at[2] = '1';
+
+        /* limits of an account and of methods, met and not met */
+        make_request(250, 24);
+        make_limited_book(80, "d.example", "p.d.example", tags[tag]);
+        expect(call_judge, CAA_PERMITTED);
+        expect(call_list, CAA_LIST);
+        ask_book();
+        account.at[254] = 'b';
+        expect(call_judge, CAA_NOT_GRANTED);
+        ask_book();
+        account.at[254] = 'a';
+        method.at[254] = 'b';
+        expect(call_judge, CAA_NOT_GRANTED);
+        ask_book();
+        method.at[254] = 'm';
     }
     clear(&book);
     expect(call_judge, CAA_PERMITTED);
@@ -312,6 +361,16 @@ static void books(void)
     expect(call_judge, CAA_BAD_ISSUER);
     ask_book();
     issuer.length--;
+    put_text(&account, "a");
+    expect(call_judge, CAA_BAD_ACCOUNT_OR_METHOD);
+    expect(call_list, CAA_BAD_ACCOUNT_OR_METHOD);
+    ask_book();
+    account.length--;
+    method.at[254] = ',';
+    expect(call_judge, CAA_BAD_ACCOUNT_OR_METHOD);
+    expect(call_list, CAA_BAD_ACCOUNT_OR_METHOD);
+    ask_book();
+    make_applicant(11);
     make_book(1025, "d.example", "example", "issue");
     expect(call_judge, CAA_TOO_MANY_RECORDS);
     ask_book();
@@ -324,6 +383,8 @@ static void books(void)
 
     make_request(4, 3);
     make_book(8, "d.example", "p.d.example", "issue");
+    ask_changed_book();
+    make_limited_book(8, "d.example", "p.d.example", "issue");
     ask_changed_book();
 }
 
@@ -378,8 +439,8 @@ int main(int count, char **arguments)
     }
     books();
     lines();
-    over = tell("caa_judge", most_judge, ENOUGH_FOR_BOOK);
-    over |= tell("caa_permitted_issuers", most_list, ENOUGH_FOR_BOOK);
+    over = tell("caa_judge_for", most_judge, ENOUGH_FOR_BOOK);
+    over |= tell("caa_permitted_issuers_for", most_list, ENOUGH_FOR_BOOK);
     over |= tell("caa_write_line", most_write, ENOUGH_FOR_LINE);
     over |= tell("caa_read_line", most_read, ENOUGH_FOR_LINE);
     return fflush(stdout) == 0 ? over : 2;

@@ -1,4 +1,5 @@
-//! Judges request.bin, issuer.txt and book.bin of a folder, and prints the same line as the desk program.
+//! Judges request.bin, issuer.txt, account.txt, method.txt and book.bin of a folder, and prints the same
+//! line as the desk program.
 //!
 //!     SPLINEPEARL_LIBS="$PWD/target/staticlib" \
 //!         cargo run --manifest-path bindings/rust/Cargo.toml --example desk -- examples/whole-case
@@ -15,7 +16,8 @@ use splinepearl::{judge, Judgement};
 const USAGE: &str = "\
 usage: desk FOLDER
 
-Judges request.bin, issuer.txt and book.bin in FOLDER, and prints the same line as the desk program.
+Judges request.bin, issuer.txt, account.txt, method.txt and book.bin in FOLDER, and prints the same
+line as the desk program.
 
 Exit status: 0 permitted; 1 not permitted; 2 anything else: refused, no book, an answer that isn't
 known, output that can't be written, wrong use.
@@ -54,11 +56,13 @@ fn judged(folder: &Path) -> (String, u8) {
     let Ok(book) = read("book.bin") else {
         return ("no book\n".to_owned(), NOTHING_DECIDED);
     };
-    // An empty request and an empty issuer name are refused.
+    // An empty request, issuer name, account or method is refused.
     let request = read("request.bin").unwrap_or_default();
     let issuer = read("issuer.txt").unwrap_or_default();
+    let account = read("account.txt").unwrap_or_default();
+    let method = read("method.txt").unwrap_or_default();
 
-    let judgement = judge(&request, &issuer, &book);
+    let judgement = judge(&request, &issuer, &account, &method, &book);
     let status = match judgement {
         Judgement::Permitted => PERMITTED,
         Judgement::UnknownCritical { .. } | Judgement::NotGranted { .. } => NOT_PERMITTED,

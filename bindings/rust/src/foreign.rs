@@ -9,17 +9,25 @@
 #![allow(unsafe_code)]
 
 extern "C" {
-    fn caa_judge(
+    fn caa_judge_for(
         request: *const u8,
         request_len: usize,
         issuer: *const u8,
         issuer_len: usize,
+        account: *const u8,
+        account_len: usize,
+        method: *const u8,
+        method_len: usize,
         book: *const u8,
         book_len: usize,
     ) -> u64;
-    fn caa_permitted_issuers(
+    fn caa_permitted_issuers_for(
         request: *const u8,
         request_len: usize,
+        account: *const u8,
+        account_len: usize,
+        method: *const u8,
+        method_len: usize,
         book: *const u8,
         book_len: usize,
         buffer: *mut u8,
@@ -29,26 +37,40 @@ extern "C" {
     fn caa_read_line(line: *const u8, line_len: usize, buffer: *mut u8, buffer_len: usize) -> u64;
 }
 
-pub fn judge(request: &[u8], issuer: &[u8], book: &[u8]) -> u64 {
-    // SAFETY: three live slices, only read; see above.
+pub fn judge(request: &[u8], issuer: &[u8], account: &[u8], method: &[u8], book: &[u8]) -> u64 {
+    // SAFETY: five live slices, only read; see above.
     unsafe {
-        caa_judge(
+        caa_judge_for(
             request.as_ptr(),
             request.len(),
             issuer.as_ptr(),
             issuer.len(),
+            account.as_ptr(),
+            account.len(),
+            method.as_ptr(),
+            method.len(),
             book.as_ptr(),
             book.len(),
         )
     }
 }
 
-pub fn permitted_issuers(request: &[u8], book: &[u8], buffer: &mut [u8]) -> u64 {
-    // SAFETY: two live slices, only read, and a buffer borrowed by `&mut`; see above.
+pub fn permitted_issuers(
+    request: &[u8],
+    account: &[u8],
+    method: &[u8],
+    book: &[u8],
+    buffer: &mut [u8],
+) -> u64 {
+    // SAFETY: four live slices, only read, and a buffer borrowed by `&mut`; see above.
     unsafe {
-        caa_permitted_issuers(
+        caa_permitted_issuers_for(
             request.as_ptr(),
             request.len(),
+            account.as_ptr(),
+            account.len(),
+            method.as_ptr(),
+            method.len(),
             book.as_ptr(),
             book.len(),
             buffer.as_mut_ptr(),

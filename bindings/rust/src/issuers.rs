@@ -38,17 +38,21 @@ impl fmt::Display for PermittedIssuers<'_> {
     }
 }
 
-/// Who may issue for every name of `request`, by the records of `book`?
+/// Who may issue for every name of `request`, for this account and by this validation method, by the
+/// records of `book`?
 ///
 /// A list is written to the start of `buffer`. The rest of the buffer is not changed; without a list
-/// none of it is. A buffer as long as the book is always enough. [`judge`](crate::judge()) says what
-/// `request` and `book` hold.
+/// none of it is. A buffer as long as the book is always enough. [`judge`](crate::judge()) says what the
+/// inputs hold.
 pub fn permitted_issuers<'a>(
     request: &[u8],
+    account: &[u8],
+    method: &[u8],
     book: &[u8],
     buffer: &'a mut [u8],
 ) -> PermittedIssuers<'a> {
-    let word = Word::unpacked(foreign::permitted_issuers(request, book, buffer));
+    let word = foreign::permitted_issuers(request, account, method, book, buffer);
+    let word = Word::unpacked(word);
     match word.number {
         30 => PermittedIssuers::Anyone,
         31 => match IssuerList::at_front(buffer, word.a, word.b) {

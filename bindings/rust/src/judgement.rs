@@ -12,7 +12,7 @@ use crate::Refusal;
 #[derive(Clone, Copy, Debug, PartialEq, Eq, Hash)]
 #[must_use = "anything but `Permitted` means: don't issue"]
 pub enum Judgement {
-    /// Verdict 0: each name is unrestricted or granted to this issuer.
+    /// Verdict 0: each name is unrestricted, or granted to this issuer for this account and method.
     Permitted,
     /// Verdict 20: a record with an unknown tag and the critical flag forbids issuance.
     UnknownCritical {
@@ -21,7 +21,7 @@ pub enum Judgement {
         /// The number of the first unknown critical record in that name's relevant set, from 0 over the book.
         record: usize,
     },
-    /// Verdict 21: a name is restricted, and not granted to this issuer.
+    /// Verdict 21: a name is restricted, and not granted to this issuer for this account and method.
     NotGranted {
         /// The number of the first name that isn't permitted, from 0.
         name: usize,
@@ -51,12 +51,15 @@ impl Judgement {
     /// What the verdict or the refusal means, in words.
     pub fn reason(self) -> &'static str {
         match self {
-            Judgement::Permitted => "each name is unrestricted or granted to this issuer",
+            Judgement::Permitted => {
+                "each name is unrestricted, or granted to this issuer, account and method"
+            }
             Judgement::UnknownCritical { .. } => {
                 "this record has an unknown tag and is critical for this name"
             }
             Judgement::NotGranted { .. } => {
-                "this record governs this name, and nothing grants it to this issuer"
+                "this record governs this name, and nothing grants it to this issuer, \
+                 for this account and by this method"
             }
             Judgement::Refused(refusal) => refusal.reason(),
         }
@@ -98,14 +101,29 @@ impl fmt::Display for Judgement {
     }
 }
 
-/// May `issuer` issue for every name of `request`, by the records of `book`?
+/// May `issuer` issue for every name of `request`, for this account and by this validation method, by the
+/// records of `book`?
 ///
 /// - `request`: 1 to 250 DNS names in wire form, one after the other, at most 16,384 octets.
 /// - `issuer`: one issuer domain name of the CA, as text: no trailing dot, no line end.
+/// - `account`: the URI of the account that asks, as text (RFC 8657, section 3): 1 to 255 octets, each 33
+///   to 126 but no `;`. So no white space and no line end.
+/// - `method`: the validation method used, as text (RFC 8657, section 4), such as `dns-01`: the same rule,
+///   and no `,`.
 /// - `book`: 0 to 1,024 resource records in wire form without compression, one after the other, at
 ///   most 49,152 octets. A failed lookup is not an empty answer: don't judge without it.
-pub fn judge(request: &[u8], issuer: &[u8], book: &[u8]) -> Judgement {
-    Judgement::of(Word::unpacked(foreign::judge(request, issuer, book)))
+///
+/// A record may limit its grant to one account (`accounturi`) and to some methods (`validationmethods`).
+/// Both are compared octet for octet, so give both texts as your CA publishes them.
+pub fn judge(
+    request: &[u8],
+    issuer: &[u8],
+    account: &[u8],
+    method: &[u8],
+    book: &[u8],
+) -> Judgement {
+    let word = foreign::judge(request, issuer, account, method, book);
+    Judgement::of(Word::unpacked(word))
 }
 
 #[cfg(test)]
@@ -129,7 +147,7 @@ mod tests {
         assert_eq!(Judgement::Permitted.to_string(), "verdict 0");
         assert_eq!(
             format!("{:#}", Judgement::Permitted),
-            "verdict 0: each name is unrestricted or granted to this issuer"
+            "verdict 0: each name is unrestricted, or granted to this issuer, account and method"
         );
     }
 }

@@ -1,10 +1,11 @@
-//! May this certificate authority issue? The CAA rules of RFC 8659, by a proved library.
+//! May this certificate authority issue? The CAA rules of RFC 8659 and RFC 8657, by a proved library.
 //!
 //! Safe wrappers for the four calls of `libsplinepearl.a`: slices in, enums out. Each call accepts any
 //! octets and checks them itself. None panics, allocates, keeps state or reads anything but its
 //! parameters.
 //!
-//! - [`judge`]: may this issuer issue for these names, by these records?
+//! - [`judge`]: may this issuer issue for these names, for this account and by this validation method, by
+//!   these records?
 //! - [`permitted_issuers`]: who may?
 //! - [`write_line`] and [`read_line`]: CAA data as a line of text, and back.
 //!
@@ -15,17 +16,22 @@
 //! use splinepearl::{judge, permitted_issuers, Judgement, PermittedIssuers};
 //!
 //! let request = b"\x03www\x07example\x03com\x00";
+//! // The account that asks, and the validation method used (RFC 8657).
+//! let (account, method) = (b"https://ca1.example.net/acct/230123", b"dns-01");
 //! // example.com IN CAA 0 issue "ca1.example.net", with a time to live of 0
 //! let book = b"\x07example\x03com\x00\x01\x01\x00\x01\x00\x00\x00\x00\x00\x16\x00\x05issueca1.example.net";
 //!
-//! assert_eq!(judge(request, b"ca1.example.net", book), Judgement::Permitted);
 //! assert_eq!(
-//!     judge(request, b"notca1.example.net", book),
+//!     judge(request, b"ca1.example.net", account, method, book),
+//!     Judgement::Permitted
+//! );
+//! assert_eq!(
+//!     judge(request, b"notca1.example.net", account, method, book),
 //!     Judgement::NotGranted { name: 0, record: 0 }
 //! );
 //!
 //! let mut buffer = vec![0; book.len()];
-//! match permitted_issuers(request, book, &mut buffer) {
+//! match permitted_issuers(request, account, method, book, &mut buffer) {
 //!     PermittedIssuers::Anyone => println!("anyone"),
 //!     PermittedIssuers::List(issuers) => {
 //!         assert_eq!(issuers.iter().collect::<Vec<_>>(), ["ca1.example.net"]);

@@ -47,6 +47,9 @@ pub enum Refusal {
     LineTooLong,
     /// 11: the CAA data is malformed, or its tag has other octets than letters and digits.
     BadData,
+    /// 15: the account or the method breaks a rule. Each has 1 to 255 octets from 33 to 126 without `;`,
+    /// and the method has no `,`.
+    BadAccountOrMethod,
     /// An answer that this crate doesn't know, from a newer library. Don't issue.
     Unknown {
         /// The number of the answer.
@@ -70,6 +73,7 @@ impl Refusal {
             9 => Refusal::BadLine,
             10 => Refusal::LineTooLong,
             11 => Refusal::BadData,
+            15 => Refusal::BadAccountOrMethod,
             _ => Refusal::Unknown { number, place },
         }
     }
@@ -88,6 +92,7 @@ impl Refusal {
             Refusal::BadLine => 9,
             Refusal::LineTooLong => 10,
             Refusal::BadData => 11,
+            Refusal::BadAccountOrMethod => 15,
             Refusal::Unknown { number, .. } => number,
         }
     }
@@ -105,7 +110,8 @@ impl Refusal {
             | Refusal::BookTooLong
             | Refusal::BadLine
             | Refusal::LineTooLong
-            | Refusal::BadData => 0,
+            | Refusal::BadData
+            | Refusal::BadAccountOrMethod => 0,
         }
     }
 
@@ -126,6 +132,9 @@ impl Refusal {
             Refusal::LineTooLong => "the line is over 16,384 octets, or its data over 4,096",
             Refusal::BadData => {
                 "the CAA data is malformed, or its tag isn't letters and digits only"
+            }
+            Refusal::BadAccountOrMethod => {
+                "the account or the method is empty, too long, or has an octet that isn't allowed"
             }
             Refusal::Unknown { .. } => "an answer from a newer library; don't issue",
         }
@@ -150,11 +159,11 @@ mod tests {
 
     #[test]
     fn number_and_place_come_back() {
-        for number in [2, 3, 6, 7, 8, 0, 12, 20, 255] {
+        for number in [2, 3, 6, 7, 8, 0, 12, 14, 16, 20, 255] {
             let refusal = Refusal::of(number, 5);
             assert_eq!((refusal.number(), refusal.place()), (number, 5));
         }
-        for number in [1, 4, 5, 9, 10, 11] {
+        for number in [1, 4, 5, 9, 10, 11, 15] {
             let refusal = Refusal::of(number, 0);
             assert_eq!((refusal.number(), refusal.place()), (number, 0));
         }
@@ -168,6 +177,11 @@ mod tests {
             format!("{refusal:#}"),
             "refused 6 at 4: this record or its CAA data is malformed, \
              or its tag isn't letters and digits only"
+        );
+        assert_eq!(
+            format!("{:#}", Refusal::BadAccountOrMethod),
+            "refused 15 at 0: the account or the method is empty, too long, \
+             or has an octet that isn't allowed"
         );
     }
 }

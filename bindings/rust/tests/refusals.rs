@@ -2,10 +2,9 @@
 
 mod common;
 
-use common::{caa, data, name, record};
+use common::{caa, data, judge, name, permitted_issuers, record};
 use splinepearl::{
-    judge, permitted_issuers, read_line, write_line, Judgement, PermittedIssuers, Refusal,
-    MAX_DATA_OCTETS, MAX_LINE_OCTETS,
+    read_line, write_line, Judgement, PermittedIssuers, Refusal, MAX_DATA_OCTETS, MAX_LINE_OCTETS,
 };
 
 const ISSUER: &[u8] = b"ca1.example.net";

@@ -2,8 +2,8 @@
 
 mod common;
 
-use common::{caa, data, name, record, request, whole_case_book};
-use splinepearl::{judge, permitted_issuers, Judgement, PermittedIssuers};
+use common::{caa, data, judge, name, permitted_issuers, record, request, whole_case_book};
+use splinepearl::{Judgement, PermittedIssuers};
 
 #[test]
 fn anyone() {

@@ -2,8 +2,8 @@
 
 mod common;
 
-use common::{request, whole_case_book};
-use splinepearl::{judge, permitted_issuers, IssuerList, Judgement, PermittedIssuers, Refusal};
+use common::{judge, permitted_issuers, request, whole_case_book};
+use splinepearl::{IssuerList, Judgement, PermittedIssuers, Refusal};
 
 const LIST: [u8; 32] = [
     0x0F, 0x63, 0x61, 0x31, 0x2E, 0x65, 0x78, 0x61, 0x6D, 0x70, 0x6C, 0x65, 0x2E, 0x6E, 0x65, 0x74,

@@ -3,10 +3,11 @@
 use super::heights::{self, count_in_vain, count_of_name};
 use super::limits::{self, count_limits};
 use super::log::{Call, Differences, Tally};
+use super::parameters::{self, count_parameters};
 use super::Part;
 use crate::answer::Answer;
 use crate::calls::{told, Judge};
-use crate::cases::Case;
+use crate::cases::{Asker, Case};
 use crate::generate::Inputs;
 use crate::judge::judge;
 
@@ -20,6 +21,7 @@ static JUDGE: Call = Call {
         (2, "refused 2"),
         (3, "refused 3"),
         (4, "refused 4"),
+        (15, "refused 15"),
         (5, "refused 5"),
         (6, "refused 6"),
         (7, "refused 7"),
@@ -32,6 +34,7 @@ pub struct JudgeComparison {
     /// Of the generated cases alone, like the limits.
     heights: Tally,
     limits: Tally,
+    parameters: Tally,
 }
 
 impl JudgeComparison {
@@ -41,6 +44,7 @@ impl JudgeComparison {
             tally: Tally::new(&JUDGE),
             heights: Tally::new(&heights::OF_VERDICTS),
             limits: Tally::new(&limits::OF_VERDICTS),
+            parameters: Tally::new(&parameters::OF_VERDICTS),
         }
     }
 
@@ -48,14 +52,22 @@ impl JudgeComparison {
         &mut self,
         request: &[u8],
         issuer: &[u8],
+        account: &[u8],
+        method: &[u8],
         book: &[u8],
         differences: &mut Differences,
     ) -> Answer {
-        let ours = judge(request, issuer, book);
-        let theirs = (self.theirs)(request, issuer, book);
+        let ours = judge(request, issuer, account, method, book);
+        let theirs = (self.theirs)(request, issuer, account, method, book);
         self.tally.count(kind(ours));
         if theirs != Ok(ours) {
-            let inputs = [("request", request), ("issuer", issuer), ("book", book)];
+            let inputs = [
+                ("request", request),
+                ("issuer", issuer),
+                ("account", account),
+                ("method", method),
+                ("book", book),
+            ];
             differences.tell(&JUDGE, &inputs, told(theirs), ours);
         }
         ours
@@ -64,8 +76,9 @@ impl JudgeComparison {
 
 impl Part for JudgeComparison {
     fn stored(&mut self, case: &Case, differences: &mut Differences) {
-        for issuer in case.issuers() {
-            self.compare(&case.request, issuer, &case.book, differences);
+        for (issuer, Asker { account, method }) in case.judged() {
+            let (request, book) = (&case.request, &case.book);
+            self.compare(request, issuer, account, method, book, differences);
         }
     }
 
@@ -73,12 +86,15 @@ impl Part for JudgeComparison {
         let Inputs {
             request,
             issuer,
+            account,
+            method,
             book,
             ..
         } = inputs;
-        let answer = self.compare(request, issuer, book, differences);
+        let answer = self.compare(request, issuer, account, method, book, differences);
         if !matches!(answer, Answer::Refused(_)) {
             count_limits(&mut self.limits, request, book);
+            count_parameters(&mut self.parameters, inputs, Some(issuer));
         }
         match answer {
             Answer::Permitted => count_in_vain(&mut self.heights, request, book),
@@ -90,7 +106,7 @@ impl Part for JudgeComparison {
     }
 
     fn into_tallies(self: Box<Self>) -> Vec<Tally> {
-        vec![self.tally, self.heights, self.limits]
+        vec![self.tally, self.heights, self.limits, self.parameters]
     }
 }
 

@@ -4,10 +4,11 @@ use super::buffer::{sizes_to_try, TwoBuffers};
 use super::heights::{self, count_in_vain, count_of_restricted};
 use super::limits::{self, count_limits};
 use super::log::{Call, Differences, Tally};
+use super::parameters::{self, count_parameters};
 use super::Part;
 use crate::answer::{Permitted, Refusal};
 use crate::calls::{told, PermittedIssuers};
-use crate::cases::Case;
+use crate::cases::{Asker, Case};
 use crate::generate::{Generator, Inputs};
 use crate::permitted::permitted_issuers;
 
@@ -23,6 +24,7 @@ static LIST: Call = Call {
         (1, "refused 1"),
         (2, "refused 2"),
         (3, "refused 3"),
+        (15, "refused 15"),
         (5, "refused 5"),
         (6, "refused 6"),
         (7, "refused 7"),
@@ -39,6 +41,16 @@ pub struct ListComparison {
     /// Of the generated cases alone, like the limits.
     heights: Tally,
     limits: Tally,
+    parameters: Tally,
+}
+
+/// What is asked, but for the buffer.
+#[derive(Clone, Copy)]
+struct Question<'a> {
+    request: &'a [u8],
+    account: &'a [u8],
+    method: &'a [u8],
+    book: &'a [u8],
 }
 
 impl ListComparison {
@@ -49,39 +61,50 @@ impl ListComparison {
             tally: Tally::new(&LIST),
             heights: Tally::new(&heights::OF_LISTS),
             limits: Tally::new(&limits::OF_LISTS),
+            parameters: Tally::new(&parameters::OF_LISTS),
         }
     }
 
     /// Counts the answer for the buffer given; then tries the sizes around the one needed.
     fn compare(
         &mut self,
-        request: &[u8],
-        book: &[u8],
+        question: Question,
         buffer: &[u8],
         differences: &mut Differences,
     ) -> Permitted {
-        let answer = self.with_buffer(request, book, buffer, differences);
+        let answer = self.with_buffer(question, buffer, differences);
         self.tally.count(kind(answer));
         for size in sizes_to_try(needed(answer)) {
             let buffer = self.generator.buffer(size);
-            self.with_buffer(request, book, &buffer, differences);
+            self.with_buffer(question, &buffer, differences);
         }
         answer
     }
 
     fn with_buffer(
         &mut self,
-        request: &[u8],
-        book: &[u8],
+        question: Question,
         buffer: &[u8],
         differences: &mut Differences,
     ) -> Permitted {
+        let Question {
+            request,
+            account,
+            method,
+            book,
+        } = question;
         let mut buffers = TwoBuffers::new(buffer, &mut self.generator);
-        let ours = permitted_issuers(request, book, buffers.ours());
-        let theirs = (self.theirs)(request, book, buffers.theirs());
+        let ours = permitted_issuers(request, account, method, book, buffers.ours());
+        let theirs = (self.theirs)(request, account, method, book, buffers.theirs());
         let left = buffers.difference();
         if theirs != Ok(ours) || left.is_some() {
-            let inputs = [("request", request), ("book", book), ("buffer", buffer)];
+            let inputs = [
+                ("request", request),
+                ("account", account),
+                ("method", method),
+                ("book", book),
+                ("buffer", buffer),
+            ];
             let [they_left, we_left] = left.unwrap_or_default();
             differences.tell(
                 &LIST,
@@ -96,20 +119,37 @@ impl ListComparison {
 
 impl Part for ListComparison {
     fn stored(&mut self, case: &Case, differences: &mut Differences) {
-        let buffer = self.generator.buffer(case.book.len());
-        self.compare(&case.request, &case.book, &buffer, differences);
+        for Asker { account, method } in case.askers() {
+            let question = Question {
+                request: &case.request,
+                account,
+                method,
+                book: &case.book,
+            };
+            let buffer = self.generator.buffer(case.book.len());
+            self.compare(question, &buffer, differences);
+        }
     }
 
     fn random(&mut self, inputs: &Inputs, differences: &mut Differences) {
         let Inputs {
             request,
+            account,
+            method,
             book,
             buffer,
             ..
         } = inputs;
-        let answer = self.compare(request, book, buffer, differences);
+        let question = Question {
+            request,
+            account,
+            method,
+            book,
+        };
+        let answer = self.compare(question, buffer, differences);
         if !matches!(answer, Permitted::Refused(_)) {
             count_limits(&mut self.limits, request, book);
+            count_parameters(&mut self.parameters, inputs, None);
         }
         match answer {
             Permitted::Anyone => count_in_vain(&mut self.heights, request, book),
@@ -119,7 +159,7 @@ impl Part for ListComparison {
     }
 
     fn into_tallies(self: Box<Self>) -> Vec<Tally> {
-        vec![self.tally, self.heights, self.limits]
+        vec![self.tally, self.heights, self.limits, self.parameters]
     }
 }
 

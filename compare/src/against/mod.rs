@@ -7,6 +7,7 @@ mod limits;
 mod lines;
 mod list;
 mod log;
+mod parameters;
 mod readers;
 
 use std::fmt;

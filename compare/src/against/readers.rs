@@ -214,7 +214,8 @@ impl Part for ReadersComparison {
     fn stored(&mut self, case: &Case, differences: &mut Differences) {
         self.look_closely(&case.request, differences);
         self.look_closely(&case.book, differences);
-        for octets in case.issuers().chain(case.values()) {
+        let issuers = case.judged().map(|(issuer, _)| issuer);
+        for octets in issuers.chain(case.values()) {
             self.look_closely(octets, differences);
         }
     }

@@ -242,6 +242,7 @@ mod tests {
     use std::fs;
     use std::path::Path;
 
+    use super::super::books::{ACCOUNT, METHOD};
     use super::*;
     use crate::answer::Answer;
     use crate::judge::judge;
@@ -342,7 +343,7 @@ mod tests {
     fn each_name_is_restricted_and_granted() {
         for load in loads() {
             for name in names(&load.request) {
-                let by = |issuer: &str| judge(name, issuer.as_bytes(), &load.book);
+                let by = |issuer: &str| judge(name, issuer.as_bytes(), ACCOUNT, METHOD, &load.book);
                 assert_eq!(by(load.issuer), Answer::Permitted, "{}", load.title);
                 let other = by("ca9.example.net");
                 assert!(matches!(other, Answer::NotGranted { .. }), "{}", load.title);

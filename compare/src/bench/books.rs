@@ -6,6 +6,9 @@ use crate::limits::{
 };
 
 pub const ISSUER: &str = "ca1.example.net";
+/// Of all loads. Records limit their grants only where a load says so.
+pub const ACCOUNT: &[u8] = b"https://ca1.example.net/acct/230123";
+pub const METHOD: &[u8] = b"dns-01";
 
 /// Octets of a record besides owner and data: type, class, time to live, length of the data.
 const RECORD_FRAME: usize = 10;

@@ -5,11 +5,11 @@ use std::hint::black_box;
 use super::books::{
     book_of, caa, deep_request, deep_request_of_two, deep_wildcards, deepest_request, full_record,
     issue, long_issuer, missed_book, missed_book_with_set_at_top, plain_book, plain_request, wire,
-    Differs, DEEPEST_NAME, DEEPEST_NAMES, DEEPEST_OF_ALL, DEEPEST_OWNER, ISSUER,
+    Differs, ACCOUNT, DEEPEST_NAME, DEEPEST_NAMES, DEEPEST_OF_ALL, DEEPEST_OWNER, ISSUER, METHOD,
 };
 use super::measure::{measure, race, Measured, Plan, Race, Sides};
 use super::shapes::{Shape, GRANTED, SHAPES};
-use super::{alike, yardstick, CALLS_OF_ONE_NAME, NIGHT_RUN_NAMES};
+use super::{alike, limited, yardstick, CALLS_OF_ONE_NAME, NIGHT_RUN_NAMES};
 use crate::answer::Answer;
 use crate::calls::{Desk, Judge};
 use crate::limits::{BOOK_RECORDS, REQUEST_NAMES};
@@ -61,15 +61,15 @@ impl Load {
         let sides = Sides {
             library: &|_| {
                 let (request, issuer, book) = inputs();
-                library(request, issuer, book)
+                library(request, issuer, ACCOUNT, METHOD, book)
             },
             independent: &|_| {
                 let (request, issuer, book) = inputs();
-                (Desk::OWN.judge)(request, issuer, book)
+                (Desk::OWN.judge)(request, issuer, ACCOUNT, METHOD, book)
             },
             yardstick: Some(&|_| {
                 let (request, issuer, book) = inputs();
-                Ok(yardstick::judge(request, issuer, book))
+                Ok(yardstick::judge(request, issuer, ACCOUNT, METHOD, book))
             }),
         };
         then(plan, sides)
@@ -104,6 +104,9 @@ pub fn beside_night_run() -> Vec<Load> {
     let load =
         |alike: alike::Alike| Load::new(alike.title, alike.request, alike.issuer, alike.book);
     loads.extend(alike::loads().into_iter().map(load));
+    let load =
+        |limited: limited::Limited| Load::new(limited.title, limited.request, ISSUER, limited.book);
+    loads.extend(limited::loads().into_iter().map(load));
     loads
 }
 
@@ -223,7 +226,7 @@ mod tests {
     #[test]
     fn every_load_is_permitted() {
         for load in loads() {
-            let answer = judge(&load.request, &load.issuer, &load.book);
+            let answer = judge(&load.request, &load.issuer, ACCOUNT, METHOD, &load.book);
             assert_eq!(answer, Answer::Permitted, "{}", load.title);
         }
     }
@@ -242,7 +245,13 @@ mod tests {
     #[test]
     fn sets_are_found_where_said() {
         for load in loads().iter().filter(|load| !load.title.contains("keys")) {
-            let answer = judge(&load.request, b"ca9.example.net", &load.book);
+            let answer = judge(
+                &load.request,
+                b"ca9.example.net",
+                ACCOUNT,
+                METHOD,
+                &load.book,
+            );
             let records = read_book(&load.book).unwrap().len();
             let title = &load.title;
             if title.contains("no set") {

@@ -4,11 +4,11 @@ use std::hint::black_box;
 
 use super::books::{
     book_of, caa, deep_request, deep_request_of_two, full_record, issue, long_issuer, plain_book,
-    plain_request, wire, ISSUER,
+    plain_request, wire, ACCOUNT, ISSUER, METHOD,
 };
 use super::measure::{measure, race, Measured, Plan, Race, Sides};
 use super::shapes::SHAPES;
-use super::{alike, yardstick, CALLS_OF_ONE_NAME, NIGHT_RUN_NAMES};
+use super::{alike, limited, yardstick, CALLS_OF_ONE_NAME, NIGHT_RUN_NAMES};
 use crate::answer::Permitted;
 use crate::calls::{Desk, PermittedIssuers};
 use crate::limits::{BOOK_RECORDS, REQUEST_NAMES};
@@ -61,15 +61,17 @@ impl Load {
         let sides = Sides {
             library: &|buffer| {
                 let (request, book) = inputs();
-                library(request, book, buffer)
+                library(request, ACCOUNT, METHOD, book, buffer)
             },
             independent: &|buffer| {
                 let (request, book) = inputs();
-                (Desk::OWN.permitted_issuers)(request, book, buffer)
+                (Desk::OWN.permitted_issuers)(request, ACCOUNT, METHOD, book, buffer)
             },
             yardstick: Some(&|buffer| {
                 let (request, book) = inputs();
-                Ok(yardstick::permitted_issuers(request, book, buffer))
+                Ok(yardstick::permitted_issuers(
+                    request, ACCOUNT, METHOD, book, buffer,
+                ))
             }),
         };
         then(plan, sides)
@@ -131,6 +133,8 @@ pub fn loads() -> Vec<Load> {
     ]);
     let load = |alike: alike::Alike| Load::new(alike.title, alike.request, alike.book);
     loads.extend(alike::loads().into_iter().map(load));
+    let load = |limited: limited::Limited| Load::new(limited.title, limited.request, limited.book);
+    loads.extend(limited::loads().into_iter().map(load));
     loads
 }
 
@@ -158,7 +162,7 @@ mod tests {
     fn every_load_makes_its_list() {
         let counts = loads().into_iter().map(|load| {
             let mut buffer = vec![0; load.book.len()];
-            match permitted_issuers(&load.request, &load.book, &mut buffer) {
+            match permitted_issuers(&load.request, ACCOUNT, METHOD, &load.book, &mut buffer) {
                 Permitted::List { count, .. } => count,
                 other => panic!("{}: {other}", load.title),
             }
@@ -181,6 +185,7 @@ mod tests {
                 1
             }
         }));
+        expected.extend(limited::loads().iter().map(|_| 1));
         assert_eq!(counts.collect::<Vec<_>>(), expected);
     }
 }

@@ -7,6 +7,7 @@ mod books;
 pub mod comparing;
 mod folders;
 mod judge;
+mod limited;
 mod lines;
 mod list;
 mod measure;
@@ -31,9 +32,13 @@ const CALLS_OF_ONE_NAME: usize = 1_000;
 
 /// The yardstick's calls, to be compared like those of another implementation.
 pub const YARDSTICK: Other = Other {
-    judge: Some(|request, issuer, book| Ok(yardstick::judge(request, issuer, book))),
-    permitted_issuers: Some(|request, book, buffer| {
-        Ok(yardstick::permitted_issuers(request, book, buffer))
+    judge: Some(|request, issuer, account, method, book| {
+        Ok(yardstick::judge(request, issuer, account, method, book))
+    }),
+    permitted_issuers: Some(|request, account, method, book, buffer| {
+        Ok(yardstick::permitted_issuers(
+            request, account, method, book, buffer,
+        ))
     }),
     ..Other::NOTHING
 };

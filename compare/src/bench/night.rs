@@ -5,11 +5,13 @@
 use std::collections::HashSet;
 use std::iter;
 
+use super::books::{ACCOUNT, METHOD};
 use super::judge::{beside_night_run, night_run, Load};
 use super::measure::Race;
 use super::{list, yardstick};
 use crate::against::Other;
 use crate::answer::Answer;
+use crate::applicant::Applicant;
 use crate::book::RecordData;
 use crate::calls::{told, Desk, Judge};
 use crate::name::Name;
@@ -150,7 +152,7 @@ fn look_at(load: &Load, library: Judge) -> Result<Seen, String> {
     }
     let owners: HashSet<Vec<u8>> = book.iter().map(|record| spelled(record.owner)).collect();
 
-    let records = caa_records(&book);
+    let records = caa_records(&book, Applicant::SOMEONE);
     let up: HashSet<Option<usize>> = names
         .iter()
         .map(|name| labels_taken_off(&records, name))
@@ -184,13 +186,13 @@ fn is_restricted_and_granted(load: &Load, name: &[u8], library: Judge) -> Result
     let judges: [(&str, Judge); 3] = [
         ("library", library),
         ("independent", Desk::OWN.judge),
-        ("yardstick", |request, issuer, book| {
-            Ok(yardstick::judge(request, issuer, book))
+        ("yardstick", |request, issuer, account, method, book| {
+            Ok(yardstick::judge(request, issuer, account, method, book))
         }),
     ];
     for (side, judge) in judges {
-        let granted = judge(name, &load.issuer, &load.book);
-        let other = judge(name, OTHER_ISSUER, &load.book);
+        let granted = judge(name, &load.issuer, ACCOUNT, METHOD, &load.book);
+        let other = judge(name, OTHER_ISSUER, ACCOUNT, METHOD, &load.book);
         match (granted, other) {
             (Ok(Answer::Permitted), Ok(Answer::NotGranted { .. })) => {}
             _ => {
@@ -223,7 +225,8 @@ mod tests {
     use super::*;
     use crate::judge::judge;
 
-    const OWN: Judge = |request, issuer, book| Ok(judge(request, issuer, book));
+    const OWN: Judge =
+        |request, issuer, account, method, book| Ok(judge(request, issuer, account, method, book));
 
     #[test]
     fn the_five_loads_are_what_is_asked_for() {

@@ -7,19 +7,20 @@
 
 use crate::answer::{Answer, Permitted, Refusal};
 use crate::limits::{
-    BOOK_OCTETS, BOOK_RECORDS, ISSUER_OCTETS, LABEL_OCTETS, NAME_OCTETS, REQUEST_NAMES,
-    REQUEST_OCTETS,
+    APPLICANT_OCTETS, BOOK_OCTETS, BOOK_RECORDS, ISSUER_OCTETS, LABEL_OCTETS, NAME_OCTETS,
+    REQUEST_NAMES, REQUEST_OCTETS,
 };
 
-pub fn judge(request: &[u8], issuer: &[u8], book: &[u8]) -> Answer {
-    verdict(request, issuer, book).unwrap_or_else(Answer::Refused)
+pub fn judge(request: &[u8], issuer: &[u8], account: &[u8], method: &[u8], book: &[u8]) -> Answer {
+    verdict(request, issuer, Asker { account, method }, book).unwrap_or_else(Answer::Refused)
 }
 
-fn verdict(request: &[u8], issuer: &[u8], book: &[u8]) -> Result<Answer, Refusal> {
+fn verdict(request: &[u8], issuer: &[u8], asker: Asker, book: &[u8]) -> Result<Answer, Refusal> {
     let names = parse_request(request)?;
     if !is_issuer_name(issuer) {
         return Err(Refusal::BadIssuer);
     }
+    asker.check()?;
     let records = parse_book(book)?;
     let mut previous = None;
     for (number, name) in names.iter().enumerate() {
@@ -38,7 +39,7 @@ fn verdict(request: &[u8], issuer: &[u8], book: &[u8]) -> Result<Answer, Refusal
             continue;
         };
         let grants = |record: &Record| {
-            grantee(record.value).is_some_and(|grantee| grantee.eq_ignore_ascii_case(issuer))
+            grantee(record.value, asker).is_some_and(|grantee| grantee.eq_ignore_ascii_case(issuer))
         };
         if !governing.any(grants) {
             return Ok(Answer::NotGranted {
@@ -50,12 +51,24 @@ fn verdict(request: &[u8], issuer: &[u8], book: &[u8]) -> Result<Answer, Refusal
     Ok(Answer::Permitted)
 }
 
-pub fn permitted_issuers(request: &[u8], book: &[u8], buffer: &mut [u8]) -> Permitted {
-    list(request, book, buffer).unwrap_or_else(Permitted::Refused)
+pub fn permitted_issuers(
+    request: &[u8],
+    account: &[u8],
+    method: &[u8],
+    book: &[u8],
+    buffer: &mut [u8],
+) -> Permitted {
+    list(request, Asker { account, method }, book, buffer).unwrap_or_else(Permitted::Refused)
 }
 
-fn list(request: &[u8], book: &[u8], buffer: &mut [u8]) -> Result<Permitted, Refusal> {
+fn list(
+    request: &[u8],
+    asker: Asker,
+    book: &[u8],
+    buffer: &mut [u8],
+) -> Result<Permitted, Refusal> {
     let names = parse_request(request)?;
+    asker.check()?;
     let records = parse_book(book)?;
     let mut previous = None;
     let mut listed: Option<Vec<&[u8]>> = None;
@@ -64,7 +77,7 @@ fn list(request: &[u8], book: &[u8], buffer: &mut [u8]) -> Result<Permitted, Ref
         if is_repeated(&set, name, &mut previous) {
             continue;
         }
-        let Some(grantees) = grantees(&set, name.wildcard) else {
+        let Some(grantees) = grantees(&set, name.wildcard, asker) else {
             continue;
         };
         match &mut listed {
@@ -79,13 +92,13 @@ fn list(request: &[u8], book: &[u8], buffer: &mut [u8]) -> Result<Permitted, Ref
 }
 
 /// Whom the set grants, repeats included; `None` where it doesn't restrict.
-fn grantees<'a>(set: &[&Record<'a>], wildcard: bool) -> Option<Vec<&'a [u8]>> {
+fn grantees<'a>(set: &[&Record<'a>], wildcard: bool, asker: Asker) -> Option<Vec<&'a [u8]>> {
     if set.iter().any(|record| record.is_unknown_critical()) {
         return Some(Vec::new());
     }
     let mut governing = governing(set, wildcard).peekable();
     governing.peek()?;
-    Some(governing.filter_map(|r| grantee(r.value)).collect())
+    Some(governing.filter_map(|r| grantee(r.value, asker)).collect())
 }
 
 fn without_repeats(grantees: Vec<&[u8]>) -> Vec<&[u8]> {
@@ -116,6 +129,29 @@ fn write_list(issuers: &[&[u8]], buffer: &mut [u8]) -> Result<Permitted, Refusal
     }
     let count = issuers.len();
     Ok(Permitted::List { count, octets })
+}
+
+/// For which account, and validated by which method.
+#[derive(Clone, Copy)]
+struct Asker<'a> {
+    account: &'a [u8],
+    method: &'a [u8],
+}
+
+impl Asker<'_> {
+    fn check(self) -> Result<(), Refusal> {
+        let is_good = |text: &[u8], without: &[u8]| {
+            !text.is_empty()
+                && text.len() <= APPLICANT_OCTETS
+                && text
+                    .iter()
+                    .all(|octet| matches!(octet, 33..=126) && !without.contains(octet))
+        };
+        match is_good(self.account, b";") && is_good(self.method, b";,") {
+            true => Ok(()),
+            false => Err(Refusal::BadApplicant),
+        }
+    }
 }
 
 /// A requested name X or `*.X`.
@@ -181,23 +217,52 @@ fn governing<'r, 'a>(
 }
 
 /// The issuer name that a value grants. `None` where the value doesn't fit the grammar, holds no
-/// name, or one beyond the limits of issuer names.
-fn grantee(value: &[u8]) -> Option<&[u8]> {
+/// name, or one beyond the limits of issuer names, or a limit that isn't met.
+fn grantee<'a>(value: &'a [u8], asker: Asker) -> Option<&'a [u8]> {
     let (name, parameters) = match value.iter().position(|&octet| octet == b';') {
         Some(place) => (&value[..place], trim(&value[place + 1..])),
         None => (value, &[][..]),
     };
-    let fit = parameters.is_empty() || parameters.split(|&o| o == b';').all(is_parameter);
+    let fit = parameters.is_empty() || fit_and_are_met(parameters, asker);
     let name = trim(name);
     (fit && is_issuer_name(name)).then_some(name)
 }
 
-fn is_parameter(parameter: &[u8]) -> bool {
-    let Some(equals) = parameter.iter().position(|&octet| octet == b'=') else {
-        return false;
-    };
+/// Whether all parameters fit the grammar, and the limits among them are met. One that stands twice
+/// is not.
+fn fit_and_are_met(parameters: &[u8], asker: Asker) -> bool {
+    let mut has_account = false;
+    let mut has_methods = false;
+    parameters.split(|&octet| octet == b';').all(|parameter| {
+        let Some((tag, value)) = parse_parameter(parameter) else {
+            return false;
+        };
+        if tag.eq_ignore_ascii_case(b"accounturi") {
+            !std::mem::replace(&mut has_account, true) && value == asker.account
+        } else if tag.eq_ignore_ascii_case(b"validationmethods") {
+            !std::mem::replace(&mut has_methods, true) && has_item(value, asker.method)
+        } else {
+            true
+        }
+    })
+}
+
+/// Whether the item is among those that the commas part. Where one is empty, none is.
+fn has_item(list: &[u8], item: &[u8]) -> bool {
+    let mut found = false;
+    for one in list.split(|&octet| octet == b',') {
+        if one.is_empty() {
+            return false;
+        }
+        found |= one == item;
+    }
+    found
+}
+
+fn parse_parameter(parameter: &[u8]) -> Option<(&[u8], &[u8])> {
+    let equals = parameter.iter().position(|&octet| octet == b'=')?;
     let (tag, value) = (trim(&parameter[..equals]), trim(&parameter[equals + 1..]));
-    is_label(tag) && value.iter().all(u8::is_ascii_graphic)
+    (is_label(tag) && value.iter().all(u8::is_ascii_graphic)).then_some((tag, value))
 }
 
 /// The text without the spaces and tabs around it.

@@ -3,11 +3,33 @@
 use super::notation::{hex, number, quoted, text, word};
 use crate::answer::{Made, Permitted};
 
+/// The account text and the method text that judging and listing are asked with.
+#[derive(Clone, PartialEq, Eq)]
+pub struct Asker {
+    pub account: Vec<u8>,
+    pub method: Vec<u8>,
+}
+
+/// Good ones, for the cases that say nothing of them.
+impl Default for Asker {
+    fn default() -> Asker {
+        Asker {
+            account: b"https://ca1.example.net/acct/230123".to_vec(),
+            method: b"dns-01".to_vec(),
+        }
+    }
+}
+
 pub(super) enum Check {
     /// What judging has to give for this issuer name.
-    Judge { issuer: Vec<u8>, verdict: String },
+    Judge {
+        issuer: Vec<u8>,
+        asker: Asker,
+        verdict: String,
+    },
     /// Who may issue, with a buffer of `room` octets, or as long as the book.
     Permitted {
+        asker: Asker,
         room: Option<usize>,
         expected: Expected,
     },
@@ -35,30 +57,31 @@ pub(super) struct Expected {
 
 impl Check {
     /// `None` when the directive is none that asks.
-    pub fn read(directive: &str, rest: &str) -> Option<Result<Check, String>> {
-        let read = match directive {
+    pub fn read(directive: &str, rest: &str, asker: &Asker) -> Option<Result<Check, String>> {
+        let read: fn(&str, &str, Asker) -> Result<Check, String> = match directive {
             "judge" => judge,
             "permitted" => permitted,
-            "write" => write,
-            "read" => read_line,
-            "value" => value,
+            "write" => |given, expected, _| write(given, expected),
+            "read" => |given, expected, _| read_line(given, expected),
+            "value" => |given, expected, _| value(given, expected),
             _ => return None,
         };
         Some(match rest.rsplit_once("=>") {
-            Some((given, expected)) => read(given.trim(), expected.trim()),
+            Some((given, expected)) => read(given.trim(), expected.trim(), asker.clone()),
             None => Err("no `=>`".to_string()),
         })
     }
 }
 
-fn judge(given: &str, expected: &str) -> Result<Check, String> {
+fn judge(given: &str, expected: &str, asker: Asker) -> Result<Check, String> {
     Ok(Check::Judge {
         issuer: text(given)?,
+        asker,
         verdict: expected.to_string(),
     })
 }
 
-fn permitted(given: &str, expected: &str) -> Result<Check, String> {
+fn permitted(given: &str, expected: &str, asker: Asker) -> Result<Check, String> {
     let (room, rest) = room(given)?;
     if !rest.is_empty() {
         return Err(format!("`{given}` is no room"));
@@ -87,7 +110,11 @@ fn permitted(given: &str, expected: &str) -> Result<Check, String> {
         }
         _ => nothing(expected),
     };
-    Ok(Check::Permitted { room, expected })
+    Ok(Check::Permitted {
+        asker,
+        room,
+        expected,
+    })
 }
 
 fn write(given: &str, expected: &str) -> Result<Check, String> {

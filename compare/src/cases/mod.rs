@@ -6,15 +6,17 @@ mod notation;
 mod reader;
 mod runner;
 
+pub use check::Asker;
 pub use notation::to_hex;
 pub use reader::{read_cases, Case};
 pub use runner::{run, Report};
 
 /// Every stored case file, by name.
-pub const FILES: [(&str, &str); 10] = [
+pub const FILES: [(&str, &str); 11] = [
     ("whole-case.txt", include_str!("../../cases/whole-case.txt")),
     ("rfc8659.txt", include_str!("../../cases/rfc8659.txt")),
     ("values.txt", include_str!("../../cases/values.txt")),
+    ("accounts.txt", include_str!("../../cases/accounts.txt")),
     ("rule.txt", include_str!("../../cases/rule.txt")),
     ("climb.txt", include_str!("../../cases/climb.txt")),
     ("permitted.txt", include_str!("../../cases/permitted.txt")),

@@ -1,6 +1,6 @@
 //! Reads case files.
 
-use super::check::Check;
+use super::check::{Asker, Check};
 use super::notation::{hex, number, quoted, text, wire_name, word};
 
 /// Inputs and what has to be answered for them.
@@ -8,16 +8,31 @@ pub struct Case {
     pub title: String,
     pub request: Vec<u8>,
     pub book: Vec<u8>,
+    /// For the checks that are read next.
+    asker: Asker,
     pub(super) checks: Vec<Check>,
 }
 
 impl Case {
-    /// The issuer names that are judged.
-    pub fn issuers(&self) -> impl Iterator<Item = &[u8]> {
+    /// The issuer names that are judged, with whom they are judged for.
+    pub fn judged(&self) -> impl Iterator<Item = (&[u8], &Asker)> {
         self.checks.iter().filter_map(|check| match check {
-            Check::Judge { issuer, .. } => Some(issuer.as_slice()),
+            Check::Judge { issuer, asker, .. } => Some((issuer.as_slice(), asker)),
             _ => None,
         })
+    }
+
+    /// Whom judging or listing is asked for, each once.
+    pub fn askers(&self) -> Vec<&Asker> {
+        let mut askers = Vec::new();
+        for check in &self.checks {
+            if let Check::Judge { asker, .. } | Check::Permitted { asker, .. } = check {
+                if !askers.contains(&asker) {
+                    askers.push(asker);
+                }
+            }
+        }
+        askers
     }
 
     /// The property values that are read by themselves.
@@ -68,6 +83,7 @@ fn read_line(cases: &mut Vec<Case>, line: &str) -> Result<(), String> {
             title: rest.to_string(),
             request: Vec::new(),
             book: Vec::new(),
+            asker: Asker::default(),
             checks: Vec::new(),
         });
         return Ok(());
@@ -90,8 +106,10 @@ fn read_directive(case: &mut Case, directive: &str, rest: &str) -> Result<(), St
         "request-hex" => case.request.extend(hex(rest)?),
         "record" => case.book.extend(record(rest)?),
         "book-hex" => case.book.extend(hex(rest)?),
+        "account" => case.asker.account = text(rest)?,
+        "method" => case.asker.method = text(rest)?,
         _ => {
-            let check = Check::read(directive, rest)
+            let check = Check::read(directive, rest, &case.asker)
                 .ok_or_else(|| format!("`{directive}` is no directive"))?;
             case.checks.push(check?);
         }
@@ -171,6 +189,27 @@ mod tests {
             let mistake = read_cases("f", wrong).err().expect(wrong);
             assert!(mistake.starts_with("f:"), "{mistake}");
         }
+    }
+
+    #[test]
+    fn account_and_method_are_those_of_the_lines_below() {
+        let cases = read_cases(
+            "f",
+            "case x\njudge a => ?\naccount b\\032\npermitted => ?\njudge c => ?\nmethod\njudge d => ?\n\
+             case y\njudge e => ?",
+        )
+        .unwrap();
+        let asker = |account: &[u8], method: &[u8]| Asker {
+            account: account.to_vec(),
+            method: method.to_vec(),
+        };
+        let good = Asker::default();
+        let other = asker(b"b ", &good.method);
+        let without = asker(b"b ", b"");
+        let judged: Vec<_> = cases[0].judged().collect();
+        assert!(judged == [(&b"a"[..], &good), (b"c", &other), (b"d", &without)]);
+        assert!(cases[0].askers() == [&good, &other, &without]);
+        assert!(cases[1].askers() == [&good]);
     }
 
     #[test]

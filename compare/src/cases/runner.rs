@@ -2,7 +2,7 @@
 
 use std::fmt;
 
-use super::check::{Check, Expected};
+use super::check::{Asker, Check, Expected};
 use super::reader::Case;
 use crate::buffer::MARGIN;
 use crate::calls::{told, Desk};
@@ -46,19 +46,33 @@ pub fn run(desk: Desk, cases: &[Case]) -> Report {
 
 fn try_one(desk: Desk, case: &Case, check: &Check) -> Result<(), String> {
     match check {
-        Check::Judge { issuer, verdict } => {
-            let answer = (desk.judge)(&case.request, issuer, &case.book);
-            let issuer = issuer.escape_ascii();
-            expect(&format!("judge {issuer}"), verdict, &told(answer))
+        Check::Judge {
+            issuer,
+            asker,
+            verdict,
+        } => {
+            let Asker { account, method } = asker;
+            let answer = (desk.judge)(&case.request, issuer, account, method, &case.book);
+            let what = format!("judge {}{}", issuer.escape_ascii(), of(asker));
+            expect(&what, verdict, &told(answer))
         }
-        Check::Permitted { room, expected } => {
+        Check::Permitted {
+            asker,
+            room,
+            expected,
+        } => {
+            let Asker { account, method } = asker;
             let room = room.unwrap_or(case.book.len());
-            try_with_buffer(
-                &format!("permitted room {room}"),
-                room,
-                expected,
-                |buffer| told((desk.permitted_issuers)(&case.request, &case.book, buffer)),
-            )
+            let what = format!("permitted room {room}{}", of(asker));
+            try_with_buffer(&what, room, expected, |buffer| {
+                told((desk.permitted_issuers)(
+                    &case.request,
+                    account,
+                    method,
+                    &case.book,
+                    buffer,
+                ))
+            })
         }
         Check::Write {
             data,
@@ -124,6 +138,15 @@ fn try_with_buffer(
     Ok(())
 }
 
+/// Account and method, where they are not those of every case.
+fn of(asker: &Asker) -> String {
+    if *asker == Asker::default() {
+        return String::new();
+    }
+    let (account, method) = (shown(&asker.account), shown(&asker.method));
+    format!(", account {account}, method {method}")
+}
+
 /// The octets, or the front of them where they are many.
 fn shown(octets: &[u8]) -> String {
     const FEW: usize = 64;
@@ -137,7 +160,7 @@ fn in_words(value: IssueValue) -> String {
     match value {
         IssueValue::Malformed => "malformed".to_string(),
         IssueValue::NoName => "no name".to_string(),
-        IssueValue::Name(name) => format!("name {}", name.escape_ascii()),
+        IssueValue::Name { name, .. } => format!("name {}", name.escape_ascii()),
     }
 }
 

@@ -72,7 +72,7 @@ impl Generator {
             true => BOOK_RECORDS,
             false => self.below(BOOK_RECORDS + 1),
         };
-        let issuers = self.one_of(&[200, 4 * BOOK_RECORDS]);
+        let issuers = self.one_of(&[200, 4 * BOOK_RECORDS, 4 * BOOK_RECORDS]);
         let grant = |_| {
             let tag = self.near_front(&KNOWN_TAGS);
             let issuer = format!("x{}", self.below(issuers));
@@ -219,9 +219,9 @@ impl Generator {
         value
     }
 
-    /// What stands behind the `;` of a value: no parameter, or one or two that mostly fit.
+    /// What stands behind the `;` of a value: no parameter, or up to three that mostly fit.
     fn parameters(&mut self) -> Vec<u8> {
-        let count = self.near_front(&[1, 2, 0]);
+        let count = self.near_front(&[1, 2, 3, 0]);
         let mut text = self.one_of(&BLANKS).to_vec();
         for number in 0..count {
             if number > 0 {
@@ -238,12 +238,26 @@ impl Generator {
     }
 
     fn parameter(&mut self) -> Vec<u8> {
-        let tag = match self.below(6) {
-            0 => self.one_of(&WRONG_PARAMETER_TAGS),
+        match self.below(12) {
+            0..=6 => self.other_parameter(),
+            7 => self.nearly_limit(),
+            _ => self.limit(),
+        }
+    }
+
+    /// One that limits nothing, with a tag that mostly fits.
+    pub(super) fn other_parameter(&mut self) -> Vec<u8> {
+        let tag = match self.below(4) {
+            0 => self.near_front(&WRONG_PARAMETER_TAGS),
             _ => self.one_of(&PARAMETER_TAGS),
         };
         let value = self.one_of(&PARAMETER_VALUES);
-        let [before, behind] = [(); 2].map(|()| self.one_of(&BLANKS));
+        let [before, behind] = [(); 2].map(|()| self.blanks());
         [tag, before, b"=", behind, value].concat()
+    }
+
+    /// None, one or two.
+    pub(super) fn blanks(&mut self) -> &'static [u8] {
+        self.one_of(&BLANKS)
     }
 }

@@ -10,6 +10,8 @@ use crate::limits::{LABEL_OCTETS, NAME_OCTETS, REQUEST_NAMES, REQUEST_OCTETS};
 pub struct Inputs {
     pub request: Vec<u8>,
     pub issuer: Vec<u8>,
+    pub account: Vec<u8>,
+    pub method: Vec<u8>,
     pub book: Vec<u8>,
     pub buffer: Vec<u8>,
 }
@@ -17,6 +19,7 @@ pub struct Inputs {
 impl Generator {
     /// Inputs of any kind: mostly good, else damaged, too long or too many.
     pub fn inputs(&mut self) -> Inputs {
+        let (mut account, mut method) = (self.any_account(), self.any_method());
         let (request, book, issuer) = match self.below(24) {
             0..=3 => {
                 let (request, book) = self.deep_request_and_book();
@@ -28,6 +31,18 @@ impl Generator {
                 self.book_of_long_issuers(),
                 self.issuer_around_limit(),
             ),
+            // The same for accounts and methods.
+            5 => {
+                (account, method) = (self.text_around_limit(), self.text_around_limit());
+                let issuer = self.issuer();
+                (self.request(), self.book_of_long_limits(&issuer), issuer)
+            }
+            // Limits that are met by issuer, account and method, or nearly.
+            6..=8 => {
+                let issuer = self.issuer();
+                let book = self.book_of_limits(&issuer, &account, &method);
+                (self.request(), book, issuer)
+            }
             _ => (self.any_request(), self.any_book(), self.any_issuer()),
         };
         let room = if self.once_in(4) {
@@ -38,6 +53,8 @@ impl Generator {
         Inputs {
             request,
             issuer,
+            account,
+            method,
             book,
             buffer: self.buffer(room),
         }
@@ -69,9 +86,9 @@ impl Generator {
                 let rdata = self.caa_data();
                 [self.book(), self.record_of(owner, 257, 1, &rdata)].concat()
             }
-            8 | 9 => self.crowded_book(),
-            10 => self.book_of_long_list(),
-            11 | 12 => self.book_with_wrong_tag(),
+            8..=10 => self.crowded_book(),
+            11 => self.book_of_long_list(),
+            12 | 13 => self.book_with_wrong_tag(),
             _ => self.book(),
         }
     }
@@ -132,6 +149,11 @@ mod tests {
             assert!(crate::read_request(&generator.request()).is_ok());
             assert!(crate::read_book(&generator.book()).is_ok());
             assert!(crate::read_issuer(&generator.issuer()).is_ok());
+            let (account, method) = (generator.account(), generator.method());
+            assert!(crate::read_applicant(&account, &method).is_ok());
+            let book = generator.book_of_limits(b"x", &account, &method);
+            assert!(crate::read_book(&book).is_ok());
+            assert!(crate::read_book(&generator.book_of_long_limits(b"x")).is_ok());
         }
     }
 }

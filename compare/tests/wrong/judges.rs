@@ -2,7 +2,7 @@
 
 use compare::against::Other;
 use compare::calls::Judge;
-use compare::limits::{BOOK_OCTETS, ISSUER_OCTETS, REQUEST_OCTETS};
+use compare::limits::{APPLICANT_OCTETS, BOOK_OCTETS, ISSUER_OCTETS, REQUEST_OCTETS};
 use compare::{judge, Answer, Refusal, Word};
 
 use super::cut::{self, first_names, first_records, names_within, records_within};
@@ -14,9 +14,10 @@ const TOO_LONG_A_BOOK: usize = BOOK_OCTETS + 1;
 #[test]
 fn wrong_judges_are_found_out() {
     let wrong_ones: [Judge; 9] = [
-        |_, _, _| Ok(Answer::Permitted),
-        |_, _, _| Err(Word::number(99)),
-        |request, issuer, book| match judge(request, issuer, book) {
+        |_, _, _, _, _| Ok(Answer::Permitted),
+        |_, _, _, _, _| Err(Word::number(99)),
+        |request, issuer, account, method, book| match judge(request, issuer, account, method, book)
+        {
             Answer::NotGranted { name, record } => Ok(Answer::NotGranted {
                 name: record,
                 record: name,
@@ -24,32 +25,36 @@ fn wrong_judges_are_found_out() {
             other => Ok(other),
         },
         // Looks at the issuer name last.
-        |request, issuer, book| match judge(request, b"x", book) {
+        |request, issuer, account, method, book| match judge(request, b"x", account, method, book) {
             Answer::Refused(refusal) => Ok(Answer::Refused(refusal)),
-            _ => Ok(judge(request, issuer, book)),
+            _ => Ok(judge(request, issuer, account, method, book)),
         },
-        |request, issuer, book| match judge(request, issuer, book) {
+        |request, issuer, account, method, book| match judge(request, issuer, account, method, book)
+        {
             Answer::Refused(Refusal::TooManyRecords { .. }) => Ok(Answer::Permitted),
             other => Ok(other),
         },
-        |request, issuer, book| match judge(request, issuer, book) {
+        |request, issuer, account, method, book| match judge(request, issuer, account, method, book)
+        {
             Answer::Refused(Refusal::TooManyNames { .. }) => Ok(Answer::Permitted),
             other => Ok(other),
         },
         // Refuses only what is an octet longer.
-        |request, issuer, book| match request.len() {
+        |request, issuer, account, method, book| match request.len() {
             TOO_LONG_A_REQUEST => Ok(Answer::Permitted),
-            _ => Ok(judge(request, issuer, book)),
+            _ => Ok(judge(request, issuer, account, method, book)),
         },
-        |request, issuer, book| match book.len() {
+        |request, issuer, account, method, book| match book.len() {
             TOO_LONG_A_BOOK => Ok(Answer::Permitted),
-            _ => Ok(judge(request, issuer, book)),
+            _ => Ok(judge(request, issuer, account, method, book)),
         },
         // Looks at no more of the issuer name than may be there.
-        |request, issuer, book| {
+        |request, issuer, account, method, book| {
             Ok(judge(
                 request,
                 &issuer[..issuer.len().min(ISSUER_OCTETS)],
+                account,
+                method,
                 book,
             ))
         },
@@ -60,28 +65,53 @@ fn wrong_judges_are_found_out() {
 #[test]
 fn judges_that_leave_out_what_stands_far_behind_are_found_out() {
     all_are_found_out(&[
-        |request, issuer, book| {
-            unless_refused(judge(request, issuer, book), || {
-                judge(first_names(request, cut::NAMES), issuer, book)
+        |request, issuer, account, method, book| {
+            unless_refused(judge(request, issuer, account, method, book), || {
+                judge(
+                    first_names(request, cut::NAMES),
+                    issuer,
+                    account,
+                    method,
+                    book,
+                )
             })
         },
-        |request, issuer, book| {
-            unless_refused(judge(request, issuer, book), || {
-                judge(names_within(request, cut::REQUEST_OCTETS), issuer, book)
+        |request, issuer, account, method, book| {
+            unless_refused(judge(request, issuer, account, method, book), || {
+                judge(
+                    names_within(request, cut::REQUEST_OCTETS),
+                    issuer,
+                    account,
+                    method,
+                    book,
+                )
             })
         },
-        |request, issuer, book| {
-            unless_refused(judge(request, issuer, book), || {
-                judge(request, issuer, first_records(book, cut::RECORDS))
+        |request, issuer, account, method, book| {
+            unless_refused(judge(request, issuer, account, method, book), || {
+                judge(
+                    request,
+                    issuer,
+                    account,
+                    method,
+                    first_records(book, cut::RECORDS),
+                )
             })
         },
-        |request, issuer, book| {
-            unless_refused(judge(request, issuer, book), || {
-                judge(request, issuer, records_within(book, cut::BOOK_OCTETS))
+        |request, issuer, account, method, book| {
+            unless_refused(judge(request, issuer, account, method, book), || {
+                judge(
+                    request,
+                    issuer,
+                    account,
+                    method,
+                    records_within(book, cut::BOOK_OCTETS),
+                )
             })
         },
         // Keeps a record number in one octet.
-        |request, issuer, book| match judge(request, issuer, book) {
+        |request, issuer, account, method, book| match judge(request, issuer, account, method, book)
+        {
             Answer::NotGranted { name, record } => Ok(Answer::NotGranted {
                 name,
                 record: record % 256,
@@ -89,13 +119,15 @@ fn judges_that_leave_out_what_stands_far_behind_are_found_out() {
             other => Ok(other),
         },
         // Keeps the places of two refusals where they were.
-        |request, issuer, book| match judge(request, issuer, book) {
+        |request, issuer, account, method, book| match judge(request, issuer, account, method, book)
+        {
             Answer::Refused(Refusal::TooManyNames { .. }) => {
                 Ok(Answer::Refused(Refusal::TooManyNames { read: cut::NAMES }))
             }
             other => Ok(other),
         },
-        |request, issuer, book| match judge(request, issuer, book) {
+        |request, issuer, account, method, book| match judge(request, issuer, account, method, book)
+        {
             Answer::Refused(Refusal::TooManyRecords { .. }) => {
                 let read = cut::RECORDS;
                 Ok(Answer::Refused(Refusal::TooManyRecords { read }))
@@ -103,6 +135,168 @@ fn judges_that_leave_out_what_stands_far_behind_are_found_out() {
             other => Ok(other),
         },
     ]);
+}
+
+#[test]
+fn judges_that_check_account_or_method_wrongly_are_found_out() {
+    all_are_found_out(&[
+        |request, issuer, _, method, book| Ok(judge(request, issuer, b"u", method, book)),
+        |request, issuer, account, _, book| Ok(judge(request, issuer, account, b"m", book)),
+        |request, issuer, account, method, book| Ok(judge(request, issuer, method, account, book)),
+        // Looks at them before the issuer name.
+        |request, issuer, account, method, book| match judge(request, b"x", account, method, book) {
+            Answer::Refused(Refusal::BadApplicant) => Ok(Answer::Refused(Refusal::BadApplicant)),
+            _ => Ok(judge(request, issuer, account, method, book)),
+        },
+        // Looks at them before the request.
+        |request, issuer, account, method, book| match judge(
+            b"\x01a\x00",
+            b"x",
+            account,
+            method,
+            b"",
+        ) {
+            Answer::Permitted => Ok(judge(request, issuer, account, method, book)),
+            refused => Ok(refused),
+        },
+        // Looks at them last.
+        |request, issuer, account, method, book| match judge(request, issuer, b"u", b"m", book) {
+            refused @ Answer::Refused(_) => Ok(refused),
+            _ => Ok(judge(request, issuer, account, method, book)),
+        },
+        // Gives the number of the issuer name.
+        |request, issuer, account, method, book| match judge(request, issuer, account, method, book)
+        {
+            Answer::Refused(Refusal::BadApplicant) => Ok(Answer::Refused(Refusal::BadIssuer)),
+            other => Ok(other),
+        },
+        // Takes one that is empty.
+        |request, issuer, account, method, book| {
+            let account = if account.is_empty() { b"u" } else { account };
+            Ok(judge(request, issuer, account, method, book))
+        },
+        |request, issuer, account, method, book| {
+            let method = if method.is_empty() { b"m" } else { method };
+            Ok(judge(request, issuer, account, method, book))
+        },
+        // Takes one that is an octet too long.
+        |request, issuer, account, method, book| {
+            let account = &account[..account.len().min(APPLICANT_OCTETS)];
+            Ok(judge(request, issuer, account, method, book))
+        },
+        |request, issuer, account, method, book| {
+            let method = &method[..method.len().min(APPLICANT_OCTETS)];
+            Ok(judge(request, issuer, account, method, book))
+        },
+        // Takes none that is as long as may be.
+        |request, issuer, account, method, book| {
+            let account = if account.len() == APPLICANT_OCTETS {
+                b""
+            } else {
+                account
+            };
+            Ok(judge(request, issuer, account, method, book))
+        },
+        |request, issuer, account, method, book| {
+            let method = if method.len() == APPLICANT_OCTETS {
+                b""
+            } else {
+                method
+            };
+            Ok(judge(request, issuer, account, method, book))
+        },
+        // Takes no comma in an account.
+        |request, issuer, account, method, book| {
+            let account = if account.contains(&b',') {
+                b""
+            } else {
+                account
+            };
+            Ok(judge(request, issuer, account, method, book))
+        },
+        // Takes a comma in a method, and a semicolon, a blank, a line end, octet 127 and octets from
+        // 128 on in both.
+        |request, issuer, account, method, book| {
+            Ok(judge(
+                request,
+                issuer,
+                account,
+                &without(method, |o| o == b','),
+                book,
+            ))
+        },
+        |request, issuer, account, method, book| {
+            Ok(judge(
+                request,
+                issuer,
+                &without(account, |o| o == b';'),
+                method,
+                book,
+            ))
+        },
+        |request, issuer, account, method, book| {
+            Ok(judge(
+                request,
+                issuer,
+                account,
+                &without(method, |o| o == b';'),
+                book,
+            ))
+        },
+        |request, issuer, account, method, book| {
+            Ok(judge(
+                request,
+                issuer,
+                &without(account, |o| o == b' '),
+                method,
+                book,
+            ))
+        },
+        |request, issuer, account, method, book| {
+            Ok(judge(
+                request,
+                issuer,
+                account,
+                &without(method, |o| o == b'\t'),
+                book,
+            ))
+        },
+        |request, issuer, account, method, book| {
+            Ok(judge(
+                request,
+                issuer,
+                &without(account, |o| o == b'\n'),
+                method,
+                book,
+            ))
+        },
+        |request, issuer, account, method, book| {
+            Ok(judge(
+                request,
+                issuer,
+                account,
+                &without(method, |o| o == 127),
+                book,
+            ))
+        },
+        |request, issuer, account, method, book| {
+            Ok(judge(
+                request,
+                issuer,
+                &without(account, |o| o >= 128),
+                method,
+                book,
+            ))
+        },
+    ]);
+}
+
+/// The text without these octets.
+fn without(text: &[u8], is_left_out: fn(u8) -> bool) -> Vec<u8> {
+    text.iter()
+        .copied()
+        .filter(|&octet| !is_left_out(octet))
+        .collect()
 }
 
 fn all_are_found_out(wrong_ones: &[Judge]) {

@@ -10,29 +10,43 @@ use super::is_found_at_random;
 #[test]
 fn wrong_lists_are_found_out() {
     let wrong_ones: [PermittedIssuers; 6] = [
-        |request, book, buffer| Ok(permitted_issuers(request, book, &mut buffer.to_vec())),
-        |_, _, _| Err(Word::number(0)),
+        |request, account, method, book, buffer| {
+            Ok(permitted_issuers(
+                request,
+                account,
+                method,
+                book,
+                &mut buffer.to_vec(),
+            ))
+        },
+        |_, _, _, _, _| Err(Word::number(0)),
         // Wants one octet more than it needs.
-        |request, book, buffer| match permitted_issuers(request, book, &mut buffer.to_vec()) {
+        |request, account, method, book, buffer| match permitted_issuers(
+            request,
+            account,
+            method,
+            book,
+            &mut buffer.to_vec(),
+        ) {
             Permitted::List { octets, .. } if octets > 0 && octets == buffer.len() => {
                 let needed = octets;
                 Ok(Permitted::Refused(Refusal::BufferTooShort { needed }))
             }
-            _ => Ok(permitted_issuers(request, book, buffer)),
+            _ => Ok(permitted_issuers(request, account, method, book, buffer)),
         },
         // Writes what it has room for and then refuses.
-        |request, book, buffer| {
-            let answer = permitted_issuers(request, book, buffer);
+        |request, account, method, book, buffer| {
+            let answer = permitted_issuers(request, account, method, book, buffer);
             if let Permitted::Refused(Refusal::BufferTooShort { .. }) = answer {
                 let mut room = vec![0; book.len()];
-                permitted_issuers(request, book, &mut room);
+                permitted_issuers(request, account, method, book, &mut room);
                 buffer.copy_from_slice(&room[..buffer.len()]);
             }
             Ok(answer)
         },
         // Clears the octet behind the list.
-        |request, book, buffer| {
-            let answer = permitted_issuers(request, book, buffer);
+        |request, account, method, book, buffer| {
+            let answer = permitted_issuers(request, account, method, book, buffer);
             if let Permitted::List { octets, .. } = answer {
                 if let Some(octet) = buffer.get_mut(octets) {
                     *octet = 0;
@@ -41,8 +55,8 @@ fn wrong_lists_are_found_out() {
             Ok(answer)
         },
         // Keeps upper case.
-        |request, book, buffer| {
-            let answer = permitted_issuers(request, book, buffer);
+        |request, account, method, book, buffer| {
+            let answer = permitted_issuers(request, account, method, book, buffer);
             if let (Permitted::List { octets: 1.., .. }, Some(octet)) = (answer, buffer.get_mut(1))
             {
                 octet.make_ascii_uppercase();
@@ -56,36 +70,38 @@ fn wrong_lists_are_found_out() {
 #[test]
 fn lists_that_leave_out_what_stands_far_behind_are_found_out() {
     all_are_found_out(&[
-        |request, book, buffer| {
+        |request, account, method, book, buffer| {
             let request = match is_refused(request, book) {
                 true => request,
                 false => first_names(request, cut::NAMES),
             };
-            Ok(permitted_issuers(request, book, buffer))
+            Ok(permitted_issuers(request, account, method, book, buffer))
         },
-        |request, book, buffer| {
+        |request, account, method, book, buffer| {
             let request = match is_refused(request, book) {
                 true => request,
                 false => names_within(request, cut::REQUEST_OCTETS),
             };
-            Ok(permitted_issuers(request, book, buffer))
+            Ok(permitted_issuers(request, account, method, book, buffer))
         },
-        |request, book, buffer| {
+        |request, account, method, book, buffer| {
             let book = match is_refused(request, book) {
                 true => book,
                 false => first_records(book, cut::RECORDS),
             };
-            Ok(permitted_issuers(request, book, buffer))
+            Ok(permitted_issuers(request, account, method, book, buffer))
         },
-        |request, book, buffer| {
+        |request, account, method, book, buffer| {
             let book = match is_refused(request, book) {
                 true => book,
                 false => records_within(book, cut::BOOK_OCTETS),
             };
-            Ok(permitted_issuers(request, book, buffer))
+            Ok(permitted_issuers(request, account, method, book, buffer))
         },
         // Keeps the count in one octet.
-        |request, book, buffer| match permitted_issuers(request, book, buffer) {
+        |request, account, method, book, buffer| match permitted_issuers(
+            request, account, method, book, buffer,
+        ) {
             Permitted::List { count, octets } => Ok(Permitted::List {
                 count: count % 256,
                 octets,
@@ -93,12 +109,65 @@ fn lists_that_leave_out_what_stands_far_behind_are_found_out() {
             other => Ok(other),
         },
         // Keeps the octets in 15 bits.
-        |request, book, buffer| match permitted_issuers(request, book, buffer) {
+        |request, account, method, book, buffer| match permitted_issuers(
+            request, account, method, book, buffer,
+        ) {
             Permitted::List { count, octets } => Ok(Permitted::List {
                 count,
                 octets: octets % 32_768,
             }),
             other => Ok(other),
+        },
+    ]);
+}
+
+#[test]
+fn lists_that_check_account_or_method_wrongly_are_found_out() {
+    all_are_found_out(&[
+        |request, _, method, book, buffer| {
+            Ok(permitted_issuers(request, b"u", method, book, buffer))
+        },
+        |request, account, _, book, buffer| {
+            Ok(permitted_issuers(request, account, b"m", book, buffer))
+        },
+        |request, account, method, book, buffer| {
+            Ok(permitted_issuers(request, method, account, book, buffer))
+        },
+        // Looks at them before the request.
+        |request, account, method, book, buffer| match permitted_issuers(
+            b"\x01a\x00",
+            account,
+            method,
+            b"",
+            &mut [],
+        ) {
+            refused @ Permitted::Refused(_) => Ok(refused),
+            _ => Ok(permitted_issuers(request, account, method, book, buffer)),
+        },
+        // Looks at them behind the book.
+        |request, account, method, book, buffer| match is_refused(request, book) {
+            true => Ok(permitted_issuers(request, b"u", b"m", book, buffer)),
+            false => Ok(permitted_issuers(request, account, method, book, buffer)),
+        },
+        // Looks at them only where there is something to grant.
+        |request, account, method, book, buffer| match permitted_issuers(
+            request,
+            b"u",
+            b"m",
+            book,
+            &mut [],
+        ) {
+            Permitted::Anyone => Ok(Permitted::Anyone),
+            _ => Ok(permitted_issuers(request, account, method, book, buffer)),
+        },
+        // Takes an empty account, and a comma in a method.
+        |request, account, method, book, buffer| {
+            let account = if account.is_empty() { b"u" } else { account };
+            Ok(permitted_issuers(request, account, method, book, buffer))
+        },
+        |request, account, method, book, buffer| {
+            let method: Vec<u8> = method.iter().copied().filter(|&o| o != b',').collect();
+            Ok(permitted_issuers(request, account, &method, book, buffer))
         },
     ]);
 }

@@ -13,6 +13,7 @@ use Rattle.spec_octets.proofs.SelectedLists.{selects-all}
 use Rattle.spec_record.specs.declared.PropertyTag.{PropertyTag}
 use Rattle.spec_record.specs.declared.PropertyTag.the-variants.{Issue, IssueWild}
 use Rattle.spec_record.specs.Property.{property}
+use Rattle.spec_applicant.specs.Applicant.{Applicant}
 use Rattle.spec_rule.specs.RelevantSet.{CaaRecord, Lookup, empty, found, relevantSet}
 use Rattle.spec_rule.specs.Authorizations.{Authorization, unrestricted, granted, isUnknownCritical, isIssue, isIssueWild, isGrantee, consSome, orElse, governing, grantees, governedBy as ruleGovernedBy, unlessForbidden, authorizationFrom}
 use Rattle.read_grantee.specs.Places.{granteeOfData}
@@ -45,7 +46,7 @@ tells-issuewild : Tells (dataHasTag IssueWild) isIssueWild
 unfolding dataHasTag
 tells-issuewild d c e = rw e
 
-module _ (book table links : List ℕ) where
+module _ (who : Applicant) (book table links : List ℕ) where
   -- the records that pass, by their numbers and by the rule
   select-numbers :
       (q : List ℕ → Bool) (p : CaaRecord → Bool) → Tells q p → (cs : List CaaRecord) → All (Holds book table) cs →
@@ -58,9 +59,9 @@ module _ (book table links : List ℕ) where
       kept true = refl
       kept false = refl
 
-  grantees-told : (cs : List CaaRecord) → All (Holds book table) cs → granteesAt book table links (numbersOf cs) ≡ grantees cs
+  grantees-told : (cs : List CaaRecord) → All (Holds book table) cs → granteesAt who book table links (numbersOf cs) ≡ grantees who cs
   grantees-told [] all-nil = refl
-  grantees-told (c ∷ cs) (all-cons h hs) = rw (grantee-of-data (dataAt book table (c .number)) .0 c h, grantees-told cs hs)
+  grantees-told (c ∷ cs) (all-cons h hs) = rw (grantee-of-data who (dataAt book table (c .number)) .0 c h, grantees-told cs hs)
 
   -- the set cs that is named by its first record
   module _ (first : RecordNo) (cs : List CaaRecord) (set : setAt book table links (first .0) ≡ numbersOf cs) (all : All (Holds book table) cs) where
@@ -75,7 +76,7 @@ module _ (book table links : List ℕ) where
       unfolding firstTagged
       first-tagged = rw (in-set (dataHasTag tag) p tells) (first-numbers (select p cs))
 
-      tag-grantees : setGrantees book table links tag (first .0) ≡ grantees (select p cs)
+      tag-grantees : setGrantees who book table links tag (first .0) ≡ grantees who (select p cs)
       unfolding setGrantees
       tag-grantees = rw (in-set (dataHasTag tag) p tells) (grantees-told (select p cs) (selected-hold p))
 
@@ -85,9 +86,9 @@ module _ (book table links : List ℕ) where
 
     -- records with the tag govern if there are any
     governs :
-        (tag : PropertyTag) (gs others : List CaaRecord) (otherwise : NameAuthorization) → setGrantees book table links tag (first .0) ≡ grantees gs →
-        meaning book table links otherwise ≡ ruleGovernedBy others →
-        meaning book table links (governedBy book table links first tag (firstNumber gs) otherwise) ≡ ruleGovernedBy (orElse gs others)
+        (tag : PropertyTag) (gs others : List CaaRecord) (otherwise : NameAuthorization) → setGrantees who book table links tag (first .0) ≡ grantees who gs →
+        meaning who book table links otherwise ≡ ruleGovernedBy who others →
+        meaning who book table links (governedBy book table links first tag (firstNumber gs) otherwise) ≡ ruleGovernedBy who (orElse gs others)
     governs tag [] others otherwise e f = f
     governs tag (g ∷ gs) others otherwise e f = ap (granted (g .number)) e
 
@@ -95,12 +96,12 @@ module _ (book table links : List ℕ) where
     or-nothing [] = refl
     or-nothing (g ∷ gs) = refl
 
-    by-issue : meaning book table links (byIssue book table links first) ≡ ruleGovernedBy (select isIssue cs)
+    by-issue : meaning who book table links (byIssue book table links first) ≡ ruleGovernedBy who (select isIssue cs)
     by-issue =
         rw (first-tagged Issue isIssue tells-issue)
-        (governs Issue (select isIssue cs) [] Unrestricted (tag-grantees Issue isIssue tells-issue) refl ∙ ap ruleGovernedBy (or-nothing (select isIssue cs)))
+        (governs Issue (select isIssue cs) [] Unrestricted (tag-grantees Issue isIssue tells-issue) refl ∙ ap (ruleGovernedBy who) (or-nothing (select isIssue cs)))
 
-    by-tags : (wildcard : Bool) → meaning book table links (byTags book table links wildcard first) ≡ ruleGovernedBy (governing wildcard cs)
+    by-tags : (wildcard : Bool) → meaning who book table links (byTags book table links wildcard first) ≡ ruleGovernedBy who (governing wildcard cs)
     unfolding governing
     by-tags false = by-issue
     by-tags true =
@@ -108,23 +109,23 @@ module _ (book table links : List ℕ) where
         (governs IssueWild (select isIssueWild cs) (select isIssue cs) (byIssue book table links first) (tag-grantees IssueWild isIssueWild tells-issuewild) by-issue)
 
     unless-critical :
-        (us : List CaaRecord) (n : NameAuthorization) (a : Authorization) → meaning book table links n ≡ a →
-        meaning book table links (unlessCritical book table links (firstNumber us) n) ≡ unlessForbidden us a
+        (us : List CaaRecord) (n : NameAuthorization) (a : Authorization) → meaning who book table links n ≡ a →
+        meaning who book table links (unlessCritical book table links (firstNumber us) n) ≡ unlessForbidden us a
     unless-critical [] n a e = e
     unless-critical (u ∷ us) n a e = refl
 
-    by-set : (wildcard : Bool) → meaning book table links (bySet book table links wildcard (At first)) ≡ authorizationFrom wildcard (found cs)
+    by-set : (wildcard : Bool) → meaning who book table links (bySet book table links wildcard (At first)) ≡ authorizationFrom who wildcard (found cs)
     unfolding setAuthorization
     by-set wildcard = rw first-critical (unless-critical (select isUnknownCritical cs) _ _ (by-tags wildcard))
 
-  nothing-governs : (wildcard : Bool) → unrestricted ≡ authorizationFrom wildcard (found [])
+  nothing-governs : (wildcard : Bool) → unrestricted ≡ authorizationFrom who wildcard (found [])
   unfolding governing
   nothing-governs true = refl
   nothing-governs false = refl
 
   found-means :
       (wildcard : Bool) (l : Lookup) (o : FirstRecord) → Finds book table links l o → All (Holds book table) (recordsIn l) →
-      meaning book table links (bySet book table links wildcard o) ≡ authorizationFrom wildcard l
+      meaning who book table links (bySet book table links wildcard o) ≡ authorizationFrom who wildcard l
   found-means wildcard empty Nothing f all = refl
   found-means wildcard empty (At r) f all = let e = f .first in let z : _≡_ {A = ℕ} 0 1 = cc in absurd (omega arith)
   found-means wildcard (found []) Nothing f all = nothing-governs wildcard
@@ -133,22 +134,22 @@ module _ (book table links : List ℕ) where
 
   -- whom records grant, one by one and together
   any-grantees :
-      (d is : List ℕ) → any (λ i. isGrantee d (granteeOfData (dataAt book table i))) is ≡ any (same d) (granteesAt book table links is)
+      (d is : List ℕ) → any (λ i. isGrantee d (granteeOfData who (dataAt book table i))) is ≡ any (same d) (granteesAt who book table links is)
   any-grantees d [] = refl
-  any-grantees d (i ∷ is) = one (granteeOfData (dataAt book table i)) (any-grantees d is)
+  any-grantees d (i ∷ is) = one (granteeOfData who (dataAt book table i)) (any-grantees d is)
     where
       one :
-          (o : Option (List ℕ)) → any (λ i. isGrantee d (granteeOfData (dataAt book table i))) is ≡ any (same d) (granteesAt book table links is) →
-          isGrantee d o || any (λ i. isGrantee d (granteeOfData (dataAt book table i))) is ≡ any (same d) (consSome o (granteesAt book table links is))
+          (o : Option (List ℕ)) → any (λ i. isGrantee d (granteeOfData who (dataAt book table i))) is ≡ any (same d) (granteesAt who book table links is) →
+          isGrantee d o || any (λ i. isGrantee d (granteeOfData who (dataAt book table i))) is ≡ any (same d) (consSome o (granteesAt who book table links is))
       one none e = e
       one (some n) e = ap (_||_ (same d n)) e
 
 pub authorization-by-offset : Authorization-by-offset
 unfolding nameAuthorization
-authorization-by-offset book x wildcard accepted good =
-    found-means book (tableOf book) (chainsOf book .links) wildcard (relevantSet (caas book accepted) x) _ (climb-by-offset book x accepted good)
+authorization-by-offset who book x wildcard accepted good =
+    found-means who book (tableOf book) (chainsOf book .links) wildcard (relevantSet (caas book accepted) x) _ (climb-by-offset book x accepted good)
     (relevant-have (Holds book (tableOf book)) (caas book accepted) (caas-hold book accepted) x)
 
 pub set-grants : Set-grants
 unfolding setGrants setGrantees dataGrants
-set-grants book table links issuer tag first = any-grantees book table links (lowered issuer) (inSet (dataHasTag tag) book table links first)
+set-grants who book table links issuer tag first = any-grantees who book table links (lowered issuer) (inSet (dataHasTag tag) book table links first)

@@ -40,5 +40,5 @@ tests-of-data d = (
       λ h. and-eq-true-iff (isCritical p) (isUnknownTag (tagOf (p .tag))) .1 (h .0, same-tag Unknown (tagOf (p .tag)) .1 (h .1)),
     ),
   ),
-  λ e. (λ tag. rw e, rw e, λ issuer. rw (grantee-of-data d .1 e)),
+  λ e. (λ tag. rw e, rw e, λ who issuer. rw (grantee-of-data who d .1 e)),
 )

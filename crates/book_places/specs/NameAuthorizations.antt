@@ -8,6 +8,7 @@ use lib.Dec.{eqb}
 use Rattle.spec_refusal.specs.declared.RecordNo.{RecordNo}
 use Rattle.spec_record.specs.declared.PropertyTag.{PropertyTag}
 use Rattle.spec_record.specs.declared.PropertyTag.the-variants.{Issue, IssueWild}
+use Rattle.spec_applicant.specs.Applicant.{Applicant}
 use Rattle.spec_rule.specs.Authorizations.{Authorization, unrestricted, forbidden, granted, consSome}
 use Rattle.read_grantee.specs.Places.{granteeOfData}
 use Rattle.book_places.specs.declared.FirstRecord.{FirstRecord}
@@ -59,10 +60,11 @@ module _ (book table links : List ℕ) where
   unfoldable pub nameAuthorization : List ℕ → List ℕ → Bool → NameAuthorization
   nameAuthorization heads x wildcard = bySet wildcard (nearestRecord book table links heads x)
 
-  -- The issuers that a list of records grants, in the order of the records.
+module _ (who : Applicant) (book table links : List ℕ) where
+  -- The issuers that a list of records grants to the applicant, in the order of the records.
   abbrev pub granteesAt : List ℕ → List (List ℕ)
   granteesAt [] = []
-  granteesAt (i ∷ is) = consSome (granteeOfData (dataAt book table i)) (granteesAt is)
+  granteesAt (i ∷ is) = consSome (granteeOfData who (dataAt book table i)) (granteesAt is)
 
   -- The issuers that the records of a set with this tag grant.
   unfoldable pub setGrantees : PropertyTag → ℕ → List (List ℕ)

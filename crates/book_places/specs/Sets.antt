@@ -13,6 +13,7 @@ use Rattle.read_name.specs.Places.{parentPlace}
 use Rattle.spec_record.specs.declared.PropertyTag.{PropertyTag}
 use Rattle.spec_record.specs.declared.PropertyTag.the-variants.{Issue, IssueWild, Iodef, Unknown}
 use Rattle.spec_record.specs.Property.{Property, property, tagOf, isCritical}
+use Rattle.spec_applicant.specs.Applicant.{Applicant}
 use Rattle.spec_rule.specs.Authorizations.{isIssueTag, isIssueWildTag, isUnknownTag, isGrantee}
 use Rattle.read_grantee.specs.Places.{granteeOfData}
 use Rattle.book_places.specs.declared.FirstRecord.{FirstRecord}
@@ -68,7 +69,7 @@ sameTag Iodef Iodef = true
 sameTag Iodef Unknown = false
 sameTag Unknown t = isUnknownTag t
 
--- Tests on CAA data: it has this tag; it is critical with an unknown tag; it grants this issuer. Malformed data passes none of them.
+-- Tests on CAA data: it has this tag; it is critical with an unknown tag; it grants this issuer to an applicant. Malformed data passes none of them.
 abbrev pub holdsTag : PropertyTag → Option Property → Bool
 holdsTag tag none = false
 holdsTag tag (some p) = sameTag tag (tagOf (p .tag))
@@ -83,21 +84,21 @@ holdsUnknownCritical (some p) = isCritical p && isUnknownTag (tagOf (p .tag))
 unfoldable pub dataIsUnknownCritical : List ℕ → Bool
 dataIsUnknownCritical d = holdsUnknownCritical (property d)
 
-unfoldable pub dataGrants : List ℕ → List ℕ → Bool
-dataGrants issuer d = isGrantee (lowered issuer) (granteeOfData d)
+unfoldable pub dataGrants : Applicant → List ℕ → List ℕ → Bool
+dataGrants who issuer d = isGrantee (lowered issuer) (granteeOfData who d)
 
 -- The records of a set whose data passes a test.
 abbrev pub inSet : (List ℕ → Bool) → List ℕ → List ℕ → List ℕ → ℕ → List ℕ
 inSet test book table links first = select (λ i. test (dataAt book table i)) (setAt book table links first)
 
 -- Three questions to a set: which is its first critical record with an unknown tag; which is its first record with this tag; and does any record
--- with this tag grant this issuer?
+-- with this tag grant this issuer to the applicant?
 unfoldable pub firstUnknownCritical : List ℕ → List ℕ → List ℕ → ℕ → FirstRecord
 firstUnknownCritical book table links first = firstOf (inSet dataIsUnknownCritical book table links first)
 
 unfoldable pub firstTagged : PropertyTag → List ℕ → List ℕ → List ℕ → ℕ → FirstRecord
 firstTagged tag book table links first = firstOf (inSet (dataHasTag tag) book table links first)
 
-unfoldable pub setGrants : PropertyTag → List ℕ → List ℕ → List ℕ → List ℕ → ℕ → Bool
-setGrants tag issuer book table links first =
-    any (λ i. dataGrants issuer (dataAt book table i)) (inSet (dataHasTag tag) book table links first)
+unfoldable pub setGrants : Applicant → PropertyTag → List ℕ → List ℕ → List ℕ → List ℕ → ℕ → Bool
+setGrants who tag issuer book table links first =
+    any (λ i. dataGrants who issuer (dataAt book table i)) (inSet (dataHasTag tag) book table links first)

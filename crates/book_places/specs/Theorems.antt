@@ -15,6 +15,7 @@ use Rattle.spec_record.specs.declared.PropertyTag.{PropertyTag}
 use Rattle.spec_record.specs.declared.PropertyTag.the-variants.{Issue, IssueWild, Unknown}
 use Rattle.spec_record.specs.Property.{Property, property, tagOf, isCritical}
 use Rattle.spec_record.specs.Records.{Record, isCaa, records, bookRefusal}
+use Rattle.spec_applicant.specs.Applicant.{Applicant}
 use Rattle.spec_rule.specs.RelevantSet.{CaaRecord, caaRecords, Lookup, empty, found, lookup, relevantSet}
 use Rattle.spec_rule.specs.Authorizations.{authorizationFrom}
 use Rattle.book_places.specs.Table.{tabled, roomFor, tableOf, ownerAt, dataAt, isCaaAt}
@@ -110,16 +111,16 @@ Tests-of-data =
     ((tag : PropertyTag) → (dataHasTag tag d ≡ true) ↔ (tagOf (p .tag) ≡ tag))
     × ((dataIsUnknownCritical d ≡ true) ↔ ((isCritical p ≡ true) × (tagOf (p .tag) ≡ Unknown))))
     × (property d ≡ none →
-    ((tag : PropertyTag) → dataHasTag tag d ≡ false) × (dataIsUnknownCritical d ≡ false) × ((issuer : List ℕ) → dataGrants issuer d ≡ false))
+    ((tag : PropertyTag) → dataHasTag tag d ≡ false) × (dataIsUnknownCritical d ≡ false) × ((who : Applicant) (issuer : List ℕ) → dataGrants who issuer d ≡ false))
 
 -- For an accepted book, the answer about X or *.X by table and chains is the rule's answer. They agree in the kind of answer, in the number of the
 -- record that it names, and in the issuers that the governing records grant.
 abbrev pub Authorization-by-offset : Type 0
 Authorization-by-offset =
-    (book : List ℕ) (x : Name) (wildcard : Bool) → bookRefusal book ≡ none → GoodName x →
-    meaning book (tableOf book) (chainsOf book .links)
+    (who : Applicant) (book : List ℕ) (x : Name) (wildcard : Bool) → bookRefusal book ≡ none → GoodName x →
+    meaning who book (tableOf book) (chainsOf book .links)
     (nameAuthorization book (tableOf book) (chainsOf book .links) (chainsOf book .heads) (wire x) wildcard)
-    ≡ authorizationFrom wildcard (relevantSet (caaRecords (records book)) x)
+    ≡ authorizationFrom who wildcard (relevantSet (caaRecords (records book)) x)
 
 -- The number of a question says which set is asked, and whether for X or for *.X. This holds for any table and links.
 abbrev pub Question-by-number : Type 0
@@ -138,5 +139,5 @@ Authorization-bounds =
 -- A set grants an issuer exactly when the issuer is one of the set's grantees, letter case ignored. This holds for any table and links.
 abbrev pub Set-grants : Type 0
 Set-grants =
-    (book table links issuer : List ℕ) (tag : PropertyTag) (first : ℕ) →
-    setGrants tag issuer book table links first ≡ any (same (lowered issuer)) (setGrantees book table links tag first)
+    (who : Applicant) (book table links issuer : List ℕ) (tag : PropertyTag) (first : ℕ) →
+    setGrants who tag issuer book table links first ≡ any (same (lowered issuer)) (setGrantees who book table links tag first)

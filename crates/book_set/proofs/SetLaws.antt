@@ -6,6 +6,7 @@ use mathlib.Core.List.{List}
 use Rattle.spec_octets.specs.Lists.{any}
 use Rattle.spec_refusal.specs.declared.RecordNo.{RecordNo}
 use Rattle.spec_record.specs.declared.PropertyTag.{PropertyTag}
+use Rattle.spec_applicant.specs.Applicant.{Applicant}
 use Rattle.book_places.specs.declared.FirstRecord.{FirstRecord}
 use Rattle.book_places.specs.declared.FirstRecord.the-variants.{At, Nothing}
 use Rattle.book_places.specs.Table.{ownerAt, dataAt}
@@ -56,10 +57,10 @@ module _ (tag : PropertyTag) (book table links : List ℕ) (first : ℕ) where
       unfolding firstTagged
       tagged-first = first-found (dataHasTag tag) book table links first x i left o f r g d told t s
 
--- some record with the tag grants the issuer where one of those that are left does
-module _ (tag : PropertyTag) (issuer book table links : List ℕ) (first : ℕ) where
+-- some record with the tag grants the issuer to the applicant where one of those that are left does
+module _ (who : Applicant) (tag : PropertyTag) (issuer book table links : List ℕ) (first : ℕ) where
   abbrev granting : List ℕ → Bool
-  granting = any (λ i. dataGrants issuer (dataAt book table i))
+  granting = any (λ i. dataGrants who issuer (dataAt book table i))
 
   abbrev pub GrantsLeft : List ℕ → ℕ → Type 0
   GrantsLeft = Left granting (dataHasTag tag) book table links first
@@ -68,7 +69,7 @@ module _ (tag : PropertyTag) (issuer book table links : List ℕ) (first : ℕ) 
   grants-start = set-start granting (dataHasTag tag) book table links first
 
   module _ (x : List ℕ) (i : ℕ) (left : GrantsLeft x i) (o : FirstRecord) (f : o ≡ firstOf (ownedFrom book table links x i)) where
-    pub no-grant : o ≡ Nothing → false ≡ setGrants tag issuer book table links first
+    pub no-grant : o ≡ Nothing → false ≡ setGrants who tag issuer book table links first
     unfolding setGrants
     no-grant = set-over granting (dataHasTag tag) book table links first x i left o f
 
@@ -76,13 +77,13 @@ module _ (tag : PropertyTag) (issuer book table links : List ℕ) (first : ℕ) 
       pub untagged-passed : t ≡ false → (j : ℕ) → j ≡ behind links (r .0) → GrantsLeft x j
       untagged-passed e j b = rw b (set-passed granting (dataHasTag tag) book table links first x i left o f r g d told t s e)
 
-      module _ (e : t ≡ true) (b : Bool) (h : b ≡ dataGrants issuer d) where
+      module _ (e : t ≡ true) (b : Bool) (h : b ≡ dataGrants who issuer d) where
         tested :
             granting (inSet (dataHasTag tag) book table links first)
             ≡ b || granting (leftFrom granting (dataHasTag tag) book table links first x (behind links (r .0)))
         tested = set-taken granting (dataHasTag tag) book table links first x i left o f r g d told t s e ∙ rw (h, told)
 
-        pub grant-found : b ≡ true → true ≡ setGrants tag issuer book table links first
+        pub grant-found : b ≡ true → true ≡ setGrants who tag issuer book table links first
         unfolding setGrants
         grant-found k = sym (tested ∙ rw k)
 

@@ -50,7 +50,7 @@ pub fn first_with_tag(
     }
 }
 
-// Whether any record of a set with this tag grants the issuer.
+// Whether any record of a set with this tag grants the issuer to the applicant.
 pub fn any_grants(
     book: &[u8],
     table: &[u16],
@@ -58,8 +58,10 @@ pub fn any_grants(
     first: usize,
     tag: PropertyTag,
     issuer: &[u8],
+    account: &[u8],
+    method: &[u8],
 ) -> bool
-    ensures { λ r. ⌜ r ≡ setGrants tag (now (issuer .entry)) (now (book .entry)) (now (table .entry)) (now (links .entry)) first ⌝ }
+    ensures { λ r. ⌜ r ≡ setGrants (record { account = now (account .entry); method = now (method .entry) }) tag (now (issuer .entry)) (now (book .entry)) (now (table .entry)) (now (links .entry)) first ⌝ }
 {
     let mut from: usize = first;
     loop {
@@ -70,7 +72,7 @@ pub fn any_grants(
         from = book_chains::behind(links, i);
         let d = book_table::data_at(book, table, i);
         if book_tests::has_tag(d, tag) {
-            if book_tests::grants(d, issuer) {
+            if book_tests::grants(d, issuer, account, method) {
                 return true;
             }
         }

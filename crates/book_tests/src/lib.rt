@@ -1,4 +1,4 @@
-// Tests on CAA data: whether it is critical with an unknown tag, whether it has a tag, and whether it grants an issuer. Malformed data passes
+// Tests on CAA data: whether it is critical with an unknown tag, whether it has a tag, and whether it grants an issuer to an applicant. Malformed data passes
 // none of them.
 use read_grantee::GranteeRead;
 use read_property::PropertyRead;
@@ -46,15 +46,19 @@ pub fn has_tag(d: &[u8], tag: PropertyTag) -> bool
     tag_number(found) == tag_number(tag)
 }
 
-// Whether CAA data grants this issuer.
-pub fn grants(d: &[u8], issuer: &[u8]) -> bool
-    ensures { λ r. ⌜ r ≡ dataGrants (now (issuer .entry)) (now (d .entry)) ⌝ }
+// Whether CAA data grants this issuer to the applicant. Limits are read only if the data names this issuer.
+pub fn grants(d: &[u8], issuer: &[u8], account: &[u8], method: &[u8]) -> bool
+    ensures { λ r. ⌜ r ≡ dataGrants (record { account = now (account .entry); method = now (method .entry) }) (now (issuer .entry)) (now (d .entry)) ⌝ }
 {
-    let GranteeRead::At(n) = read_grantee::read_grantee(d) else {
+    let GranteeRead::At(n) = read_grantee::issuer_in(d) else {
         return false;
     };
     let from = n.from;
     let to = n.to;
     let name = &d[from..to];
-    text_compare::same_ignoring_case(name, issuer)
+    if !text_compare::same_ignoring_case(name, issuer) {
+        return false;
+    }
+    let at = n.parameters;
+    read_limits::limits_met(&d[at..], account, method)
 }

@@ -8,13 +8,18 @@ pub fn put_desk_line(
     found: bool,
     request: &[u8],
     issuer: &[u8],
+    account: &[u8],
+    method: &[u8],
     book: &[u8],
     out: &mut [u8; LINE_OCTETS],
 ) -> usize
-    ensures { λ r. ⌜ Put (deskLine found (now (request .entry)) (now (issuer .entry)) (now (book .entry))) (now (out .entry)) (now (out .exit)) r ⌝ }
+    ensures { λ r. ⌜ Put (deskLine found (now (request .entry)) (now (issuer .entry)) (record { account = now (account .entry); method = now (method .entry) }) (now (book .entry))) (now (out .entry)) (now (out .exit)) r ⌝ }
 {
     if !found {
         return text_buffer::put_octets(b"no book\n", out);
     }
-    desk_judgement::put_judgement(judge_call::judge(request, issuer, book), out)
+    desk_judgement::put_judgement(
+        judge_call::judge(request, issuer, account, method, book),
+        out,
+    )
 }

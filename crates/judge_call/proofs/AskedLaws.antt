@@ -12,6 +12,7 @@ use borrow.Author.Tests.{eqb-true, eqb-false}
 use Rattle.spec_limits.specs.Limits.{maxRecords}
 use Rattle.spec_octets.proofs.ListLaws.{true-or-false}
 use Rattle.spec_refusal.specs.declared.RecordNo.{RecordNo}
+use Rattle.spec_applicant.specs.Applicant.{Applicant}
 use Rattle.spec_rule.specs.declared.Judgement.the-variants.{Permitted, UnknownCritical, NotGranted}
 use Rattle.spec_rule.specs.Authorizations.{permits}
 use Rattle.book_places.specs.declared.Governing.{Governing}
@@ -25,27 +26,27 @@ use Rattle.book_places.proofs.AuthorizationLaws.{set-grants}
 use Rattle.book_places.proofs.Questions.{question-by-number}
 use Rattle.judge_call.specs.Asked.{verdictBySet, answerPermits, Asked}
 
-module _ (issuer book table links : List ℕ) where
+module _ (who : Applicant) (issuer book table links : List ℕ) where
   -- a is what the set says
   module _ (k : ℕ) (set : RecordNo) (wildcard : Bool) (a : NameAuthorization) (d : a ≡ setAuthorization book table links wildcard set) where
-    pub by-unrestricted : a ≡ Unrestricted → Permitted ≡ verdictBySet issuer book table links k set wildcard
+    pub by-unrestricted : a ≡ Unrestricted → Permitted ≡ verdictBySet who issuer book table links k set wildcard
     unfolding verdictBySet
     by-unrestricted e = rw (← d, e)
 
     pub by-critical :
-        (rr : RecordNo) → a ≡ Forbidden rr → UnknownCritical (record { name = record { 0 = k }; rr = rr }) ≡ verdictBySet issuer book table links k set wildcard
+        (rr : RecordNo) → a ≡ Forbidden rr → UnknownCritical (record { name = record { 0 = k }; rr = rr }) ≡ verdictBySet who issuer book table links k set wildcard
     unfolding verdictBySet
     by-critical rr e = rw (← d, e)
 
-    module _ (g : Governing) (e : a ≡ Governed g) (b : Bool) (q : b ≡ setGrants (g .tag) issuer book table links (g .set .0)) where
-      pub by-grant : b ≡ true → Permitted ≡ verdictBySet issuer book table links k set wildcard
+    module _ (g : Governing) (e : a ≡ Governed g) (b : Bool) (q : b ≡ setGrants who (g .tag) issuer book table links (g .set .0)) where
+      pub by-grant : b ≡ true → Permitted ≡ verdictBySet who issuer book table links k set wildcard
       unfolding verdictBySet
-      by-grant h = rw (← d, e, ← set-grants book table links issuer (g .tag) (g .set .0), ← q, h)
+      by-grant h = rw (← d, e, ← set-grants who book table links issuer (g .tag) (g .set .0), ← q, h)
 
       pub by-no-grant :
-          b ≡ false → NotGranted (record { name = record { 0 = k }; rr = g .first }) ≡ verdictBySet issuer book table links k set wildcard
+          b ≡ false → NotGranted (record { name = record { 0 = k }; rr = g .first }) ≡ verdictBySet who issuer book table links k set wildcard
       unfolding verdictBySet
-      by-no-grant h = rw (← d, e, ← set-grants book table links issuer (g .tag) (g .set .0), ← q, h)
+      by-no-grant h = rw (← d, e, ← set-grants who book table links issuer (g .tag) (g .set .0), ← q, h)
 
   -- notes
   none-set : (m n : ℕ) → getD (replicate m false) n false ≡ false
@@ -53,29 +54,30 @@ module _ (issuer book table links : List ℕ) where
   none-set (suc m) zero = refl
   none-set (suc m) (suc n) = none-set m n
 
-  pub none-asked : (asked : List Bool) → asked ≡ replicate (2 * roomFor book) false → Asked issuer book table links asked
+  pub none-asked : (asked : List Bool) → asked ≡ replicate (2 * roomFor book) false → Asked who issuer book table links asked
   none-asked asked e = rw e (record {
     long = length-replicate (2 * roomFor book) false;
     permit = λ q f. absurd (true≢false (sym f ∙ none-set (2 * roomFor book) q));
   })
 
-  pub same-notes : (asked before : List Bool) → Asked issuer book table links asked → Asked issuer book table links before → length asked ≡ length before
+  pub same-notes :
+      (asked before : List Bool) → Asked who issuer book table links asked → Asked who issuer book table links before → length asked ≡ length before
   same-notes asked before k l = k .long ∙ sym (l .long)
 
   one-asked :
-      (asked : List Bool) → Asked issuer book table links asked → (n : ℕ) → answerPermits issuer book table links n ≡ true →
-      Asked issuer book table links (put asked n true)
+      (asked : List Bool) → Asked who issuer book table links asked → (n : ℕ) → answerPermits who issuer book table links n ≡ true →
+      Asked who issuer book table links (put asked n true)
   one-asked asked k n e = record {
     long = length-set asked n true ∙ k .long;
     permit = λ q told. ⊎-elim
-        (λ same. ap (answerPermits issuer book table links) (eqb-true q n same) ∙ e)
+        (λ same. ap (answerPermits who issuer book table links) (eqb-true q n same) ∙ e)
         (λ other. k .permit q (sym (getD-set-other asked n q true false (eqb-false q n other)) ∙ told))
         (true-or-false (eqb q n));
   }
 
   -- n is the number of the question
   module _ (set : RecordNo) (wildcard : Bool) (below : set .0 < roomFor book) (n : ℕ) (f : n ≡ questionNumber set wildcard) where
-    pub note-inside : (asked : List Bool) → Asked issuer book table links asked → n < length asked
+    pub note-inside : (asked : List Bool) → Asked who issuer book table links asked → n < length asked
     unfolding questionNumber
     note-inside asked k = rw (k .long, f) (go wildcard)
       where
@@ -88,14 +90,14 @@ module _ (issuer book table links : List ℕ) where
     answered = rw f (question-by-number book table links set wildcard (omega (arith, room-enough book .1)))
 
     pub permitted-before :
-        (asked : List Bool) → Asked issuer book table links asked → getD asked n false ≡ true →
-        permits issuer (meaning book table links (setAuthorization book table links wildcard set)) ≡ true
+        (asked : List Bool) → Asked who issuer book table links asked → getD asked n false ≡ true →
+        permits issuer (meaning who book table links (setAuthorization book table links wildcard set)) ≡ true
     unfolding answerPermits
     permitted-before asked k e = rw answered at (k .permit n e)
 
     pub now-asked :
-        (asked : List Bool) → Asked issuer book table links asked →
-        permits issuer (meaning book table links (setAuthorization book table links wildcard set)) ≡ true →
-        Asked issuer book table links (put asked n true)
+        (asked : List Bool) → Asked who issuer book table links asked →
+        permits issuer (meaning who book table links (setAuthorization book table links wildcard set)) ≡ true →
+        Asked who issuer book table links (put asked n true)
     unfolding answerPermits
     now-asked asked k e = one-asked asked k n (rw answered e)

@@ -30,6 +30,7 @@ use Rattle.read_request.proofs.RequestPlaces.{requested-there}
 use Rattle.spec_request.proofs.RequestedNames.{good-base}
 use Rattle.read_request.proofs.AcceptedNames.{NamesLeft, NextName, all-names, names-end, names-few, names-good, next-name}
 use Rattle.spec_record.specs.Records.{records}
+use Rattle.spec_applicant.specs.Applicant.{Applicant}
 use Rattle.spec_rule.specs.declared.Judgement.{Judgement}
 use Rattle.spec_rule.specs.declared.Judgement.the-variants.{Permitted, Refused}
 use Rattle.spec_rule.specs.RelevantSet.{caaRecords}
@@ -79,28 +80,28 @@ module _ (issuer : List ℕ) (k : ℕ) (behind : Judgement) where
       go false f = f
 
 -- the checks that come before
-module _ (request issuer book : List ℕ) (c : Check) (f : c ≡ checked (firstRefusal (judgeChecks request issuer book))) where
-  pub input-refused : (r : Refusal) → c ≡ CheckRefused r → Refused r ≡ judge request issuer book
+module _ (who : Applicant) (request issuer book : List ℕ) (c : Check) (f : c ≡ checked (firstRefusal (judgeChecks request issuer who book))) where
+  pub input-refused : (r : Refusal) → c ≡ CheckRefused r → Refused r ≡ judge request issuer who book
   unfolding judge
-  input-refused r g = rw (refused (firstRefusal (judgeChecks request issuer book)) f r g)
+  input-refused r g = rw (refused (firstRefusal (judgeChecks request issuer who book)) f r g)
 
-  pub none-refused : c ≡ Accepted → firstRefusal (judgeChecks request issuer book) ≡ none
-  none-refused g = accepted (firstRefusal (judgeChecks request issuer book)) f g
+  pub none-refused : c ≡ Accepted → firstRefusal (judgeChecks request issuer who book) ≡ none
+  none-refused g = accepted (firstRefusal (judgeChecks request issuer who book)) f g
 
-module _ (request issuer book table links heads : List ℕ) where
+module _ (who : Applicant) (request issuer book table links heads : List ℕ) where
   abbrev said : Name → Authorization
-  said n = authorization (caaRecords (records book)) n
+  said n = authorization who (caaRecords (records book)) n
 
   -- the loop's invariant: the names left give the answer
   pub record Judged (at k : ℕ) : Type 0 where
     pub names : List Name
     pub left : NamesLeft request at k names
-    pub answer : judge request issuer book ≡ verdictFrom k issuer (map said names)
-    pub ready : Ready request issuer book table links heads
+    pub answer : judge request issuer who book ≡ verdictFrom k issuer (map said names)
+    pub ready : Ready who request issuer book table links heads
 
-  module _ (ready : Ready request issuer book table links heads) where
-    passes : All (λ check. check ≡ none) (judgeChecks request issuer book)
-    passes = none-refuses (judgeChecks request issuer book) (ready .accepted)
+  module _ (ready : Ready who request issuer book table links heads) where
+    passes : All (λ check. check ≡ none) (judgeChecks request issuer who book)
+    passes = none-refuses (judgeChecks request issuer who book) (ready .accepted)
 
     pub names-start : (at k : ℕ) → at ≡ 0 → k ≡ 0 → Judged at k
     unfolding judge authorizations verdict
@@ -114,14 +115,14 @@ module _ (request issuer book table links heads : List ℕ) where
     -- what is said of a good name, by the table and the chains
     by-table :
         (n : Name) → GoodName n → {s : List ℕ} {wildcard : Bool} → s ≡ wire (base n) → wildcard ≡ isWildcard n →
-        meaning book table links (nameAuthorization book table links heads s wildcard) ≡ said n
+        meaning who book table links (nameAuthorization book table links heads s wildcard) ≡ said n
     unfolding authorization
     by-table n good x y =
         rw (ready .rows, ready .chained, ready .headed, x, y)
-        (authorization-by-offset book (base n) (isWildcard n) (All-head (All-tail (All-tail passes))) (good-base n good))
+        (authorization-by-offset who book (base n) (isWildcard n) (All-head (All-tail (All-tail (All-tail passes)))) (good-base n good))
 
   module _ (at k : ℕ) (w : Judged at k) where
-    pub all-passed : length request ≤ at → Permitted ≡ judge request issuer book
+    pub all-passed : length request ≤ at → Permitted ≡ judge request issuer who book
     all-passed h = sym (w .answer ∙ rw (names-end request (w .left) h))
 
     module _ (h : at < length request) where
@@ -129,7 +130,7 @@ module _ (request issuer book table links heads : List ℕ) where
       few = names-few request (w .left) h
 
       module _ (o : RequestedRead) (f : o ≡ requestedAt request at) where
-        pub no-bad-name : o ≡ Fault → Refused (BadName (record { 0 = k })) ≡ judge request issuer book
+        pub no-bad-name : o ≡ Fault → Refused (BadName (record { 0 = k })) ≡ judge request issuer who book
         no-bad-name g = absurd (names-good request (w .left) h o f g)
 
         module _ (r : Requested) (g : o ≡ Good r) where
@@ -145,16 +146,16 @@ module _ (request issuer book table links heads : List ℕ) where
             behind = verdictFrom (suc k) issuer (map said (this .others))
 
             abbrev by : FirstRecord → Authorization
-            by first = meaning book table links (bySet book table links (r .wildcard) first)
+            by first = meaning who book table links (bySet book table links (r .wildcard) first)
 
-            by-name : (first : FirstRecord) → p ≡ first → judge request issuer book ≡ cond (permits issuer (by first)) behind (denied k (by first))
+            by-name : (first : FirstRecord) → p ≡ first → judge request issuer who book ≡ cond (permits issuer (by first)) behind (denied k (by first))
             unfolding nameAuthorization
             by-name first e =
                 w .answer ∙ ap (λ ns. verdictFrom k issuer (map said ns)) (this .split)
                 ∙ ap (λ v. cond (permits issuer v) behind (denied k v))
                 (sym (ap by (sym e ∙ d) ∙ by-table (w .ready) (this .first) (this .good) (this .octets) (this .wild)))
 
-            passed : judge request issuer book ≡ behind → (k′ : ℕ) → k′ ≡ k + 1 → Judged (r .next) k′
+            passed : judge request issuer who book ≡ behind → (k′ : ℕ) → k′ ≡ k + 1 → Judged (r .next) k′
             passed e k′ i = rw (i, add-one) (record { names = this .others; left = this .after; answer = e; ready = w .ready })
 
             pub name-unrestricted : p ≡ Nothing → (k′ : ℕ) → k′ ≡ k + 1 → Judged (r .next) k′
@@ -166,29 +167,29 @@ module _ (request issuer book table links heads : List ℕ) where
                   omega (arith, rw (sym d ∙ e) at (nearest-below links book table heads (take (r .next - r .base) (drop (r .base) request))), ap length (w .ready .chained), chains-fit book .0)
 
               pub question-inside :
-                  (v : Bool) (n : ℕ) → n ≡ questionNumber set v → (asked : List Bool) → Asked issuer book table links asked → n < length asked
-              question-inside v = note-inside issuer book table links set v set-below
+                  (v : Bool) (n : ℕ) → n ≡ questionNumber set v → (asked : List Bool) → Asked who issuer book table links asked → n < length asked
+              question-inside v = note-inside who issuer book table links set v set-below
 
               permitted-passed : permits issuer (by (At set)) ≡ true → (k′ : ℕ) → k′ ≡ k + 1 → Judged (r .next) k′
               permitted-passed h = passed (by-name (At set) e ∙ rw h)
 
               -- n is the number of the question
-              module _ (n : ℕ) (i : n ≡ questionNumber set (r .wildcard)) (asked : List Bool) (notes : Asked issuer book table links asked) where
+              module _ (n : ℕ) (i : n ≡ questionNumber set (r .wildcard)) (asked : List Bool) (notes : Asked who issuer book table links asked) where
                 pub asked-before : getD asked n false ≡ true → (k′ : ℕ) → k′ ≡ k + 1 → Judged (r .next) k′
-                asked-before h = permitted-passed (permitted-before issuer book table links set (r .wildcard) set-below n i asked notes h)
+                asked-before h = permitted-passed (permitted-before who issuer book table links set (r .wildcard) set-below n i asked notes h)
 
                 -- j is the verdict by the set
-                module _ (j : Judgement) (q : j ≡ verdictBySet issuer book table links k set (r .wildcard)) where
+                module _ (j : Judgement) (q : j ≡ verdictBySet who issuer book table links k set (r .wildcard)) where
                   permitted : j ≡ Permitted → permits issuer (by (At set)) ≡ true
                   unfolding verdictBySet
                   permitted h = permits-it issuer k behind (by (At set)) (sym h ∙ q)
 
-                  pub name-denied : NotPermitted j → j ≡ judge request issuer book
+                  pub name-denied : NotPermitted j → j ≡ judge request issuer who book
                   unfolding verdictBySet
                   name-denied h = denies-it issuer k behind (by (At set)) j q h ∙ sym (by-name (At set) e)
 
                   pub name-permitted : j ≡ Permitted → (k′ : ℕ) → k′ ≡ k + 1 → Judged (r .next) k′
                   name-permitted h = permitted-passed (permitted h)
 
-                  pub name-noted : j ≡ Permitted → Asked issuer book table links (put asked n true)
-                  name-noted h = now-asked issuer book table links set (r .wildcard) set-below n i asked notes (permitted h)
+                  pub name-noted : j ≡ Permitted → Asked who issuer book table links (put asked n true)
+                  name-noted h = now-asked who issuer book table links set (r .wildcard) set-below n i asked notes (permitted h)

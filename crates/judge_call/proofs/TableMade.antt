@@ -6,6 +6,7 @@ use mathlib.Core.List.{List}
 use mathlib.Core.Option.{none}
 use lib.ListN.{length, replicate}
 use Rattle.spec_limits.specs.Limits.{maxRecords}
+use Rattle.spec_applicant.specs.Applicant.{Applicant}
 use Rattle.spec_rule.specs.Calls.{firstRefusal, judgeChecks}
 use Rattle.book_places.specs.Table.{fewRecords, shortBook}
 use Rattle.book_places.specs.Chains.{noRecord}
@@ -16,12 +17,12 @@ use Rattle.book_index.proofs.Indexed.{table-of-book, links-of-book, heads-of-bo
 use Rattle.judge_call.specs.Asked.{Ready, Asked, Lent, HeadsLent}
 use Rattle.judge_call.proofs.AskedLaws.{none-asked}
 
-module _ (request issuer book : List ℕ) where
+module _ (who : Applicant) (request issuer book : List ℕ) where
   pub made-ready :
-      (table₀ links₀ heads₀ : List ℕ) (asked : List Bool) → Lent request issuer book table₀ links₀ heads₀ asked → (table links heads : List ℕ) →
+      (table₀ links₀ heads₀ : List ℕ) (asked : List Bool) → Lent who request issuer book table₀ links₀ heads₀ asked → (table links heads : List ℕ) →
       table ≡ filledTable book table₀ → links ≡ indexedChains book table₀ (record { links = links₀; heads = heads₀ }) .links →
       heads ≡ indexedChains book table₀ (record { links = links₀; heads = heads₀ }) .heads →
-      Ready request issuer book table links heads × Asked issuer book table links asked
+      Ready who request issuer book table links heads × Asked who issuer book table links asked
   made-ready table₀ links₀ heads₀ asked lent table links heads rows l h = (
     record {
       accepted = lent .accepted;
@@ -29,17 +30,17 @@ module _ (request issuer book : List ℕ) where
       chained = links-of-book book table₀ links₀ heads₀ (lent .blank) links l;
       headed = heads-of-book book table₀ links₀ heads₀ (lent .blank) heads h;
     },
-    none-asked issuer book table links asked (lent .unasked),
+    none-asked who issuer book table links asked (lent .unasked),
   )
 
-  pub heads-lent : firstRefusal (judgeChecks request issuer book) ≡ none → HeadsLent request issuer book (replicate maxRecords noRecord)
+  pub heads-lent : firstRefusal (judgeChecks request issuer who book) ≡ none → HeadsLent who request issuer book (replicate maxRecords noRecord)
   heads-lent h = record { accepted = h; headed = refl }
 
   -- by the sizes of the arrays
-  module _ (heads : List ℕ) (lent : HeadsLent request issuer book heads) (m k n : ℕ) where
+  module _ (heads : List ℕ) (lent : HeadsLent who request issuer book heads) (m k n : ℕ) where
     pub lent-short :
         length book ≤ shortBook → m ≡ 6 * fewRecords → k ≡ fewRecords → n ≡ 2 * fewRecords →
-        Lent request issuer book (replicate m 0) (replicate k noRecord) heads (replicate n false)
+        Lent who request issuer book (replicate m 0) (replicate k noRecord) heads (replicate n false)
     lent-short h rows links notes = record {
       accepted = lent .accepted;
       blank = blank-short book m k heads (lent .headed) h rows links;
@@ -48,7 +49,7 @@ module _ (request issuer book : List ℕ) where
 
     pub lent-long :
         shortBook < length book → m ≡ 6 * maxRecords → k ≡ maxRecords → n ≡ 2 * maxRecords →
-        Lent request issuer book (replicate m 0) (replicate k noRecord) heads (replicate n false)
+        Lent who request issuer book (replicate m 0) (replicate k noRecord) heads (replicate n false)
     lent-long h rows links notes = record {
       accepted = lent .accepted;
       blank = blank-long book m k heads (lent .headed) h rows links;

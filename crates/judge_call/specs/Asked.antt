@@ -8,6 +8,7 @@ use mathlib.Core.Option.{none}
 use lib.ListN.{length, getD, replicate}
 use Rattle.spec_limits.specs.Limits.{maxRecords}
 use Rattle.spec_refusal.specs.declared.RecordNo.{RecordNo}
+use Rattle.spec_applicant.specs.Applicant.{Applicant}
 use Rattle.spec_rule.specs.declared.Judgement.{Judgement}
 use Rattle.spec_rule.specs.Authorizations.{permits}
 use Rattle.spec_rule.specs.Verdicts.{verdictFrom}
@@ -17,20 +18,20 @@ use Rattle.book_places.specs.Chains.{noRecord, chainsOf}
 use Rattle.book_places.specs.NameAuthorizations.{setAuthorization, answerTo, meaning}
 use Rattle.book_index.specs.Indexes.{Blank}
 
-pub record Ready (request issuer book table links heads : List ℕ) : Type 0 where
-  pub accepted : firstRefusal (judgeChecks request issuer book) ≡ none
+pub record Ready (who : Applicant) (request issuer book table links heads : List ℕ) : Type 0 where
+  pub accepted : firstRefusal (judgeChecks request issuer who book) ≡ none
   pub rows : table ≡ tableOf book
   pub chained : links ≡ chainsOf book .links
   pub headed : heads ≡ chainsOf book .heads
 
-module _ (issuer book table links : List ℕ) where
+module _ (who : Applicant) (issuer book table links : List ℕ) where
   -- The verdict on name k alone, given its relevant set.
   unfoldable pub verdictBySet : ℕ → RecordNo → Bool → Judgement
-  verdictBySet k set wildcard = verdictFrom k issuer (meaning book table links (setAuthorization book table links wildcard set) ∷ [])
+  verdictBySet k set wildcard = verdictFrom k issuer (meaning who book table links (setAuthorization book table links wildcard set) ∷ [])
 
   -- Whether the answer to the question with this number permits the issuer.
   unfoldable pub answerPermits : ℕ → Bool
-  answerPermits question = permits issuer (meaning book table links (answerTo book table links question))
+  answerPermits question = permits issuer (meaning who book table links (answerTo book table links question))
 
   -- The array has one note for each question, which is two for each record. If a note is set, the answer to that question permits the issuer.
   pub record Asked (asked : List Bool) : Type 0 where
@@ -38,12 +39,12 @@ module _ (issuer book table links : List ℕ) where
     pub permit : (question : ℕ) → getD asked question false ≡ true → answerPermits question ≡ true
 
 -- What the inner function is lent: accepted inputs, and empty arrays with room for the records of the book.
-pub record Lent (request issuer book table links heads : List ℕ) (asked : List Bool) : Type 0 where
-  pub accepted : firstRefusal (judgeChecks request issuer book) ≡ none
+pub record Lent (who : Applicant) (request issuer book table links heads : List ℕ) (asked : List Bool) : Type 0 where
+  pub accepted : firstRefusal (judgeChecks request issuer who book) ≡ none
   pub blank : Blank book table links heads
   pub unasked : asked ≡ replicate (2 * roomFor book) false
 
 -- The same for the heads of the chains alone, before the size of the other arrays is chosen.
-pub record HeadsLent (request issuer book heads : List ℕ) : Type 0 where
-  pub accepted : firstRefusal (judgeChecks request issuer book) ≡ none
+pub record HeadsLent (who : Applicant) (request issuer book heads : List ℕ) : Type 0 where
+  pub accepted : firstRefusal (judgeChecks request issuer who book) ≡ none
   pub headed : heads ≡ replicate maxRecords noRecord

@@ -7,6 +7,7 @@ use Rattle.spec_refusal.specs.declared.Refusal.{Refusal}
 use Rattle.spec_octets.specs.Octets.{Octets}
 use Rattle.spec_request.specs.Request.{requestedNames}
 use Rattle.spec_record.specs.Records.{records}
+use Rattle.spec_applicant.specs.Applicant.{Applicant}
 use Rattle.spec_rule.specs.declared.Judgement.{Judgement}
 use Rattle.spec_rule.specs.declared.Judgement.the-variants.{Refused}
 use Rattle.spec_rule.specs.RelevantSet.{caaRecords}
@@ -17,7 +18,7 @@ use Rattle.spec_rule.specs.Theorems.{Verdict-on, JudgeRow, FirstRow}
 -- row applies, it is the rule's verdict: 0, 20 or 21, with the numbers of the name and the record.
 abbrev pub Answer-exactly : Type 0
 Answer-exactly =
-    (request issuer book : List ℕ) → Octets request → Octets book → (answer : Judgement) → answer ≡ judge request issuer book →
-    ((r : Refusal) → (answer ≡ Refused r) ↔ FirstRow (JudgeRow request issuer book) r)
-    × (((r : Refusal) → JudgeRow request issuer book r → ⊥) →
-    Verdict-on (caaRecords (records book)) (requestedNames request) issuer answer)
+    (request issuer : List ℕ) (who : Applicant) (book : List ℕ) → Octets request → Octets book → (answer : Judgement) → answer ≡ judge request issuer who book →
+    ((r : Refusal) → (answer ≡ Refused r) ↔ FirstRow (JudgeRow request issuer who book) r)
+    × (((r : Refusal) → JudgeRow request issuer who book r → ⊥) →
+    Verdict-on who (caaRecords (records book)) (requestedNames request) issuer answer)

@@ -1,4 +1,4 @@
-// May this issuer issue for every name of the request? This is the call that judges.
+// May this issuer issue for every name of the request, for this account and by this method? This is the call that judges.
 use book_places::END;
 use book_places::FEW_RECORDS;
 use book_places::FirstRecord;
@@ -30,6 +30,8 @@ const SHORT_NOTES: usize = 2 * FEW_RECORDS;
 // Judges one name, given its relevant set.
 fn judge_by_set(
     issuer: &[u8],
+    account: &[u8],
+    method: &[u8],
     book: &[u8],
     table: &[u16],
     links: &[u16],
@@ -37,7 +39,7 @@ fn judge_by_set(
     set: RecordNo,
     wildcard: bool,
 ) -> Judgement
-    ensures { λ r. ⌜ r ≡ verdictBySet (now (issuer .entry)) (now (book .entry)) (now (table .entry)) (now (links .entry)) (name .0) set wildcard ⌝ }
+    ensures { λ r. ⌜ r ≡ verdictBySet (record { account = now (account .entry); method = now (method .entry) }) (now (issuer .entry)) (now (book .entry)) (now (table .entry)) (now (links .entry)) (name .0) set wildcard ⌝ }
 {
     match book_authorization::set_authorization(book, table, links, set, wildcard) {
         NameAuthorization::Unrestricted => Judgement::Permitted,
@@ -47,7 +49,7 @@ fn judge_by_set(
             let from = governing.0;
             let rr = g.first;
             let tag = g.tag;
-            if book_set::any_grants(book, table, links, from, tag, issuer) {
+            if book_set::any_grants(book, table, links, from, tag, issuer, account, method) {
                 return Judgement::Permitted;
             }
             Judgement::NotGranted(Denial { name, rr })
@@ -59,14 +61,16 @@ fn judge_by_set(
 fn judge_names(
     request: &[u8],
     issuer: &[u8],
+    account: &[u8],
+    method: &[u8],
     book: &[u8],
     table: &[u16],
     links: &[u16],
     heads: &[u16],
     asked: &mut [bool],
 ) -> Judgement
-    requires { ⌜ Ready (now request) (now issuer) (now book) (now table) (now links) (now heads) × Asked (now issuer) (now book) (now table) (now links) (now asked) ⌝ }
-    ensures { λ r. ⌜ r ≡ judge (now (request .entry)) (now (issuer .entry)) (now (book .entry)) ⌝ }
+    requires { ⌜ Ready (record { account = now account; method = now method }) (now request) (now issuer) (now book) (now table) (now links) (now heads) × Asked (record { account = now account; method = now method }) (now issuer) (now book) (now table) (now links) (now asked) ⌝ }
+    ensures { λ r. ⌜ r ≡ judge (now (request .entry)) (now (issuer .entry)) (record { account = now (account .entry); method = now (method .entry) }) (now (book .entry)) ⌝ }
 {
     let mut at: usize = 0;
     let mut k: usize = 0;
@@ -93,7 +97,17 @@ fn judge_names(
         if asked[question] {
             continue;
         }
-        let judgement = judge_by_set(issuer, book, table, links, name, set, n.wildcard);
+        let judgement = judge_by_set(
+            issuer,
+            account,
+            method,
+            book,
+            table,
+            links,
+            name,
+            set,
+            n.wildcard,
+        );
         let Judgement::Permitted = judgement else {
             return judgement;
         };
@@ -106,23 +120,42 @@ fn judge_names(
 fn judge_in(
     request: &[u8],
     issuer: &[u8],
+    account: &[u8],
+    method: &[u8],
     book: &[u8],
     table: &mut [u16],
     links: &mut [u16],
     heads: &mut [u16],
     asked: &mut [bool],
 ) -> Judgement
-    requires { ⌜ Lent (now request) (now issuer) (now book) (now table) (now links) (now heads) (now asked) ⌝ }
-    ensures { λ r. ⌜ r ≡ judge (now (request .entry)) (now (issuer .entry)) (now (book .entry)) ⌝ }
+    requires { ⌜ Lent (record { account = now account; method = now method }) (now request) (now issuer) (now book) (now table) (now links) (now heads) (now asked) ⌝ }
+    ensures { λ r. ⌜ r ≡ judge (now (request .entry)) (now (issuer .entry)) (record { account = now (account .entry); method = now (method .entry) }) (now (book .entry)) ⌝ }
 {
     book_index::index_book(book, table, links, heads);
-    judge_names(request, issuer, book, table, links, heads, asked)
+    judge_names(
+        request,
+        issuer,
+        account,
+        method,
+        book,
+        table,
+        links,
+        heads,
+        asked,
+    )
 }
 
 // For a short book small arrays are enough, and are cleared faster.
-fn judge_short(request: &[u8], issuer: &[u8], book: &[u8], heads: &mut [u16]) -> Judgement
-    requires { ⌜ HeadsLent (now request) (now issuer) (now book) (now heads) × (length (now book) ≤ shortBook) ⌝ }
-    ensures { λ r. ⌜ r ≡ judge (now (request .entry)) (now (issuer .entry)) (now (book .entry)) ⌝ }
+fn judge_short(
+    request: &[u8],
+    issuer: &[u8],
+    account: &[u8],
+    method: &[u8],
+    book: &[u8],
+    heads: &mut [u16],
+) -> Judgement
+    requires { ⌜ HeadsLent (record { account = now account; method = now method }) (now request) (now issuer) (now book) (now heads) × (length (now book) ≤ shortBook) ⌝ }
+    ensures { λ r. ⌜ r ≡ judge (now (request .entry)) (now (issuer .entry)) (record { account = now (account .entry); method = now (method .entry) }) (now (book .entry)) ⌝ }
 {
     let mut table = [0u16; SHORT_TABLE];
     let mut links = [END; FEW_RECORDS];
@@ -130,6 +163,8 @@ fn judge_short(request: &[u8], issuer: &[u8], book: &[u8], heads: &mut [u16]) ->
     judge_in(
         request,
         issuer,
+        account,
+        method,
         book,
         &mut table,
         &mut links,
@@ -139,9 +174,16 @@ fn judge_short(request: &[u8], issuer: &[u8], book: &[u8], heads: &mut [u16]) ->
 }
 
 // For any other book.
-fn judge_long(request: &[u8], issuer: &[u8], book: &[u8], heads: &mut [u16]) -> Judgement
-    requires { ⌜ HeadsLent (now request) (now issuer) (now book) (now heads) × (shortBook < length (now book)) ⌝ }
-    ensures { λ r. ⌜ r ≡ judge (now (request .entry)) (now (issuer .entry)) (now (book .entry)) ⌝ }
+fn judge_long(
+    request: &[u8],
+    issuer: &[u8],
+    account: &[u8],
+    method: &[u8],
+    book: &[u8],
+    heads: &mut [u16],
+) -> Judgement
+    requires { ⌜ HeadsLent (record { account = now account; method = now method }) (now request) (now issuer) (now book) (now heads) × (shortBook < length (now book)) ⌝ }
+    ensures { λ r. ⌜ r ≡ judge (now (request .entry)) (now (issuer .entry)) (record { account = now (account .entry); method = now (method .entry) }) (now (book .entry)) ⌝ }
 {
     let mut table = [0u16; TABLE];
     let mut links = [END; MAX_RECORDS];
@@ -149,6 +191,8 @@ fn judge_long(request: &[u8], issuer: &[u8], book: &[u8], heads: &mut [u16]) -> 
     judge_in(
         request,
         issuer,
+        account,
+        method,
         book,
         &mut table,
         &mut links,
@@ -158,23 +202,29 @@ fn judge_long(request: &[u8], issuer: &[u8], book: &[u8], heads: &mut [u16]) -> 
 }
 
 // Judges accepted inputs.
-fn judge_accepted(request: &[u8], issuer: &[u8], book: &[u8]) -> Judgement
-    requires { ⌜ firstRefusal (judgeChecks (now request) (now issuer) (now book)) ≡ none ⌝ }
-    ensures { λ r. ⌜ r ≡ judge (now (request .entry)) (now (issuer .entry)) (now (book .entry)) ⌝ }
+fn judge_accepted(
+    request: &[u8],
+    issuer: &[u8],
+    account: &[u8],
+    method: &[u8],
+    book: &[u8],
+) -> Judgement
+    requires { ⌜ firstRefusal (judgeChecks (now request) (now issuer) (record { account = now account; method = now method }) (now book)) ≡ none ⌝ }
+    ensures { λ r. ⌜ r ≡ judge (now (request .entry)) (now (issuer .entry)) (record { account = now (account .entry); method = now (method .entry) }) (now (book .entry)) ⌝ }
 {
     let mut heads = [END; MAX_RECORDS];
     if book.len() <= SHORT_BOOK {
-        return judge_short(request, issuer, book, &mut heads);
+        return judge_short(request, issuer, account, method, book, &mut heads);
     }
-    judge_long(request, issuer, book, &mut heads)
+    judge_long(request, issuer, account, method, book, &mut heads)
 }
 
 // Checks the inputs in the order of the table of refusals, then judges.
-pub fn judge(request: &[u8], issuer: &[u8], book: &[u8]) -> Judgement
-    ensures { λ r. ⌜ r ≡ judge (now (request .entry)) (now (issuer .entry)) (now (book .entry)) ⌝ }
+pub fn judge(request: &[u8], issuer: &[u8], account: &[u8], method: &[u8], book: &[u8]) -> Judgement
+    ensures { λ r. ⌜ r ≡ judge (now (request .entry)) (now (issuer .entry)) (record { account = now (account .entry); method = now (method .entry) }) (now (book .entry)) ⌝ }
 {
-    if let Check::Refused(r) = read_inputs::check_inputs(request, issuer, book) {
+    if let Check::Refused(r) = read_inputs::check_inputs(request, issuer, account, method, book) {
         return Judgement::Refused(r);
     }
-    judge_accepted(request, issuer, book)
+    judge_accepted(request, issuer, account, method, book)
 }

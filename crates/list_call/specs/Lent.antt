@@ -6,6 +6,7 @@ use mathlib.Core.Option.{none}
 use lib.ListN.{replicate}
 use Rattle.spec_limits.specs.Limits.{maxRecords}
 use Rattle.spec_request.specs.Request.{requestRefusal}
+use Rattle.spec_applicant.specs.Applicant.{Applicant, applicantRefusal}
 use Rattle.spec_record.specs.Records.{bookRefusal}
 use Rattle.spec_rule.specs.declared.PermittedIssuers.{PermittedIssuers}
 use Rattle.spec_rule.specs.IssuerLists.{issuers}
@@ -17,27 +18,30 @@ use Rattle.list_places.specs.declared.Permitted.{Permitted}
 use Rattle.list_places.specs.PermittedBy.{issuersIn}
 
 -- What the inner function is lent: an accepted request and book, and empty arrays with room for the records of the book.
-pub record Lent (request book table links heads names rounds : List ℕ) : Type 0 where
+pub record Lent (who : Applicant) (request book table links heads names rounds : List ℕ) : Type 0 where
   pub names-good : requestRefusal request ≡ none
+  pub applicant-good : applicantRefusal who ≡ none
   pub records-good : bookRefusal book ≡ none
   pub blank : Blank book table links heads
   pub candidates : names ≡ replicate (2 * roomFor book) 0
   pub first-round : rounds ≡ replicate (roomFor book) 0
 
 -- The same for the heads of the chains alone, before the size of the other arrays is chosen.
-pub record HeadsLent (request book heads : List ℕ) : Type 0 where
+pub record HeadsLent (who : Applicant) (request book heads : List ℕ) : Type 0 where
   pub names-good : requestRefusal request ≡ none
+  pub applicant-good : applicantRefusal who ≡ none
   pub records-good : bookRefusal book ≡ none
   pub headed : heads ≡ replicate maxRecords noRecord
 
 -- The candidates and their rounds are those who may issue, by the rule.
-pub record Found (request book names rounds : List ℕ) (p : Permitted) : Type 0 where
+pub record Found (who : Applicant) (request book names rounds : List ℕ) (p : Permitted) : Type 0 where
   pub names-good : requestRefusal request ≡ none
+  pub applicant-good : applicantRefusal who ≡ none
   pub records-good : bookRefusal book ≡ none
-  pub issuers-found : issuersIn book (record { answer = p; names = names; rounds = rounds }) ≡ issuers (authorizations request book)
+  pub issuers-found : issuersIn book (record { answer = p; names = names; rounds = rounds }) ≡ issuers (authorizations request who book)
 
--- The answer, and the buffer afterwards, are those of the call, for every request whose issuers were found.
+-- The answer, and the buffer afterwards, are those of the call, for every applicant and request whose issuers were found.
 abbrev pub ListPut : List ℕ → List ℕ → List ℕ → Permitted → List ℕ → PermittedIssuers → List ℕ → Type 0
 ListPut book names rounds p buffer answer after =
-    (request : List ℕ) → Found request book names rounds p →
-    (answer ≡ listIssuers request book buffer .answer) × (after ≡ listIssuers request book buffer .buffer)
+    (who : Applicant) (request : List ℕ) → Found who request book names rounds p →
+    (answer ≡ listIssuers request who book buffer .answer) × (after ≡ listIssuers request who book buffer .buffer)

@@ -1,4 +1,4 @@
-// Who may issue for every name of the request? This is the call that lists the permitted issuers.
+// Who may issue for every name of the request, for this account and by this method? This is the call that lists the permitted issuers.
 use book_places::END;
 use book_places::FEW_RECORDS;
 use book_places::SHORT_BOOK;
@@ -21,7 +21,7 @@ const NAMES: usize = 2 * MAX_RECORDS;
 
 const SHORT_NAMES: usize = 2 * FEW_RECORDS;
 
-// Writes the list of those found, if it fits the buffer.
+// Writes the list to the start of the buffer; the rest of the buffer stays as it is. Nothing is written unless the whole list fits.
 fn put_list(
     book: &[u8],
     names: &[u16],
@@ -48,6 +48,8 @@ fn put_list(
 // Lists for accepted inputs. It reads the book once, and makes a table of its records and chains through them in the lent arrays.
 fn list_in(
     request: &[u8],
+    account: &[u8],
+    method: &[u8],
     book: &[u8],
     table: &mut [u16],
     links: &mut [u16],
@@ -56,20 +58,37 @@ fn list_in(
     rounds: &mut [u16],
     buffer: &mut [u8],
 ) -> PermittedIssuers
-    requires { ⌜ Lent (now request) (now book) (now table) (now links) (now heads) (now names) (now rounds) ⌝ }
-    ensures answer { λ r. ⌜ r ≡ listIssuers (now (request .entry)) (now (book .entry)) (now (buffer .entry)) .answer ⌝ }
-    ensures octets { λ r. ⌜ now (buffer .exit) ≡ listIssuers (now (request .entry)) (now (book .entry)) (now (buffer .entry)) .buffer ⌝ }
+    requires { ⌜ Lent (record { account = now account; method = now method }) (now request) (now book) (now table) (now links) (now heads) (now names) (now rounds) ⌝ }
+    ensures answer { λ r. ⌜ r ≡ listIssuers (now (request .entry)) (record { account = now (account .entry); method = now (method .entry) }) (now (book .entry)) (now (buffer .entry)) .answer ⌝ }
+    ensures octets { λ r. ⌜ now (buffer .exit) ≡ listIssuers (now (request .entry)) (record { account = now (account .entry); method = now (method .entry) }) (now (book .entry)) (now (buffer .entry)) .buffer ⌝ }
 {
     book_index::index_book(book, table, links, heads);
-    let found = list_find::find_permitted(request, book, table, links, heads, names, rounds);
+    let found = list_find::find_permitted(
+        request,
+        account,
+        method,
+        book,
+        table,
+        links,
+        heads,
+        names,
+        rounds,
+    );
     put_list(book, names, rounds, found, buffer)
 }
 
-// For a short book small arrays are enough, and are cleared faster.
-fn list_short(request: &[u8], book: &[u8], heads: &mut [u16], buffer: &mut [u8]) -> PermittedIssuers
-    requires { ⌜ HeadsLent (now request) (now book) (now heads) × (length (now book) ≤ shortBook) ⌝ }
-    ensures answer { λ r. ⌜ r ≡ listIssuers (now (request .entry)) (now (book .entry)) (now (buffer .entry)) .answer ⌝ }
-    ensures octets { λ r. ⌜ now (buffer .exit) ≡ listIssuers (now (request .entry)) (now (book .entry)) (now (buffer .entry)) .buffer ⌝ }
+// A short book has few records, and small arrays have room for all of them: less has to be cleared first.
+fn list_short(
+    request: &[u8],
+    account: &[u8],
+    method: &[u8],
+    book: &[u8],
+    heads: &mut [u16],
+    buffer: &mut [u8],
+) -> PermittedIssuers
+    requires { ⌜ HeadsLent (record { account = now account; method = now method }) (now request) (now book) (now heads) × (length (now book) ≤ shortBook) ⌝ }
+    ensures answer { λ r. ⌜ r ≡ listIssuers (now (request .entry)) (record { account = now (account .entry); method = now (method .entry) }) (now (book .entry)) (now (buffer .entry)) .answer ⌝ }
+    ensures octets { λ r. ⌜ now (buffer .exit) ≡ listIssuers (now (request .entry)) (record { account = now (account .entry); method = now (method .entry) }) (now (book .entry)) (now (buffer .entry)) .buffer ⌝ }
 {
     let mut table = [0u16; SHORT_TABLE];
     let mut links = [END; FEW_RECORDS];
@@ -77,6 +96,8 @@ fn list_short(request: &[u8], book: &[u8], heads: &mut [u16], buffer: &mut [u8])
     let mut rounds = [0u16; FEW_RECORDS];
     list_in(
         request,
+        account,
+        method,
         book,
         &mut table,
         &mut links,
@@ -87,11 +108,18 @@ fn list_short(request: &[u8], book: &[u8], heads: &mut [u16], buffer: &mut [u8])
     )
 }
 
-// For any other book.
-fn list_long(request: &[u8], book: &[u8], heads: &mut [u16], buffer: &mut [u8]) -> PermittedIssuers
-    requires { ⌜ HeadsLent (now request) (now book) (now heads) × (shortBook < length (now book)) ⌝ }
-    ensures answer { λ r. ⌜ r ≡ listIssuers (now (request .entry)) (now (book .entry)) (now (buffer .entry)) .answer ⌝ }
-    ensures octets { λ r. ⌜ now (buffer .exit) ≡ listIssuers (now (request .entry)) (now (book .entry)) (now (buffer .entry)) .buffer ⌝ }
+// Any other book.
+fn list_long(
+    request: &[u8],
+    account: &[u8],
+    method: &[u8],
+    book: &[u8],
+    heads: &mut [u16],
+    buffer: &mut [u8],
+) -> PermittedIssuers
+    requires { ⌜ HeadsLent (record { account = now account; method = now method }) (now request) (now book) (now heads) × (shortBook < length (now book)) ⌝ }
+    ensures answer { λ r. ⌜ r ≡ listIssuers (now (request .entry)) (record { account = now (account .entry); method = now (method .entry) }) (now (book .entry)) (now (buffer .entry)) .answer ⌝ }
+    ensures octets { λ r. ⌜ now (buffer .exit) ≡ listIssuers (now (request .entry)) (record { account = now (account .entry); method = now (method .entry) }) (now (book .entry)) (now (buffer .entry)) .buffer ⌝ }
 {
     let mut table = [0u16; TABLE];
     let mut links = [END; MAX_RECORDS];
@@ -99,6 +127,8 @@ fn list_long(request: &[u8], book: &[u8], heads: &mut [u16], buffer: &mut [u8]) 
     let mut rounds = [0u16; MAX_RECORDS];
     list_in(
         request,
+        account,
+        method,
         book,
         &mut table,
         &mut links,
@@ -109,17 +139,23 @@ fn list_long(request: &[u8], book: &[u8], heads: &mut [u16], buffer: &mut [u8]) 
     )
 }
 
-// Writes the list to the start of the buffer; the rest of the buffer stays as it is. Nothing is written unless the whole list fits.
-pub fn permitted_issuers(request: &[u8], book: &[u8], buffer: &mut [u8]) -> PermittedIssuers
-    ensures answer { λ r. ⌜ r ≡ listIssuers (now (request .entry)) (now (book .entry)) (now (buffer .entry)) .answer ⌝ }
-    ensures octets { λ r. ⌜ now (buffer .exit) ≡ listIssuers (now (request .entry)) (now (book .entry)) (now (buffer .entry)) .buffer ⌝ }
+// The list stands at the front of the buffer, and the rest stays.
+pub fn permitted_issuers(
+    request: &[u8],
+    account: &[u8],
+    method: &[u8],
+    book: &[u8],
+    buffer: &mut [u8],
+) -> PermittedIssuers
+    ensures answer { λ r. ⌜ r ≡ listIssuers (now (request .entry)) (record { account = now (account .entry); method = now (method .entry) }) (now (book .entry)) (now (buffer .entry)) .answer ⌝ }
+    ensures octets { λ r. ⌜ now (buffer .exit) ≡ listIssuers (now (request .entry)) (record { account = now (account .entry); method = now (method .entry) }) (now (book .entry)) (now (buffer .entry)) .buffer ⌝ }
 {
-    if let Check::Refused(r) = read_inputs::check_request_and_book(request, book) {
+    if let Check::Refused(r) = read_inputs::check_list_inputs(request, account, method, book) {
         return PermittedIssuers::Refused(r);
     }
     let mut heads = [END; MAX_RECORDS];
     if book.len() <= SHORT_BOOK {
-        return list_short(request, book, &mut heads, buffer);
+        return list_short(request, account, method, book, &mut heads, buffer);
     }
-    list_long(request, book, &mut heads, buffer)
+    list_long(request, account, method, book, &mut heads, buffer)
 }

@@ -1,4 +1,4 @@
-// Goes through the issuers that the records of a tagged set grant. Either they become the candidates, or they decide which of the present
+// Goes through the issuers that the records of a tagged set grant to an applicant. Either they become the candidates, or they decide which of the present
 // candidates stay.
 use list_places::NextGrant;
 use list_places::TaggedSet;
@@ -8,14 +8,23 @@ ghost use Rattle.list_places.specs.Rounds.{narrowed};
 
 // Makes the names that a tagged set grants the candidates: each once, in the order of the first records that grant them. Returns how many there
 // are.
-pub fn collect(book: &[u8], table: &[u16], links: &[u16], by: TaggedSet, names: &mut [u16]) -> usize
-    ensures answer { λ r. ⌜ r ≡ collected (now (book .entry)) (now (table .entry)) (now (links .entry)) by (now (names .entry)) .count ⌝ }
-    ensures numbers { λ r. ⌜ now (names .exit) ≡ collected (now (book .entry)) (now (table .entry)) (now (links .entry)) by (now (names .entry)) .names ⌝ }
+pub fn collect(
+    account: &[u8],
+    method: &[u8],
+    book: &[u8],
+    table: &[u16],
+    links: &[u16],
+    by: TaggedSet,
+    names: &mut [u16],
+) -> usize
+    ensures answer { λ r. ⌜ r ≡ collected (record { account = now (account .entry); method = now (method .entry) }) (now (book .entry)) (now (table .entry)) (now (links .entry)) by (now (names .entry)) .count ⌝ }
+    ensures numbers { λ r. ⌜ now (names .exit) ≡ collected (record { account = now (account .entry); method = now (method .entry) }) (now (book .entry)) (now (table .entry)) (now (links .entry)) by (now (names .entry)) .names ⌝ }
 {
     let mut count: usize = 0;
     let mut at: usize = by.set;
     loop {
-        let NextGrant::At(g) = list_grants::next_grant(book, table, links, by, at) else {
+        let NextGrant::At(g) = list_grants::next_grant(account, method, book, table, links, by, at)
+        else {
             return count;
         };
         at = book_chains::behind(links, g.rr);
@@ -29,6 +38,8 @@ pub fn collect(book: &[u8], table: &[u16], links: &[u16], by: TaggedSet, names: 
 
 // Moves those candidates of round t that a tagged set grants on to the next round.
 pub fn narrow(
+    account: &[u8],
+    method: &[u8],
     book: &[u8],
     table: &[u16],
     links: &[u16],
@@ -38,11 +49,12 @@ pub fn narrow(
     rounds: &mut [u16],
     t: usize,
 )
-    ensures { λ r. ⌜ now (rounds .exit) ≡ narrowed (now (book .entry)) (now (names .entry)) (now (table .entry)) (now (links .entry)) by count t (now (rounds .entry)) ⌝ }
+    ensures { λ r. ⌜ now (rounds .exit) ≡ narrowed (record { account = now (account .entry); method = now (method .entry) }) (now (book .entry)) (now (names .entry)) (now (table .entry)) (now (links .entry)) by count t (now (rounds .entry)) ⌝ }
 {
     let mut at: usize = by.set;
     loop {
-        let NextGrant::At(g) = list_grants::next_grant(book, table, links, by, at) else {
+        let NextGrant::At(g) = list_grants::next_grant(account, method, book, table, links, by, at)
+        else {
             return;
         };
         at = book_chains::behind(links, g.rr);

@@ -6,6 +6,7 @@ use mathlib.Core.List.{List, _++_}
 use lib.ListN.{length, take, drop, replicate}
 use lib.Seq.{take-at}
 use Rattle.spec_limits.specs.Limits.{maxNames}
+use Rattle.spec_applicant.specs.Applicant.{Applicant}
 use Rattle.list_places.specs.declared.RelevantSets.{RelevantSets}
 use Rattle.list_places.specs.declared.RelevantSets.the-variants.{Unknown, Noted}
 use Rattle.list_places.specs.declared.Permitted.{Permitted}
@@ -13,22 +14,22 @@ use Rattle.list_places.specs.Questions.{questions, noted, once}
 use Rattle.list_places.specs.PermittedBy.{PermittedIn, allAsked, byNoted, notedIn, permittedIn}
 use Rattle.list_places.proofs.PermittedParts.{permitted-parts}
 
-module _ (request book table links heads names rounds : List ℕ) where
+module _ (who : Applicant) (request book table links heads names rounds : List ℕ) where
   abbrev whole : PermittedIn
-  whole = permittedIn request book table links heads names rounds
+  whole = permittedIn who request book table links heads names rounds
 
   -- the three ensures from one equation
   pub parts :
-      {a : Permitted} {x y : List ℕ} → permittedIn request book table links heads names rounds ≡ record { answer = a; names = x; rounds = y } →
-      (a ≡ permittedIn request book table links heads names rounds .answer)
-      × ((x ≡ permittedIn request book table links heads names rounds .names) × (y ≡ permittedIn request book table links heads names rounds .rounds))
+      {a : Permitted} {x y : List ℕ} → permittedIn who request book table links heads names rounds ≡ record { answer = a; names = x; rounds = y } →
+      (a ≡ permittedIn who request book table links heads names rounds .answer)
+      × ((x ≡ permittedIn who request book table links heads names rounds .names) × (y ≡ permittedIn who request book table links heads names rounds .rounds))
   parts = permitted-parts
 
   -- the answer of note_questions, by the size of the array
   module _ (j : ℕ) (size : j ≡ maxNames) (answer : RelevantSets) (numbers : List ℕ)
       (told : answer ≡ noted (replicate j 0) (questions request book table links heads) .answer)
       (told-numbers : numbers ≡ noted (replicate j 0) (questions request book table links heads) .numbers) where
-    by-answer : whole ≡ byNoted book table links answer numbers names rounds
+    by-answer : whole ≡ byNoted who book table links answer numbers names rounds
     unfolding permittedIn notedIn
     by-answer = sym (rw (told, told-numbers, size))
 
@@ -39,8 +40,8 @@ module _ (request book table links heads names rounds : List ℕ) where
     pub all-found :
         (q : ℕ) → answer ≡ Noted q → (n : ℕ) → n ≡ length (once (take q numbers)) → (after : List ℕ) →
         after ≡ once (take q numbers) ++ drop (length (once (take q numbers))) numbers → (p : Permitted) (x y : List ℕ) →
-        p ≡ allAsked book table links (take n after) names rounds .answer → x ≡ allAsked book table links (take n after) names rounds .names →
-        y ≡ allAsked book table links (take n after) names rounds .rounds →
+        p ≡ allAsked who book table links (take n after) names rounds .answer → x ≡ allAsked who book table links (take n after) names rounds .names →
+        y ≡ allAsked who book table links (take n after) names rounds .rounds →
         whole ≡ record { answer = p; names = x; rounds = y }
     all-found q e n f after h p x y u v w = by-answer ∙ rw (e, ← front, u, v, w)
       where

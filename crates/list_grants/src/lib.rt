@@ -24,15 +24,17 @@ fn grant_in(rr: usize, offset: usize, n: NameAt) -> Grant
     }
 }
 
-// The first grant of a tagged set, from a record of its chain on.
+// The first grant of a tagged set to the applicant, from a record of its chain on.
 pub fn next_grant(
+    account: &[u8],
+    method: &[u8],
     book: &[u8],
     table: &[u16],
     links: &[u16],
     by: TaggedSet,
     from: usize,
 ) -> NextGrant
-    ensures { λ r. ⌜ r ≡ firstGrant (grantsFrom (now (book .entry)) (now (table .entry)) (now (links .entry)) by from) ⌝ }
+    ensures { λ r. ⌜ r ≡ firstGrant (grantsFrom (record { account = now (account .entry); method = now (method .entry) }) (now (book .entry)) (now (table .entry)) (now (links .entry)) by from) ⌝ }
 {
     let set = by.set;
     let tag = by.tag;
@@ -47,7 +49,7 @@ pub fn next_grant(
         if !book_tests::has_tag(d, tag) {
             continue;
         }
-        if let GranteeRead::At(n) = read_grantee::read_grantee(d) {
+        if let GranteeRead::At(n) = read_grantee::read_grantee(d, account, method) {
             return NextGrant::At(grant_in(i, book_table::data_offset(table, i), n));
         }
     }

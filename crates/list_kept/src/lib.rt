@@ -10,6 +10,8 @@ ghost use Rattle.list_places.specs.PermittedBy.{governedIn, allAsked};
 
 // Takes one more restricting set into account.
 fn keep_granted(
+    account: &[u8],
+    method: &[u8],
     book: &[u8],
     table: &[u16],
     links: &[u16],
@@ -18,15 +20,15 @@ fn keep_granted(
     rounds: &mut [u16],
     p: Permitted,
 ) -> Permitted
-    ensures answer { λ r. ⌜ r ≡ governedIn (now (book .entry)) (now (table .entry)) (now (links .entry)) g (record { answer = p; names = now (names .entry); rounds = now (rounds .entry) }) .answer ⌝ }
-    ensures names { λ r. ⌜ now (names .exit) ≡ governedIn (now (book .entry)) (now (table .entry)) (now (links .entry)) g (record { answer = p; names = now (names .entry); rounds = now (rounds .entry) }) .names ⌝ }
-    ensures rounds { λ r. ⌜ now (rounds .exit) ≡ governedIn (now (book .entry)) (now (table .entry)) (now (links .entry)) g (record { answer = p; names = now (names .entry); rounds = now (rounds .entry) }) .rounds ⌝ }
+    ensures answer { λ r. ⌜ r ≡ governedIn (record { account = now (account .entry); method = now (method .entry) }) (now (book .entry)) (now (table .entry)) (now (links .entry)) g (record { answer = p; names = now (names .entry); rounds = now (rounds .entry) }) .answer ⌝ }
+    ensures names { λ r. ⌜ now (names .exit) ≡ governedIn (record { account = now (account .entry); method = now (method .entry) }) (now (book .entry)) (now (table .entry)) (now (links .entry)) g (record { answer = p; names = now (names .entry); rounds = now (rounds .entry) }) .names ⌝ }
+    ensures rounds { λ r. ⌜ now (rounds .exit) ≡ governedIn (record { account = now (account .entry); method = now (method .entry) }) (now (book .entry)) (now (table .entry)) (now (links .entry)) g (record { answer = p; names = now (names .entry); rounds = now (rounds .entry) }) .rounds ⌝ }
 {
     let set = g.set;
     let tag = g.tag;
     let by = TaggedSet { set: set.0, tag };
     if !p.restricted {
-        let count = list_collect::collect(book, table, links, by, names);
+        let count = list_collect::collect(account, method, book, table, links, by, names);
         return Permitted {
             restricted: true,
             count,
@@ -35,7 +37,18 @@ fn keep_granted(
     }
     let count = p.count;
     let round = p.round;
-    list_collect::narrow(book, table, links, by, names, count, rounds, round);
+    list_collect::narrow(
+        account,
+        method,
+        book,
+        table,
+        links,
+        by,
+        names,
+        count,
+        rounds,
+        round,
+    );
     Permitted {
         restricted: true,
         count,
@@ -46,6 +59,8 @@ fn keep_granted(
 // Asks the first n questions of a list, which has their numbers. A set that does not restrict changes nothing. If a set forbids, nobody may issue.
 // The candidates and their rounds are written into two arrays of the caller.
 pub fn ask_sets(
+    account: &[u8],
+    method: &[u8],
     book: &[u8],
     table: &[u16],
     links: &[u16],
@@ -54,9 +69,9 @@ pub fn ask_sets(
     names: &mut [u16],
     rounds: &mut [u16],
 ) -> Permitted
-    ensures answer { λ r. ⌜ r ≡ allAsked (now (book .entry)) (now (table .entry)) (now (links .entry)) (take n (now (numbers .entry))) (now (names .entry)) (now (rounds .entry)) .answer ⌝ }
-    ensures names { λ r. ⌜ now (names .exit) ≡ allAsked (now (book .entry)) (now (table .entry)) (now (links .entry)) (take n (now (numbers .entry))) (now (names .entry)) (now (rounds .entry)) .names ⌝ }
-    ensures rounds { λ r. ⌜ now (rounds .exit) ≡ allAsked (now (book .entry)) (now (table .entry)) (now (links .entry)) (take n (now (numbers .entry))) (now (names .entry)) (now (rounds .entry)) .rounds ⌝ }
+    ensures answer { λ r. ⌜ r ≡ allAsked (record { account = now (account .entry); method = now (method .entry) }) (now (book .entry)) (now (table .entry)) (now (links .entry)) (take n (now (numbers .entry))) (now (names .entry)) (now (rounds .entry)) .answer ⌝ }
+    ensures names { λ r. ⌜ now (names .exit) ≡ allAsked (record { account = now (account .entry); method = now (method .entry) }) (now (book .entry)) (now (table .entry)) (now (links .entry)) (take n (now (numbers .entry))) (now (names .entry)) (now (rounds .entry)) .names ⌝ }
+    ensures rounds { λ r. ⌜ now (rounds .exit) ≡ allAsked (record { account = now (account .entry); method = now (method .entry) }) (now (book .entry)) (now (table .entry)) (now (links .entry)) (take n (now (numbers .entry))) (now (names .entry)) (now (rounds .entry)) .rounds ⌝ }
 {
     let mut p = Permitted {
         restricted: false,
@@ -80,7 +95,7 @@ pub fn ask_sets(
                 };
             }
             NameAuthorization::Governed(g) => {
-                p = keep_granted(book, table, links, g, names, rounds, p);
+                p = keep_granted(account, method, book, table, links, g, names, rounds, p);
             }
         }
     }

@@ -18,6 +18,7 @@ use Rattle.spec_request.proofs.RequestedNames.{good-base}
 use Rattle.read_request.proofs.RequestPlaces.{next-after}
 use Rattle.read_request.proofs.AcceptedNames.{NamesLeft, all-names, names-end, names-good, next-name}
 use Rattle.spec_record.specs.Records.{records, bookRefusal}
+use Rattle.spec_applicant.specs.Applicant.{Applicant}
 use Rattle.spec_rule.specs.RelevantSet.{caaRecords}
 use Rattle.spec_rule.specs.Authorizations.{Authorization, authorization}
 use Rattle.book_places.specs.declared.FirstRecord.{FirstRecord}
@@ -35,17 +36,17 @@ use Rattle.list_places.specs.Questions.{NameQuestion, questionBy, questi
 use Rattle.list_places.proofs.NotedIssuers.{saidBy}
 
 -- the answer to a question of a name, in the rule's words
-abbrev pub answered : List ℕ → List ℕ → List ℕ → ℕ → Authorization
-answered book table links q = meaning book table links (answerTo book table links q)
+abbrev pub answered : Applicant → List ℕ → List ℕ → List ℕ → ℕ → Authorization
+answered who book table links q = meaning who book table links (answerTo book table links q)
 
 -- a set is told by the number of its question
 by-question :
-    (book table links : List ℕ) (wildcard : Bool) (o : FirstRecord) → FirstBelow links o → length links ≤ 32768 →
-    saidBy (answered book table links) (questionBy wildcard o) ≡ meaning book table links (bySet book table links wildcard o)
-by-question book table links wildcard Nothing h few = refl
-by-question book table links wildcard (At set) h few = ap (meaning book table links) (question-by-number book table links set wildcard (omega arith))
+    (who : Applicant) (book table links : List ℕ) (wildcard : Bool) (o : FirstRecord) → FirstBelow links o → length links ≤ 32768 →
+    saidBy (answered who book table links) (questionBy wildcard o) ≡ meaning who book table links (bySet book table links wildcard o)
+by-question who book table links wildcard Nothing h few = refl
+by-question who book table links wildcard (At set) h few = ap (meaning who book table links) (question-by-number book table links set wildcard (omega arith))
 
-module _ (request book : List ℕ) (good : bookRefusal book ≡ none) where
+module _ (who : Applicant) (request book : List ℕ) (good : bookRefusal book ≡ none) where
   abbrev table : List ℕ
   table = tableOf book
 
@@ -54,19 +55,19 @@ module _ (request book : List ℕ) (good : bookRefusal book ≡ none) where
 
   -- what the rule says
   abbrev says : Name → Authorization
-  says n = authorization (caaRecords (records book)) n
+  says n = authorization who (caaRecords (records book)) n
 
   abbrev said : NameQuestion → Authorization
-  said q = saidBy (answered book table (chains .links)) q
+  said q = saidBy (answered who book table (chains .links)) q
 
   said-of-name :
       (n : Name) → GoodName n → {x : List ℕ} {wildcard : Bool} → x ≡ wire (base n) → wildcard ≡ isWildcard n →
       said (questionBy wildcard (nearestRecord book table (chains .links) (chains .heads) x)) ≡ says n
   unfolding authorization nameAuthorization maxRecords
   said-of-name n g {x} {wildcard} e w =
-      by-question book table (chains .links) wildcard (nearestRecord book table (chains .links) (chains .heads) x)
+      by-question who book table (chains .links) wildcard (nearestRecord book table (chains .links) (chains .heads) x)
       (nearest-below (chains .links) book table (chains .heads) x) (omega (arith, chains-fit book .0, room-enough book .1))
-      ∙ rw (e, w) (authorization-by-offset book (base n) (isWildcard n) good (good-base n g))
+      ∙ rw (e, w) (authorization-by-offset who book (base n) (isWildcard n) good (good-base n g))
 
   -- of the names left, behind k of them
   pub record SaidOf (k : ℕ) (names : List Name) (qs : List NameQuestion) : Type 0 where

@@ -13,6 +13,7 @@ use Rattle.spec_octets.specs.Octets.{same, lowered}
 use Rattle.spec_octets.proofs.ListLaws.{All-imp, All-map}
 use Rattle.spec_octets.proofs.SelectTests.{select-twice}
 use Rattle.spec_octets.proofs.SmallLetters.{lowered-twice}
+use Rattle.spec_applicant.specs.Applicant.{Applicant}
 use Rattle.spec_rule.specs.Authorizations.{Authorization, granted, permits}
 use Rattle.spec_rule.specs.IssuerLists.{anyone, listed, distinct}
 use Rattle.book_places.specs.declared.Governing.{Governing}
@@ -70,31 +71,31 @@ pub all-0 : (k : ℕ) → All (λ r. r ≤ 0) (replicate k 0)
 all-0 zero = all-nil
 all-0 (suc k) = all-cons {x = 0} (omega arith) (all-0 k)
 
-module _ (book table links : List ℕ) (small : length book ≤ maxBookOctets) where
+module _ (who : Applicant) (book table links : List ℕ) (small : length book ≤ maxBookOctets) where
   abbrev grantees : TaggedSet → List (List ℕ)
-  grantees s = setGrantees book table links (s .tag) (s .set)
+  grantees s = setGrantees who book table links (s .tag) (s .set)
 
   lower-grantees : (s : TaggedSet) → All (λ m. lowered m ≡ m) (grantees s)
   lower-grantees s =
-      rw (← grants-by-offset book table links small s)
-      (All-map {P = λ g. Unit} (λ g. lowered (grantOctets book g)) (λ g h. lowered-twice (grantOctets book g)) (anything (grantsBy book table links s)))
+      rw (← grants-by-offset who book table links small s)
+      (All-map {P = λ g. Unit} (λ g. lowered (grantOctets book g)) (λ g h. lowered-twice (grantOctets book g)) (anything (grantsBy who book table links s)))
     where
       anything : (gs : List Grant) → All (λ g. Unit) gs
       anything [] = all-nil
       anything (g ∷ gs) = all-cons _ (anything gs)
 
-  pub answers-lower : (q : ℕ) → Lower (answered book table links q)
+  pub answers-lower : (q : ℕ) → Lower (answered who book table links q)
   answers-lower q = go (answerTo book table links q)
     where
-      go : (a : NameAuthorization) → Lower (meaning book table links a)
+      go : (a : NameAuthorization) → Lower (meaning who book table links a)
       go Unrestricted = _
       go (Forbidden r) = _
-      go (Governed g) = lower-grantees (governingSet book table links g)
+      go (Governed g) = lower-grantees (governingSet who book table links g)
 
-  collected-few : (s : TaggedSet) (names : List ℕ) → collected book table links s names .count ≤ length links
+  collected-few : (s : TaggedSet) (names : List ℕ) → collected who book table links s names .count ≤ length links
   unfolding collected
   collected-few s names =
-      omega (arith, pushed-few book names (grantsBy book table links s) (record { count = 0; names = names }), few-grants book table links s (s .set))
+      omega (arith, pushed-few book names (grantsBy who book table links s) (record { count = 0; names = names }), few-grants who book table links s (s .set))
 
   -- with rounds for so many candidates
   module _ (size : ℕ) (places : length links ≤ size) (most : size ≤ maxRecords) where
@@ -106,33 +107,33 @@ module _ (book table links : List ℕ) (small : length book ≤ maxBookOctets) w
       pub few : p .answer .round + k ≤ 65535
 
     all-kept :
-        (s : TaggedSet) (names : List ℕ) → 2 * length links ≤ length names → (c : Candidates) → c ≡ collected book table links s names →
+        (s : TaggedSet) (names : List ℕ) → 2 * length links ≤ length names → (c : Candidates) → c ≡ collected who book table links s names →
         keptNames book (c .names) (c .count) (replicate size 0) 0 ≡ distinct (grantees s)
     unfolding keptNames candidates
     all-kept s names room c e =
         ap (keptFrom book (c .names) 0 (c .count) 0) (take-all maxRecords (replicate size 0) (omega (arith, length-replicate {A = ℕ} size 0)))
         ∙ round-0 book (c .names) (c .count) 0 size (rw e (omega (arith, collected-few s names)))
-        ∙ collected-by-offset book table links names small room s c e
+        ∙ collected-by-offset who book table links names small room s c e
 
     -- one set that governs
     module _ (g : Governing) (p : PermittedIn) (k : ℕ) (h : Sound p (suc k)) where
       abbrev set : TaggedSet
-      set = governingSet book table links g
+      set = governingSet who book table links g
 
       next : nextRound (p .answer .round) ≡ suc (p .answer .round)
       next = omega (arith, h .few)
 
       further :
-          (keptNames book (p .names) (p .answer .count) (narrowed book (p .names) table links set (p .answer .count) (p .answer .round) (p .rounds)) (suc (p .answer .round))
+          (keptNames book (p .names) (p .answer .count) (narrowed who book (p .names) table links set (p .answer .count) (p .answer .round) (p .rounds)) (suc (p .answer .round))
           ≡ select (λ m. any (same m) (grantees set)) (keptNames book (p .names) (p .answer .count) (p .rounds) (p .answer .round)))
-          × All (λ r. r ≤ suc (p .answer .round)) (narrowed book (p .names) table links set (p .answer .count) (p .answer .round) (p .rounds))
-      further = narrowed-by-offset book table links (p .names) (p .rounds) small (p .answer .count) (p .answer .round) (omega (arith, h .few)) (h .within) set
+          × All (λ r. r ≤ suc (p .answer .round)) (narrowed who book (p .names) table links set (p .answer .count) (p .answer .round) (p .rounds))
+      further = narrowed-by-offset who book table links (p .names) (p .rounds) small (p .answer .count) (p .answer .round) (omega (arith, h .few)) (h .within) set
 
-      pub governed-sound : Sound (governedIn book table links g p) k
+      pub governed-sound : Sound (governedIn who book table links g p) k
       unfolding governedIn
       governed-sound = go (p .answer .restricted) refl
         where
-          go : (t : Bool) → p .answer .restricted ≡ t → Sound (cond t (narrowedIn book table links set p) (collectedIn book table links set p)) k
+          go : (t : Bool) → p .answer .restricted ≡ t → Sound (cond t (narrowedIn who book table links set p) (collectedIn who book table links set p)) k
           go true e = record {
             fresh = λ f. absurd (true≢false f);
             room = λ f. absurd (true≢false f);
@@ -148,7 +149,7 @@ module _ (book table links : List ℕ) (small : length book ≤ maxBookOctets) w
 
       pub governed-issuers :
           (ys : List Authorization) →
-          left (issuersIn book (governedIn book table links g p)) ys ≡ left (issuersIn book p) (meaning book table links (Governed g) ∷ ys)
+          left (issuersIn book (governedIn who book table links g p)) ys ≡ left (issuersIn book p) (meaning who book table links (Governed g) ∷ ys)
       unfolding governedIn
       governed-issuers ys = go (p .answer .restricted) refl
         where
@@ -157,7 +158,7 @@ module _ (book table links : List ℕ) (small : length book ≤ maxBookOctets) w
 
           go :
               (t : Bool) → p .answer .restricted ≡ t →
-              left (issuersIn book (cond t (narrowedIn book table links set p) (collectedIn book table links set p))) ys
+              left (issuersIn book (cond t (narrowedIn who book table links set p) (collectedIn who book table links set p))) ys
               ≡ left (cond t (listed kept) anyone) (granted (g .first .0) (grantees set) ∷ ys)
           go true e =
               rw (next, further .0)
@@ -169,24 +170,24 @@ module _ (book table links : List ℕ) (small : length book ≤ maxBookOctets) w
               (All-imp (λ m j. rw j) (kept-lower book (p .names) (p .answer .count) (p .rounds) (p .answer .round)))))
           go false e =
               ap (λ ns. listed (select (λ m. all (permits m) ys) ns))
-              (ap (λ rs. keptNames book (collected book table links set (p .names) .names) (collected book table links set (p .names) .count) rs 0) (h .fresh e)
-              ∙ all-kept set (p .names) (h .room e) (collected book table links set (p .names)) refl)
+              (ap (λ rs. keptNames book (collected who book table links set (p .names) .names) (collected who book table links set (p .names) .count) rs 0) (h .fresh e)
+              ∙ all-kept set (p .names) (h .room e) (collected who book table links set (p .names)) refl)
 
     pub asked-issuers :
         (qs : List ℕ) (p : PermittedIn) → Sound p (length qs) →
-        issuersIn book (askedIn book table links qs p) ≡ left (issuersIn book p) (map (answered book table links) qs)
+        issuersIn book (askedIn who book table links qs p) ≡ left (issuersIn book p) (map (answered who book table links) qs)
     unfolding keptNames
     asked-issuers [] p h = sym (left-end (issuersIn book p))
     asked-issuers (q ∷ qs) p h = go (answerTo book table links q) (asked-issuers qs)
       where
         go :
             (a : NameAuthorization) →
-            ((r : PermittedIn) → Sound r (length qs) → issuersIn book (askedIn book table links qs r) ≡ left (issuersIn book r) (map (answered book table links) qs)) →
-            issuersIn book (answeredIn book table links a p (askedIn book table links qs)) ≡ left (issuersIn book p) (meaning book table links a ∷ map (answered book table links) qs)
+            ((r : PermittedIn) → Sound r (length qs) → issuersIn book (askedIn who book table links qs r) ≡ left (issuersIn book r) (map (answered who book table links) qs)) →
+            issuersIn book (answeredIn who book table links a p (askedIn who book table links qs)) ≡ left (issuersIn book p) (meaning who book table links a ∷ map (answered who book table links) qs)
         go Unrestricted rest =
             rest p (record { fresh = h .fresh; room = h .room; within = h .within; few = omega (arith, h .few) })
-            ∙ sym (left-unrestricted (issuersIn book p) (map (answered book table links) qs))
-        go (Forbidden r) rest = sym (left-forbidden (issuersIn book p) (r .0) (map (answered book table links) qs))
+            ∙ sym (left-unrestricted (issuersIn book p) (map (answered who book table links) qs))
+        go (Forbidden r) rest = sym (left-forbidden (issuersIn book p) (r .0) (map (answered who book table links) qs))
         go (Governed g) rest =
-            rest (governedIn book table links g p) (governed-sound g p (length qs) h)
-            ∙ governed-issuers g p (length qs) h (map (answered book table links) qs)
+            rest (governedIn who book table links g p) (governed-sound g p (length qs) h)
+            ∙ governed-issuers g p (length qs) h (map (answered who book table links) qs)

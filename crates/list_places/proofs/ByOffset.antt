@@ -12,6 +12,7 @@ use Rattle.spec_limits.specs.Limits.{maxNames, maxBookOctets}
 use Rattle.spec_refusal.specs.declared.Refusal.the-variants.{BookTooLong}
 use Rattle.spec_request.specs.Request.{requestRefusal}
 use Rattle.spec_record.specs.Records.{bookRefusal, recordRefusal, recordItems}
+use Rattle.spec_applicant.specs.Applicant.{Applicant}
 use Rattle.spec_rule.specs.IssuerLists.{issuers}
 use Rattle.spec_rule.specs.Calls.{authorizations}
 use Rattle.book_places.specs.Table.{roomFor, tableOf}
@@ -37,7 +38,7 @@ book-small book e = go (ltb maxBookOctets (length book)) refl e
     go true k h = let z : _≡_ {A = ℕ} 0 1 = cc in absurd (omega arith)
     go false k h = ltb-false maxBookOctets (length book) k
 
-module _ (request book : List ℕ) (r : requestRefusal request ≡ none) (b : bookRefusal book ≡ none) where
+module _ (who : Applicant) (request book : List ℕ) (r : requestRefusal request ≡ none) (b : bookRefusal book ≡ none) where
   abbrev table : List ℕ
   table = tableOf book
 
@@ -54,11 +55,11 @@ module _ (request book : List ℕ) (r : requestRefusal request ≡ none) (b : bo
   kept = notedIn request book table links heads
 
   -- the questions noted give the answer
-  by-noted : byNumbers (answered book table links) (kept .answer) (kept .numbers) ≡ issuers (authorizations request book)
+  by-noted : byNumbers (answered who book table links) (kept .answer) (kept .numbers) ≡ issuers (authorizations request who book)
   unfolding notedIn noted authorizations
   by-noted =
-      let names = said-names request book b r in
-      noted-issuers (answered book table links) asked 0 (replicate maxNames 0) (rw length-replicate (names .few)) ∙ ap issuers (names .same)
+      let names = said-names who request book b r in
+      noted-issuers (answered who book table links) asked 0 (replicate maxNames 0) (rw length-replicate (names .few)) ∙ ap issuers (names .same)
 
   few-numbers : (n : ℕ) → length (take n (kept .numbers)) ≤ maxNames
   unfolding notedIn noted
@@ -67,20 +68,20 @@ module _ (request book : List ℕ) (r : requestRefusal request ≡ none) (b : bo
   module _ (names : List ℕ) (room : 2 * roomFor book ≤ length names) where
     by-answer :
         (a : RelevantSets) (numbers : List ℕ) → ((n : ℕ) → length (take n numbers) ≤ maxNames) →
-        issuersIn book (byNoted book table links a numbers names (replicate (roomFor book) 0)) ≡ byNumbers (answered book table links) a numbers
+        issuersIn book (byNoted who book table links a numbers names (replicate (roomFor book) 0)) ≡ byNumbers (answered who book table links) a numbers
     unfolding keptNames allAsked maxNames
     by-answer Unknown numbers few = refl
     by-answer (Noted n) numbers few =
-        asked-issuers book table links (book-small book b) (roomFor book) (omega (arith, chains-fit book .0)) (room-enough book .1) (once (take n numbers)) (anyoneIn names (replicate (roomFor book) 0)) (record {
+        asked-issuers who book table links (book-small book b) (roomFor book) (omega (arith, chains-fit book .0)) (room-enough book .1) (once (take n numbers)) (anyoneIn names (replicate (roomFor book) 0)) (record {
           fresh = λ e. refl;
           room = λ e. rw (chains-fit book .0) room;
           within = all-0 (roomFor book);
           few = omega (arith, once-fewer (take n numbers), few n);
         })
-        ∙ once-issuers (answered book table links) (answers-lower book table links (book-small book b)) (take n numbers)
+        ∙ once-issuers (answered who book table links) (answers-lower who book table links (book-small book b)) (take n numbers)
 
 pub permitted-by-offset : Permitted-by-offset
 unfolding permittedIn
-permitted-by-offset request book names r b room =
-    by-answer request book r b names room (kept request book r b .answer) (kept request book r b .numbers) (few-numbers request book r b)
-    ∙ by-noted request book r b
+permitted-by-offset who request book names r b room =
+    by-answer who request book r b names room (kept who request book r b .answer) (kept who request book r b .numbers) (few-numbers who request book r b)
+    ∙ by-noted who request book r b

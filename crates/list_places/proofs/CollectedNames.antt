@@ -9,6 +9,7 @@ use lib.ListN.{length}
 use Rattle.spec_octets.specs.Lists.{consIf, select}
 use Rattle.spec_octets.specs.Octets.{lowered}
 use Rattle.spec_record.specs.declared.PropertyTag.{PropertyTag}
+use Rattle.spec_applicant.specs.Applicant.{Applicant}
 use Rattle.read_grantee.specs.Places.{granteeAt}
 use Rattle.read_grantee.specs.declared.GranteeRead.{GranteeRead}
 use Rattle.read_grantee.specs.declared.GranteeRead.the-variants.{At, Nobody}
@@ -41,25 +42,25 @@ along-fewer (suc n) links i = go (ltb i (length links)) (along-fewer n links (be
     go true h = omega arith
     go false h = omega arith
 
-module _ (book table : List ℕ) (tag : PropertyTag) where
-  grants-fewer : (is : List ℕ) → length (grantsOf book table tag is) ≤ length is
+module _ (who : Applicant) (book table : List ℕ) (tag : PropertyTag) where
+  grants-fewer : (is : List ℕ) → length (grantsOf who book table tag is) ≤ length is
   grants-fewer [] = omega arith
-  grants-fewer (i ∷ is) = go (dataHasTag tag (dataAt book table i)) (granteeAt (dataAt book table i)) (grants-fewer is)
+  grants-fewer (i ∷ is) = go (dataHasTag tag (dataAt book table i)) (granteeAt who (dataAt book table i)) (grants-fewer is)
     where
       go :
-          (t : Bool) (o : GranteeRead) → length (grantsOf book table tag is) ≤ length is →
-          length (cond t (grantRead i (cell table i 2) o) [] ++ grantsOf book table tag is) ≤ suc (length is)
+          (t : Bool) (o : GranteeRead) → length (grantsOf who book table tag is) ≤ length is →
+          length (cond t (grantRead i (cell table i 2) o) [] ++ grantsOf who book table tag is) ≤ suc (length is)
       go true Nobody h = omega arith
       go true (At n) h = omega arith
       go false o h = omega arith
 
 -- at most one grant for each link
-pub few-grants : (book table links : List ℕ) (s : TaggedSet) (i : ℕ) → length (grantsFrom book table links s i) ≤ length links
+pub few-grants : (who : Applicant) (book table links : List ℕ) (s : TaggedSet) (i : ℕ) → length (grantsFrom who book table links s i) ≤ length links
 unfolding grantsFrom ownedFrom chainFrom
-few-grants book table links s i =
+few-grants who book table links s i =
     omega (
       arith,
-      grants-fewer book table (s .tag) (select (isOwned book table (ownerAt book table (s .set))) (along (length links) links i)),
+      grants-fewer who book table (s .tag) (select (isOwned book table (ownerAt book table (s .set))) (along (length links) links i)),
       select-fewer (isOwned book table (ownerAt book table (s .set))) (along (length links) links i),
       along-fewer (length links) links i,
     )
@@ -92,7 +93,7 @@ module _ (book : List ℕ) where
 
 pub collected-by-offset : Collected-by-offset
 unfolding collected candidates
-collected-by-offset book table links names small room s c e =
+collected-by-offset who book table links names small room s c e =
     rw e
-    (joined-names book (grantsBy book table links s) (record { count = 0; names = names }) (omega (arith, few-grants book table links s (s .set)))
-    ∙ rw (grants-by-offset book table links small s) (joined-distinct (setGrantees book table links (s .tag) (s .set))))
+    (joined-names book (grantsBy who book table links s) (record { count = 0; names = names }) (omega (arith, few-grants who book table links s (s .set)))
+    ∙ rw (grants-by-offset who book table links small s) (joined-distinct (setGrantees who book table links (s .tag) (s .set))))

@@ -13,6 +13,7 @@ use Rattle.spec_limits.specs.Limits.{maxBookOctets}
 use Rattle.spec_octets.specs.Lists.{consIf, select}
 use Rattle.spec_octets.specs.Octets.{lowered}
 use Rattle.spec_record.specs.declared.PropertyTag.{PropertyTag}
+use Rattle.spec_applicant.specs.Applicant.{Applicant}
 use Rattle.spec_rule.specs.Authorizations.{consSome}
 use Rattle.read_value.specs.declared.NameAt.{NameAt}
 use Rattle.read_grantee.specs.Places.{granteeAt, granteeOfData, nameAt}
@@ -62,7 +63,7 @@ module _ (book : List ℕ) (small : length book ≤ maxBookOctets) (offset n : �
           let length-zero : long ≡ 0 = omega arith in
           rw length-zero refl
 
-module _ (book table links : List ℕ) (small : length book ≤ maxBookOctets) (tag : PropertyTag) where
+module _ (who : Applicant) (book table links : List ℕ) (small : length book ≤ maxBookOctets) (tag : PropertyTag) where
   abbrev named : List Grant → List (List ℕ)
   named gs = map (λ g. lowered (grantOctets book g)) gs
 
@@ -73,24 +74,24 @@ module _ (book table links : List ℕ) (small : length book ≤ maxBookOctets) (
   in-data i n order inside = in-book book small (cell table i 2) (cell table i 4) n order inside i
 
   named-read :
-      (i : ℕ) (o : GranteeRead) → o ≡ granteeAt (dataAt book table i) → (gs : List Grant) →
-      named (grantRead i (cell table i 2) o ++ gs) ≡ consSome (granteeOfData (dataAt book table i)) (named gs)
-  named-read i Nobody e gs = rw (nobody-granted (dataAt book table i) Nobody e refl)
+      (i : ℕ) (o : GranteeRead) → o ≡ granteeAt who (dataAt book table i) → (gs : List Grant) →
+      named (grantRead i (cell table i 2) o ++ gs) ≡ consSome (granteeOfData who (dataAt book table i)) (named gs)
+  named-read i Nobody e gs = rw (nobody-granted who (dataAt book table i) Nobody e refl)
   named-read i (At n) e gs =
-      rw (somebody-granted (dataAt book table i) (At n) e n refl)
-      (ap (λ l. lowered l ∷ named gs) (in-data i n (grantee-from _ (At n) e n refl) (grantee-to _ (At n) e n refl)))
+      rw (somebody-granted who (dataAt book table i) (At n) e n refl)
+      (ap (λ l. lowered l ∷ named gs) (in-data i n (grantee-from who _ (At n) e n refl) (grantee-to who _ (At n) e n refl)))
 
-  named-of : (is : List ℕ) → named (grantsOf book table tag is) ≡ granteesAt book table links (select (λ i. dataHasTag tag (dataAt book table i)) is)
+  named-of : (is : List ℕ) → named (grantsOf who book table tag is) ≡ granteesAt who book table links (select (λ i. dataHasTag tag (dataAt book table i)) is)
   named-of [] = refl
   named-of (i ∷ is) = go (dataHasTag tag (dataAt book table i)) (named-of is)
     where
       go :
-          (t : Bool) → named (grantsOf book table tag is) ≡ granteesAt book table links (select (λ i. dataHasTag tag (dataAt book table i)) is) →
-          named (cond t (grantRead i (cell table i 2) (granteeAt (dataAt book table i))) [] ++ grantsOf book table tag is)
-          ≡ granteesAt book table links (consIf t i (select (λ i. dataHasTag tag (dataAt book table i)) is))
-      go true rest = named-read i (granteeAt (dataAt book table i)) refl (grantsOf book table tag is) ∙ rw rest
+          (t : Bool) → named (grantsOf who book table tag is) ≡ granteesAt who book table links (select (λ i. dataHasTag tag (dataAt book table i)) is) →
+          named (cond t (grantRead i (cell table i 2) (granteeAt who (dataAt book table i))) [] ++ grantsOf who book table tag is)
+          ≡ granteesAt who book table links (consIf t i (select (λ i. dataHasTag tag (dataAt book table i)) is))
+      go true rest = named-read i (granteeAt who (dataAt book table i)) refl (grantsOf who book table tag is) ∙ rw rest
       go false rest = rest
 
 pub grants-by-offset : Grants-by-offset
 unfolding grantsFrom setGrantees setAt
-grants-by-offset book table links small s = named-of book table links small (s .tag) (setAt book table links (s .set))
+grants-by-offset who book table links small s = named-of who book table links small (s .tag) (setAt book table links (s .set))

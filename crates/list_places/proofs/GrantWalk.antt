@@ -6,6 +6,7 @@ use mathlib.Core.Bool.{Bool, true, false, cond}
 use mathlib.Core.List.{List, [], _∷_, _++_, nil≢cons}
 use lib.ListN.{length}
 use Rattle.spec_record.specs.declared.PropertyTag.{PropertyTag}
+use Rattle.spec_applicant.specs.Applicant.{Applicant}
 use Rattle.read_grantee.specs.Places.{granteeAt}
 use Rattle.read_grantee.specs.declared.GranteeRead.{GranteeRead}
 use Rattle.read_grantee.specs.declared.GranteeRead.the-variants.{At as GranteeAt, Nobody}
@@ -29,12 +30,12 @@ one-there : (gs : List Grant) (g : Grant) → firstGrant gs ≡ At g → (more :
 one-there [] g e = let z : _≡_ {A = ℕ} 0 1 = cc in absurd (omega arith)
 one-there (h ∷ gs) g e = let same : h ≡ g = cc in (gs, rw same)
 
-module _ (book table links : List ℕ) (tag : PropertyTag) (x : List ℕ) where
+module _ (who : Applicant) (book table links : List ℕ) (tag : PropertyTag) (x : List ℕ) where
   abbrev owned : ℕ → List ℕ
   owned i = ownedFrom book table links x i
 
   abbrev grants : List ℕ → List Grant
-  grants is = grantsOf book table tag is
+  grants is = grantsOf who book table tag is
 
   -- behind the first grant come those of the records behind its own
   abbrev Behind : ℕ → Type 0
@@ -42,7 +43,7 @@ module _ (book table links : List ℕ) (tag : PropertyTag) (x : List ℕ) where
 
   -- what record r grants, and then those behind it
   one-on : (r : ℕ) → Behind (behind links r) → (i : ℕ) → owned i ≡ r ∷ owned (behind links r) → Behind i
-  one-on r rest i here g gs e = go (dataHasTag tag (dataAt book table r)) (granteeAt (dataAt book table r)) (rw here at e)
+  one-on r rest i here g gs e = go (dataHasTag tag (dataAt book table r)) (granteeAt who (dataAt book table r)) (rw here at e)
     where
       go :
           (t : Bool) (o : GranteeRead) → cond t (grantRead r (cell table r 2) o) [] ++ grants (owned (behind links r)) ≡ g ∷ gs →
@@ -70,18 +71,18 @@ module _ (book table links : List ℕ) (tag : PropertyTag) (x : List ℕ) where
           one-on (r .0) (rest (behind links (r .0)) (omega (arith, ap length here))) i here g gs e
 
 -- o is the answer of next_grant
-module _ (book table links : List ℕ) (s : TaggedSet) (i : ℕ) (o : NextGrant) (f : o ≡ firstGrant (grantsFrom book table links s i)) where
-  pub grants-over : o ≡ Nothing → grantsFrom book table links s i ≡ []
-  grants-over e = none-there (grantsFrom book table links s i) (sym f ∙ e)
+module _ (who : Applicant) (book table links : List ℕ) (s : TaggedSet) (i : ℕ) (o : NextGrant) (f : o ≡ firstGrant (grantsFrom who book table links s i)) where
+  pub grants-over : o ≡ Nothing → grantsFrom who book table links s i ≡ []
+  grants-over e = none-there (grantsFrom who book table links s i) (sym f ∙ e)
 
   module _ (g : Grant) (e : o ≡ At g) where
-    pub grants-on : grantsFrom book table links s i ≡ g ∷ grantsFrom book table links s (behind links (g .rr))
+    pub grants-on : grantsFrom who book table links s i ≡ g ∷ grantsFrom who book table links s (behind links (g .rr))
     unfolding grantsFrom
     grants-on =
         let owner = ownerAt book table (s .set) in
-        let (more, all) = one-there (grantsFrom book table links s i) g (sym f ∙ e) in
-        all ∙ ap (_∷_ g) (others-behind book table links (s .tag) owner (length (ownedFrom book table links owner i)) i (omega arith) g more all)
+        let (more, all) = one-there (grantsFrom who book table links s i) g (sym f ∙ e) in
+        all ∙ ap (_∷_ g) (others-behind who book table links (s .tag) owner (length (ownedFrom book table links owner i)) i (omega arith) g more all)
 
     pub fewer-grants :
-        (j : ℕ) → j ≡ behind links (g .rr) → length (grantsFrom book table links s j) < length (grantsFrom book table links s i)
+        (j : ℕ) → j ≡ behind links (g .rr) → length (grantsFrom who book table links s j) < length (grantsFrom who book table links s i)
     fewer-grants j b = rw (b, grants-on) (omega arith)

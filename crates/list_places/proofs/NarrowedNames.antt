@@ -120,8 +120,8 @@ module _ (book names : List ℕ) (t : ℕ) (small : t < 65535) where
 
 pub narrowed-by-offset : Narrowed-by-offset
 unfolding keptNames narrowed
-narrowed-by-offset book table links names rounds fits count t small h s =
-    rw (marked-by book names t small count (grantsBy book table links s) rounds, ← grants-by-offset book table links fits s) (
+narrowed-by-offset who book table links names rounds fits count t small h s =
+    rw (marked-by book names t small count (grantsBy who book table links s) rounds, ← grants-by-offset who book table links fits s) (
       rw (moved-front book names t small _ maxRecords count 0 rounds)
           (moved-kept book names t small _ count 0 (take maxRecords rounds) (All-take maxRecords h)),
       moved-within book names t small _ count 0 rounds h,

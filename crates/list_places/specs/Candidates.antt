@@ -7,6 +7,7 @@ use lib.Dec.{ltb}
 use lib.ListN.{length, getD, set}
 use Rattle.spec_octets.specs.Lists.{any}
 use Rattle.spec_octets.specs.Octets.{same, lowered}
+use Rattle.spec_applicant.specs.Applicant.{Applicant}
 use Rattle.book_places.specs.Table.{octetsAt}
 use Rattle.list_places.specs.declared.TaggedSet.{TaggedSet}
 use Rattle.list_places.specs.declared.Grant.{Grant}
@@ -45,6 +46,6 @@ abbrev pub pushedOnce : List ℕ → List Grant → Candidates → Candidates
 pushedOnce book [] c = c
 pushedOnce book (g ∷ gs) c = pushedOnce book gs (cond (isCandidate book (c .names) (c .count) (grantOctets book g)) c (pushed c g))
 
--- The names that the records of a tagged set grant become the candidates.
-unfoldable pub collected : List ℕ → List ℕ → List ℕ → TaggedSet → List ℕ → Candidates
-collected book table links s names = pushedOnce book (grantsBy book table links s) (record { count = 0; names = names })
+-- The names that the records of a tagged set grant to the applicant become the candidates.
+unfoldable pub collected : Applicant → List ℕ → List ℕ → List ℕ → TaggedSet → List ℕ → Candidates
+collected who book table links s names = pushedOnce book (grantsBy who book table links s) (record { count = 0; names = names })

@@ -1,10 +1,11 @@
--- The grants of a tagged set, which is the records of a set with one tag. They are in the book's order. Each grant gives the offset and the length
+-- The grants of a tagged set, which is the records of a set with one tag, to an applicant. They are in the book's order. Each grant gives the offset and the length
 -- of an issuer name in the book.
 use Prim.Native.Nat.{ℕ, _+_, _-_, _%_}
 use mathlib.Core.Bool.{cond}
 use mathlib.Core.List.{List, [], _∷_, _++_}
 use Rattle.spec_record.specs.declared.PropertyTag.{PropertyTag}
 use Rattle.read_value.specs.declared.NameAt.{NameAt}
+use Rattle.spec_applicant.specs.Applicant.{Applicant}
 use Rattle.read_grantee.specs.Places.{granteeAt}
 use Rattle.read_grantee.specs.declared.GranteeRead.{GranteeRead}
 use Rattle.read_grantee.specs.declared.GranteeRead.the-variants.{At as GranteeAt, Nobody}
@@ -25,10 +26,10 @@ abbrev pub grantRead : ℕ → ℕ → GranteeRead → List Grant
 grantRead i offset Nobody = []
 grantRead i offset (GranteeAt n) = grantIn i offset n ∷ []
 
-module _ (book table : List ℕ) (tag : PropertyTag) where
+module _ (who : Applicant) (book table : List ℕ) (tag : PropertyTag) where
   -- The grant of record i; none if it has another tag.
   abbrev pub grantAt : ℕ → List Grant
-  grantAt i = cond (dataHasTag tag (dataAt book table i)) (grantRead i (cell table i 2) (granteeAt (dataAt book table i))) []
+  grantAt i = cond (dataHasTag tag (dataAt book table i)) (grantRead i (cell table i 2) (granteeAt who (dataAt book table i))) []
 
   -- The grants of a list of records.
   abbrev pub grantsOf : List ℕ → List Grant
@@ -36,12 +37,12 @@ module _ (book table : List ℕ) (tag : PropertyTag) where
   grantsOf (i ∷ is) = grantAt i ++ grantsOf is
 
 -- The grants of a tagged set, from record i of its chain on.
-unfoldable pub grantsFrom : List ℕ → List ℕ → List ℕ → TaggedSet → ℕ → List Grant
-grantsFrom book table links s i = grantsOf book table (s .tag) (ownedFrom book table links (ownerAt book table (s .set)) i)
+unfoldable pub grantsFrom : Applicant → List ℕ → List ℕ → List ℕ → TaggedSet → ℕ → List Grant
+grantsFrom who book table links s i = grantsOf who book table (s .tag) (ownedFrom book table links (ownerAt book table (s .set)) i)
 
 -- The grants of all records of a tagged set.
-abbrev pub grantsBy : List ℕ → List ℕ → List ℕ → TaggedSet → List Grant
-grantsBy book table links s = grantsFrom book table links s (s .set)
+abbrev pub grantsBy : Applicant → List ℕ → List ℕ → List ℕ → TaggedSet → List Grant
+grantsBy who book table links s = grantsFrom who book table links s (s .set)
 
 -- The first grant of a list, if there is one.
 abbrev pub firstGrant : List Grant → NextGrant

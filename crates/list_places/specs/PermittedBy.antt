@@ -5,6 +5,7 @@ use mathlib.Core.Bool.{true, false, cond}
 use mathlib.Core.List.{List, [], _∷_}
 use lib.ListN.{take, replicate}
 use Rattle.spec_limits.specs.Limits.{maxNames}
+use Rattle.spec_applicant.specs.Applicant.{Applicant}
 use Rattle.spec_rule.specs.IssuerLists.{Issuers, anyone, listed}
 use Rattle.book_places.specs.declared.Governing.{Governing}
 use Rattle.book_places.specs.declared.NameAuthorization.{NameAuthorization}
@@ -32,12 +33,12 @@ anyoneIn names rounds = record { answer = record { restricted = false; count = 0
 abbrev pub nobodyIn : List ℕ → List ℕ → PermittedIn
 nobodyIn names rounds = record { answer = record { restricted = true; count = 0; round = 0 }; names = names; rounds = rounds }
 
-module _ (book table links : List ℕ) where
+module _ (who : Applicant) (book table links : List ℕ) where
   -- The first restricting set: what it grants becomes the candidates.
   abbrev pub collectedIn : TaggedSet → PermittedIn → PermittedIn
   collectedIn s p = record {
-    answer = record { restricted = true; count = collected book table links s (p .names) .count; round = 0 };
-    names = collected book table links s (p .names) .names;
+    answer = record { restricted = true; count = collected who book table links s (p .names) .count; round = 0 };
+    names = collected who book table links s (p .names) .names;
     rounds = p .rounds;
   }
 
@@ -46,7 +47,7 @@ module _ (book table links : List ℕ) where
   narrowedIn s p = record {
     answer = record { restricted = true; count = p .answer .count; round = nextRound (p .answer .round) };
     names = p .names;
-    rounds = narrowed book (p .names) table links s (p .answer .count) (p .answer .round) (p .rounds);
+    rounds = narrowed who book (p .names) table links s (p .answer .count) (p .answer .round) (p .rounds);
   }
 
   -- The governing records as a tagged set.
@@ -81,10 +82,10 @@ module _ (book table links : List ℕ) where
 unfoldable pub notedIn : List ℕ → List ℕ → List ℕ → List ℕ → List ℕ → NotedQuestions
 notedIn request book table links heads = noted (replicate maxNames 0) (questions request book table links heads)
 
--- The issuers for all names of a request, and the two arrays.
-unfoldable pub permittedIn : List ℕ → List ℕ → List ℕ → List ℕ → List ℕ → List ℕ → List ℕ → PermittedIn
-permittedIn request book table links heads names rounds =
-    byNoted book table links (notedIn request book table links heads .answer) (notedIn request book table links heads .numbers) names rounds
+-- The issuers for all names of a request, for the applicant, and the two arrays.
+unfoldable pub permittedIn : Applicant → List ℕ → List ℕ → List ℕ → List ℕ → List ℕ → List ℕ → List ℕ → PermittedIn
+permittedIn who request book table links heads names rounds =
+    byNoted who book table links (notedIn request book table links heads .answer) (notedIn request book table links heads .numbers) names rounds
 
 -- The list of issuers that such an answer stands for, or anyone.
 abbrev pub issuersIn : List ℕ → PermittedIn → Issuers

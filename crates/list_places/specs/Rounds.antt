@@ -8,6 +8,7 @@ use lib.ListN.{take}
 use Rattle.spec_limits.specs.Limits.{maxRecords}
 use Rattle.spec_octets.specs.Lists.{consIf}
 use Rattle.spec_octets.specs.Octets.{same, lowered}
+use Rattle.spec_applicant.specs.Applicant.{Applicant}
 use Rattle.list_places.specs.declared.TaggedSet.{TaggedSet}
 use Rattle.list_places.specs.declared.Grant.{Grant}
 use Rattle.list_places.specs.Grants.{grantsBy, grantOctets}
@@ -44,6 +45,7 @@ module _ (book names : List ℕ) where
   markedBy count t [] rounds = rounds
   markedBy count t (g ∷ gs) rounds = markedBy count t gs (marked count (grantOctets book g) t rounds)
 
-  -- The candidates of round t that a tagged set grants are moved on.
+module _ (who : Applicant) (book names : List ℕ) where
+  -- The candidates of round t that a tagged set grants to the applicant are moved on.
   unfoldable pub narrowed : List ℕ → List ℕ → TaggedSet → ℕ → ℕ → List ℕ → List ℕ
-  narrowed table links s count t rounds = markedBy count t (grantsBy book table links s) rounds
+  narrowed table links s count t rounds = markedBy book names count t (grantsBy who book table links s) rounds

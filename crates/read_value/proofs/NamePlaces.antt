@@ -40,18 +40,18 @@ module _ (f r : List ℕ) (some : trim f ≢ []) where
       let (b, e, long) = from-name in
       rw (long, e, length-append (trim f) b) (omega arith)
 
--- what follows the first piece does not move the name
-pub places-front : (f r : List ℕ) → namePlaces f (nameIn (trim f)) ≡ namePlaces (f ++ r) (nameIn (trim f))
-places-front f r = go (trim f) refl
+-- what follows the first piece does not move the name; its parameters begin at k
+pub places-front : (f r : List ℕ) (k : ℕ) → namePlaces f k (nameIn (trim f)) ≡ namePlaces (f ++ r) k (nameIn (trim f))
+places-front f r k = go (trim f) refl
   where
     by : (x : ℕ) (n : List ℕ) → trim f ≡ x ∷ n → (t : Bool) →
-        namePlaces f (cond t (named (x ∷ n)) malformed) ≡ namePlaces (f ++ r) (cond t (named (x ∷ n)) malformed)
+        namePlaces f k (cond t (named (x ∷ n)) malformed) ≡ namePlaces (f ++ r) k (cond t (named (x ∷ n)) malformed)
     by x n e true =
         let some : trim f ≢ [] = λ none. cons≢nil (sym e ∙ none) in
         rw (name-place f r some, ← name-place f [] some, append-nil f)
     by x n e false = refl
 
-    go : (n : List ℕ) → trim f ≡ n → namePlaces f (nameIn n) ≡ namePlaces (f ++ r) (nameIn n)
+    go : (n : List ℕ) → trim f ≡ n → namePlaces f k (nameIn n) ≡ namePlaces (f ++ r) k (nameIn n)
     go [] e = refl
     go (x ∷ n) e = by x n e (isDomainName (x ∷ n))
 
@@ -65,7 +65,7 @@ by-labels : (n : List ℕ) → (length n ≡ 0 → ⊥) → nameIn n ≡ cond (i
 by-labels [] some = absurd (some refl)
 by-labels (x ∷ n) some = refl
 
--- s without the blanks at its end is front, and that without those at its front name
+-- s without the blanks at its end is front, and that without those at its front name; the parameters begin at k
 module _ (s front name : List ℕ) (back : front ≡ trimEnd s) (start : name ≡ trimStart front) where
   trimmed : trim s ≡ name
   trimmed = rw (start, back)
@@ -73,21 +73,21 @@ module _ (s front name : List ℕ) (back : front ≡ trimEnd s) (start : name �
   pub name-shorter : length name ≤ length front
   name-shorter = rw start (trimStart-shorter front)
 
-  pub name-missing : length name ≡ 0 → Nameless ≡ namePlaces s (nameIn (trim s))
-  name-missing none = sym (ap (namePlaces s) (ap nameIn trimmed ∙ no-octets name none))
+  pub name-missing : (k : ℕ) → length name ≡ 0 → Nameless ≡ namePlaces s k (nameIn (trim s))
+  name-missing k none = sym (ap (namePlaces s k) (ap nameIn trimmed ∙ no-octets name none))
 
   module _ (some : length name ≡ 0 → ⊥) (r : Bool) (told : r ≡ areLabels (length name) name) where
     labelled : nameIn (trim s) ≡ cond r (named name) malformed
     unfolding isDomainName
     labelled = ap nameIn trimmed ∙ by-labels name some ∙ rw (told, any-length)
 
-    pub name-bad : r ≡ false → Malformed ≡ namePlaces s (nameIn (trim s))
-    name-bad bad = sym (ap (namePlaces s) labelled ∙ rw bad)
+    pub name-bad : (k : ℕ) → r ≡ false → Malformed ≡ namePlaces s k (nameIn (trim s))
+    name-bad k bad = sym (ap (namePlaces s k) labelled ∙ rw bad)
 
-    pub name-good : (a e : ℕ) → r ≡ true → a ≡ length front - length name → e ≡ length front →
-        Named (record { from = a; to = e }) ≡ namePlaces s (nameIn (trim s))
-    name-good a e good from to =
+    pub name-good : (a e k : ℕ) → r ≡ true → a ≡ length front - length name → e ≡ length front →
+        Named (record { from = a; to = e; parameters = k }) ≡ namePlaces s k (nameIn (trim s))
+    name-good a e k good from to =
         let first : length s - length (trimStart s) ≡ a =
         rw append-nil at (name-place s [] (λ none. some (ap length (sym trimmed ∙ none)))) ∙ rw (trimmed, ← back, from) in
         let last : a + length name ≡ e = omega (arith, name-shorter) in
-        sym (ap (namePlaces s) labelled ∙ rw (good, first, last))
+        sym (ap (namePlaces s k) labelled ∙ rw (good, first, last))

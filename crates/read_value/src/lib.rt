@@ -1,12 +1,14 @@
-// The issuer domain name in a value of an issue or issuewild property (RFC 8659 section 4.2).
+// The issuer domain name in a value of an issue or issuewild property, and where its parameters begin (RFC 8659 section 4.2).
 ghost use mathlib.Core.Path.{_≡_};
 ghost use Rattle.spec_value.specs.IssueValues.{trim, nameIn};
 ghost use Rattle.read_value.specs.Places.{namePlaces, valueAt};
 
-// The issuer domain name in a value: the offset of its first octet, and the offset after its last.
+// The issuer domain name in a value: the offset of its first octet, and the offset after its last. And where the parameters begin:
+// the offset after the first semicolon, or the end of the value.
 pub struct NameAt {
     pub from: usize,
     pub to: usize,
+    pub parameters: usize,
 }
 
 pub enum ValueRead {
@@ -17,9 +19,9 @@ pub enum ValueRead {
     Named(NameAt),
 }
 
-// A name with optional white space around it, or only white space.
-fn read_name(s: &[u8]) -> ValueRead
-    ensures { λ r. ⌜ r ≡ namePlaces (now (s .entry)) (nameIn (trim (now (s .entry)))) ⌝ }
+// A name with optional white space around it, or only white space. The parameters of the value begin at another offset.
+fn read_name(s: &[u8], parameters: usize) -> ValueRead
+    ensures { λ r. ⌜ r ≡ namePlaces (now (s .entry)) parameters (nameIn (trim (now (s .entry)))) ⌝ }
 {
     let front = text_classes::trim_end(s);
     let name = text_classes::trim_start(front);
@@ -32,6 +34,7 @@ fn read_name(s: &[u8]) -> ValueRead
         return ValueRead::Named(NameAt {
             from,
             to: front.len(),
+            parameters,
         });
     }
     ValueRead::Malformed
@@ -41,10 +44,12 @@ pub fn read_value(s: &[u8]) -> ValueRead
     ensures { λ r. ⌜ r ≡ valueAt (now (s .entry)) ⌝ }
 {
     let e = text_labels::piece_end(s, 0, b';');
+    let mut parameters: usize = e;
     if e < s.len() {
-        if !read_parameters::are_parameters(&s[e + 1..]) {
+        parameters = e + 1;
+        if !read_parameters::are_parameters(&s[parameters..]) {
             return ValueRead::Malformed;
         }
     }
-    read_name(&s[..e])
+    read_name(&s[..e], parameters)
 }

@@ -3,7 +3,7 @@ use Prim.Native.Nat.{ℕ, _≤_}
 use native.Mathlib.Omega.{arith}
 use mathlib.Core.Path.{_≡_, refl}
 use Rattle.spec_refusal.specs.declared.Refusal.{Refusal}
-use Rattle.spec_refusal.specs.declared.Refusal.the-variants.{RequestTooLong, BadName, TooManyNames, BadIssuer, BookTooLong, BadRecord, TooManyRecords, NoRoom, BadLine, LineTooLong, BadData}
+use Rattle.spec_refusal.specs.declared.Refusal.the-variants.{RequestTooLong, BadName, TooManyNames, BadIssuer, BookTooLong, BadRecord, TooManyRecords, NoRoom, BadLine, LineTooLong, BadData, BadAccountOrMethod}
 use Rattle.spec_refusal.specs.Refusal.{number, place}
 use Rattle.spec_rule.specs.declared.Judgement.{Judgement}
 use Rattle.spec_rule.specs.declared.Judgement.the-variants.{Permitted, UnknownCritical, NotGranted, Refused}
@@ -16,7 +16,7 @@ use Rattle.spec_line.specs.declared.LineAnswer.the-variants.{Length, Refused as
 use Rattle.spec_answers.specs.Answers.{valueOf}
 use Rattle.spec_answers.specs.LineAnswers.{lineCode}
 
-pub number-range : (r : Refusal) → (1 ≤ number r) × (number r ≤ 11)
+pub number-range : (r : Refusal) → (1 ≤ number r) × (number r ≤ 19)
 unfolding number
 number-range RequestTooLong = omega arith
 number-range (BadName k) = omega arith
@@ -29,6 +29,7 @@ number-range (NoRoom n) = omega arith
 number-range BadLine = omega arith
 number-range LineTooLong = omega arith
 number-range BadData = omega arith
+number-range BadAccountOrMethod = omega arith
 
 module _ (n a b c : ℕ) where
   -- the word's number and fields are those of the answer
@@ -38,7 +39,7 @@ module _ (n a b c : ℕ) where
   pub of-answer : {A : Type 0} (code : A → AnswerCode) {x y : A} → x ≡ y → Holds (code x) → Holds (code y)
   of-answer code e h = rw e at h
 
-  pub judge-refused : (j : Judgement) → Holds (judgementCode j) → 1 ≤ n → n ≤ 11 → (r : Refusal) × (j ≡ Refused r) × (number r ≡ n) × (place r ≡ a)
+  pub judge-refused : (j : Judgement) → Holds (judgementCode j) → 1 ≤ n → n ≤ 19 → (r : Refusal) × (j ≡ Refused r) × (number r ≡ n) × (place r ≡ a)
   unfolding judgementCode
   judge-refused Permitted h low high = absurd (omega arith)
   judge-refused (UnknownCritical d) h low high = absurd (omega arith)
@@ -67,7 +68,7 @@ module _ (n a b c : ℕ) where
   judge-21 (Refused r) h e = absurd (omega (arith, number-range r))
 
   -- the fields that it has no use for
-  pub judge-b : (j : Judgement) → Holds (judgementCode j) → n ≤ 11 → b ≡ 0
+  pub judge-b : (j : Judgement) → Holds (judgementCode j) → n ≤ 19 → b ≡ 0
   unfolding judgementCode
   judge-b Permitted h less = h .2
   judge-b (UnknownCritical d) h less = absurd (omega arith)
@@ -78,7 +79,7 @@ module _ (n a b c : ℕ) where
   unfolding judgementCode
   judge-a j h e = of-answer judgementCode (judge-0 j h e) h .1
 
-  pub list-refused : (x : PermittedIssuers) → Holds (permittedIssuersCode x) → n ≤ 11 →
+  pub list-refused : (x : PermittedIssuers) → Holds (permittedIssuersCode x) → n ≤ 19 →
       (r : Refusal) × (x ≡ ListRefused r) × (number r ≡ n) × (place r ≡ a)
   unfolding permittedIssuersCode
   list-refused Anyone h high = absurd (omega arith)

@@ -1,8 +1,8 @@
--- The word of caa_permitted_issuers and the buffer: the first row of the table that holds, or the list.
+-- The word of caa_permitted_issuers_for and the buffer: the first row of the table that holds, or the list.
 use Prim.Native.Nat.{ℕ, _≤_, _<_}
 use native.Mathlib.Omega.{arith}
 use mathlib.Core.Path.{_≡_, refl, sym, ap, _∙_}
-use mathlib.Core.Logic.{_↔_, _⊎_, inl, inr, ⊎-elim}
+use mathlib.Core.Logic.{_↔_, _≢_, _⊎_, inl, inr, ⊎-elim}
 use mathlib.Core.List.{List, [], _∷_, _++_, List·Memᴰ}
 use mathlib.Core.Option.{Option, none, some}
 use lib.Dec.{leb}
@@ -22,6 +22,8 @@ use Rattle.spec_request.proofs.Requests.{request-refusals}
 use Rattle.spec_issuer.specs.Issuer.{WellFormed}
 use Rattle.spec_record.specs.Records.{records, bookRefusal}
 use Rattle.spec_record.proofs.Book.{book-refusals}
+use Rattle.spec_applicant.specs.Applicant.{Applicant, applicantRefusal}
+use Rattle.spec_applicant.proofs.Texts.{applicant-refusals}
 use Rattle.spec_rule.specs.declared.PermittedIssuers.{PermittedIssuers}
 use Rattle.spec_rule.specs.declared.PermittedIssuers.the-variants.{Anyone, Listed, Refused}
 use Rattle.spec_rule.specs.RelevantSet.{caaRecords}
@@ -29,15 +31,16 @@ use Rattle.spec_rule.specs.IssuerLists.{Issuers, anyone, listed, issuers, entri
 use Rattle.spec_rule.specs.Calls.{Listing, authorizations, listIssuers, permittedIssuersCode}
 use Rattle.spec_rule.specs.Meaning.{Unrestricted}
 use Rattle.spec_rule.specs.Theorems.{total, Row-8, ListRow, FirstRow, ReadsBack, ListsNames, ListingTells}
-use Rattle.spec_rule.proofs.RefusalLaws.{list-refusals}
+use Rattle.spec_rule.proofs.CheckOrder.{not-here}
+use Rattle.spec_rule.proofs.RefusalLaws.{request-keeps, applicant-keeps, book-keeps, listNumbers, list-keeps, list-refusals}
 use Rattle.spec_rule.proofs.BufferLaws.{entries-read-back, entries-length, list-in-the-buffer}
 use Rattle.spec_rule.proofs.ReadBackLaws.{anyone≢listed, anyone≢refused, listed≢refused, one-count, one-length}
 use Rattle.spec_rule.proofs.CallLaws.{call-lists-the-permitted, book-length-is-room}
 use Rattle.spec_packed.specs.Packed.{numberIn, fieldA, fieldB, fieldC}
-use Rattle.spec_answers.specs.Door.{caaJudge, caaPermittedIssuers, row-8, ListTable, FirstToHold, NoneHolds, Lists, IssuersWord, Caa-permitted-issuers}
+use Rattle.spec_answers.specs.Door.{caaJudgeFor, caaPermittedIssuersFor, row-8, ListTable, FirstToHold, NoneHolds, Lists, IssuersWord, Caa-permitted-issuers-for}
 use Rattle.spec_answers.proofs.ListUnpacks.{list-unpacks}
-use Rattle.spec_answers.proofs.DoorRows.{one-of, list-numbers, none-holds, never-refuses, refuses-exactly}
-use Rattle.spec_answers.proofs.DoorWords.{Holds, of-answer, number-range, list-refused, list-30, list-31, list-b, list-a}
+use Rattle.spec_answers.proofs.DoorRows.{list-rows, one-of, among, none-holds, never-refuses, refuses-exactly}
+use Rattle.spec_answers.proofs.DoorWords.{Holds, of-answer, list-refused, list-30, list-31, list-b, list-a}
 use Rattle.spec_answers.proofs.JudgeDoor.{permitted-word}
 
 -- entries at the front of the buffer are read back
@@ -56,78 +59,79 @@ one-reading e = cc
 same-refusal : {x : PermittedIssuers} {q r : Refusal} → x ≡ Refused q → x ≡ Refused r → q ≡ r
 same-refusal e f = cc
 
-module _ (request book buffer : List ℕ) where
+module _ (request : List ℕ) (who : Applicant) (book buffer : List ℕ) where
   abbrev l : Listing
-  l = listIssuers request book buffer
+  l = listIssuers request who book buffer
 
   abbrev w : ℕ
-  w = caaPermittedIssuers request book buffer .word
+  w = caaPermittedIssuersFor request who book buffer .word
 
   abbrev Word : Type 0
   Word = Holds (numberIn w) (fieldA w) (fieldB w) (fieldC w) (permittedIssuersCode (l .answer))
 
   listed-word : Octets book → (count octets : ℕ) → l .answer ≡ Listed count octets → (numberIn w ≡ 31) × (fieldA w ≡ octets) × (fieldB w ≡ count)
   unfolding permittedIssuersCode
-  listed-word o count octets e = let h = of-answer _ _ _ _ permittedIssuersCode e (list-unpacks request book buffer o) in (h .0, h .1, h .2)
+  listed-word o count octets e = let h = of-answer _ _ _ _ permittedIssuersCode e (list-unpacks request who book buffer o) in (h .0, h .1, h .2)
 
   anyone-word : Octets book → l .answer ≡ Anyone → numberIn w ≡ 30
   unfolding permittedIssuersCode
-  anyone-word o e = of-answer _ _ _ _ permittedIssuersCode e (list-unpacks request book buffer o) .0
+  anyone-word o e = of-answer _ _ _ _ permittedIssuersCode e (list-unpacks request who book buffer o) .0
 
 answer-of : {l m : Listing} → l ≡ m → l .answer ≡ m .answer
 answer-of e = ap (λ (l : Listing). l .answer) e
 
-module _ (request book buffer : List ℕ) (request-octets : Octets request) (book-octets : Octets book) where
+module _ (request : List ℕ) (who : Applicant) (book buffer : List ℕ) (request-octets : Octets request) (book-octets : Octets book) where
   abbrev L : Listing
-  L = l request book buffer
+  L = l request who book buffer
 
   abbrev W : ℕ
-  W = w request book buffer
+  W = w request who book buffer
 
-  u : Word request book buffer
-  u = list-unpacks request book buffer book-octets
+  u : Word request who book buffer
+  u = list-unpacks request who book buffer book-octets
 
   abbrev Refuses : Refusal → Type 0
   Refuses r = L .answer ≡ Refused r
 
-  refuses : (r : Refusal) → Refuses r ↔ FirstRow (ListRow request book buffer) r
-  refuses r = list-refusals request book buffer request-octets book-octets r .0
+  refuses : (r : Refusal) → Refuses r ↔ FirstRow (ListRow request who book buffer) r
+  refuses r = list-refusals request who book buffer request-octets book-octets r .0
 
   abbrev Unrefused : Type 0
   Unrefused = (r : Refusal) → Refuses r → ⊥
 
   abbrev None : Type 0
-  None = NoneHolds (ListTable request book buffer)
+  None = NoneHolds (ListTable request who book buffer)
 
   none-held : Unrefused → None
-  none-held = none-holds request book ⊥ (Row-8 request book buffer) Refuses refuses
+  none-held = none-holds (list-rows request who book buffer) Refuses refuses
 
   passed : None → Unrefused
-  passed = never-refuses request book ⊥ (Row-8 request book buffer) Refuses refuses
+  passed = never-refuses (list-rows request who book buffer) Refuses refuses
 
-  refused-word : (n p : ℕ) → 1 ≤ n → n ≤ 11 → ((numberIn W ≡ n) × (fieldA W ≡ p)) ↔ FirstToHold (ListTable request book buffer) n p
+  refused-word : (n p : ℕ) → 1 ≤ n → n ≤ 19 → ((numberIn W ≡ n) × (fieldA W ≡ p)) ↔ FirstToHold (ListTable request who book buffer) n p
   unfolding permittedIssuersCode
   refused-word =
-      refuses-exactly request book ⊥ (Row-8 request book buffer) Refuses refuses (numberIn W) (fieldA W)
+      refuses-exactly (list-rows request who book buffer) Refuses refuses (numberIn W) (fieldA W)
       (λ low. list-refused _ _ _ _ (L .answer) u) (λ r e. let h = of-answer _ _ _ _ permittedIssuersCode e u in (h .0, h .1))
 
   -- a call that is not refused, or with 8, finds nothing wrong with what it was handed
   abbrev Accepted : Type 0
-  Accepted = (requestRefusal request ≡ none) × (bookRefusal book ≡ none)
+  Accepted = (requestRefusal request ≡ none) × (applicantRefusal who ≡ none) × (bookRefusal book ≡ none)
 
-  accepted : ((r : Refusal) → number r < 8 → Refuses r → ⊥) → Accepted
-  unfolding listIssuers
-  accepted never = go (requestRefusal request) (bookRefusal book) refl refl
+  accepted : ((r : Refusal) → number r ≢ 8 → Refuses r → ⊥) → Accepted
+  unfolding listIssuers number
+  accepted never = go (requestRefusal request) (applicantRefusal who) (bookRefusal book) refl refl refl
     where
-      go : (c d : Option Refusal) → requestRefusal request ≡ c → bookRefusal book ≡ d → Accepted
-      go none none e f = (e, f)
-      go (some r) d e f = absurd (never r (omega (arith, request-refusals request request-octets .3 r e)) (rw e))
-      go none (some r) e f = absurd (never r (omega (arith, book-refusals book book-octets .3 r f)) (rw (e, f)))
+      go : (a b c : Option Refusal) → requestRefusal request ≡ a → applicantRefusal who ≡ b → bookRefusal book ≡ c → Accepted
+      go none none none e f g = (e, f, g)
+      go (some r) b c e f g = absurd (never r (λ n. omega (arith, request-refusals request request-octets .3 r e)) (rw e))
+      go none (some r) c e f g = absurd (never r (λ n. omega (arith, ap number (applicant-refusals who .2 r f))) (rw (e, f)))
+      go none none (some r) e f g = absurd (never r (λ n. omega (arith, book-refusals book book-octets .3 r g)) (rw (e, f, g)))
 
-  tells : Unrefused → ListingTells request book buffer L
+  tells : Unrefused → ListingTells request who book buffer L
   tells never =
-      let (e, f) = accepted (λ r less. never r) in
-      call-lists-the-permitted request book buffer e f (λ n. never (NoRoom n))
+      let (e, f, g) = accepted (λ r other. never r) in
+      call-lists-the-permitted request who book buffer e f g (λ n. never (NoRoom n))
 
   -- anyone, or a list: no refusal
   at-30 : numberIn W ≡ 30 → (L .answer ≡ Anyone) × Unrefused
@@ -142,7 +146,7 @@ module _ (request book buffer : List ℕ) (request-octets : Octets request) (boo
   anyone-exactly : (numberIn W ≡ 30) ↔ (None × Free)
   anyone-exactly = (
     λ n. let (e, never) = at-30 n in (none-held never, tells never .anyone-exactly .0 e),
-    λ (no-row, free). anyone-word request book buffer book-octets (tells (passed no-row) .anyone-exactly .1 free),
+    λ (no-row, free). anyone-word request who book buffer book-octets (tells (passed no-row) .anyone-exactly .1 free),
   )
 
   listed-exactly : (numberIn W ≡ 31) ↔ (None × (Free → ⊥))
@@ -150,37 +154,37 @@ module _ (request book buffer : List ℕ) (request-octets : Octets request) (boo
     λ n. let (e, never) = at-31 n in (none-held never, λ free. anyone≢listed (sym (tells never .anyone-exactly .1 free) ∙ e)),
     λ (no-row, bound). ⊎-elim
         (λ e. absurd (bound (tells (passed no-row) .anyone-exactly .0 e)))
-        (λ (count, octets, e). listed-word request book buffer book-octets count octets e .0)
+        (λ (count, octets, e). listed-word request who book buffer book-octets count octets e .0)
         (tells (passed no-row) .answered),
   )
 
   -- the entries stand in the buffer
   there : numberIn W ≡ 31 → (ns : List (List ℕ)) × Lists W (L .buffer) ns
-  there n = go (accepted (λ r less. at-31 n .1 r)) (issuers (authorizations request book)) refl
+  there n = go (accepted (λ r other. at-31 n .1 r)) (issuers (authorizations request who book)) refl
     where
-      go : Accepted → (i : Issuers) → issuers (authorizations request book) ≡ i → (ns : List (List ℕ)) × Lists W (L .buffer) ns
-      go (r, b) anyone e = absurd (anyone≢listed (sym (answer-of (list-in-the-buffer request book buffer r b .0 e)) ∙ at-31 n .0))
-      go (r, b) (listed ns) e =
+      go : Accepted → (i : Issuers) → issuers (authorizations request who book) ≡ i → (ns : List (List ℕ)) × Lists W (L .buffer) ns
+      go (r, a, b) anyone e = absurd (anyone≢listed (sym (answer-of (list-in-the-buffer request who book buffer r a b .0 e)) ∙ at-31 n .0))
+      go (r, a, b) (listed ns) e =
           let room : length (entries ns) ≤ length buffer = ⊎-elim
           (leb-true _ _)
-          (λ k. absurd (none-held (at-31 n .1) 8 _ (row-8 _ (ns, e, refl, leb-false _ _ k))))
+          (λ k. absurd (none-held (at-31 n .1) 8 _ (inr (inr (inr (row-8 _ (ns, e, refl, leb-false _ _ k)))))))
           (true-or-false (leb (length (entries ns)) (length buffer))) in
-          let whole = list-in-the-buffer request book buffer r b .1 ns e (omega (arith, entries-length ns)) in
-          let (n, a, c) = listed-word request book buffer book-octets (length ns) (total ns) (answer-of whole) in
-          (ns, laid W (L .buffer) ns buffer n a c (ap (λ (l : Listing). l .buffer) whole))
+          let whole = list-in-the-buffer request who book buffer r a b .1 ns e (omega (arith, entries-length ns)) in
+          let (n, size, count) = listed-word request who book buffer book-octets (length ns) (total ns) (answer-of whole) in
+          (ns, laid W (L .buffer) ns buffer n size count (ap (λ (l : Listing). l .buffer) whole))
 
   module _ (ns : List (List ℕ)) (h : Lists W (L .buffer) ns) where
     -- what the caller reads are the names that the theorem on the call speaks of
     named : ListsNames L ns
     named = (fieldB W, fieldA W, at-31 (h .0) .0, reads W (L .buffer) ns h)
 
-    of-list : ListingTells request book buffer L
+    of-list : ListingTells request who book buffer L
     of-list = tells (at-31 (h .0) .1)
 
-    permitted : (d : List ℕ) → WellFormed d → (numberIn (caaJudge request d book) ≡ 0) ↔ List·Memᴰ (lowered d) ns
+    permitted : (d : List ℕ) → WellFormed d → (numberIn (caaJudgeFor request d who book) ≡ 0) ↔ List·Memᴰ (lowered d) ns
     permitted d good = (
-      λ e. go (of-list .permitted-exactly d good .0 (permitted-word request d book .0 e)),
-      λ m. permitted-word request d book .1 (of-list .permitted-exactly d good .1 (inr (ns, named, m))),
+      λ e. go (of-list .permitted-exactly d good .0 (permitted-word request d who book .0 e)),
+      λ m. permitted-word request d who book .1 (of-list .permitted-exactly d good .1 (inr (ns, named, m))),
     )
       where
         go : (L .answer ≡ Anyone) ⊎ ((ms : List (List ℕ)) × ListsNames L ms × List·Memᴰ (lowered d) ms) → List·Memᴰ (lowered d) ns
@@ -189,48 +193,56 @@ module _ (request book buffer : List ℕ) (request-octets : Octets request) (boo
             let f = sym e ∙ at-31 (h .0) .0 in
             rw (one-reading (sym (rw (one-count f, one-length f) at same) ∙ reads W (L .buffer) ns h .2)) at m
 
-  anyone-permitted : numberIn W ≡ 30 → (d : List ℕ) → WellFormed d → numberIn (caaJudge request d book) ≡ 0
+  anyone-permitted : numberIn W ≡ 30 → (d : List ℕ) → WellFormed d → numberIn (caaJudgeFor request d who book) ≡ 0
   anyone-permitted n d good =
-      let (e, never) = at-30 n in permitted-word request d book .1 (tells never .permitted-exactly d good .1 (inl e))
+      let (e, never) = at-30 n in permitted-word request d who book .1 (tells never .permitted-exactly d good .1 (inl e))
 
   -- 8 is answered to an accepted request and book
   at-8 : numberIn W ≡ 8 → Refuses (NoRoom (fieldA W)) × Accepted
   unfolding number place
   at-8 n =
       let (r, e, nr, pr) = list-refused _ _ _ _ (L .answer) u (omega arith) in
-      (eight e (number-and-place-tell r (NoRoom (fieldA W)) (nr ∙ n) pr), accepted (λ q less f. omega (arith, ap number (same-refusal f e))))
+      (eight e (number-and-place-tell r (NoRoom (fieldA W)) (nr ∙ n) pr), accepted (λ q other f. other (ap number (same-refusal f e) ∙ nr ∙ n)))
     where
       eight : {r : Refusal} → Refuses r → r ≡ NoRoom (fieldA W) → Refuses (NoRoom (fieldA W))
       eight e same = rw same at e
 
+  -- its row is row 8
+  row-of-8 : (n : ℕ) → ListRow request who book buffer (NoRoom n) → Row-8 request who book buffer n
+  unfolding number place
+  row-of-8 n (inl h) = absurd (not-here (request-keeps request request-octets) (NoRoom n) refl h)
+  row-of-8 n (inr (inl h)) = absurd (not-here (applicant-keeps who) (NoRoom n) refl h)
+  row-of-8 n (inr (inr (inl h))) = absurd (not-here (book-keeps book book-octets) (NoRoom n) refl h)
+  row-of-8 n (inr (inr (inr (m, e, h)))) = rw (ap place e) h
+
   -- after which a buffer of that length gets the list
   asked : numberIn W ≡ 8 → (other : List ℕ) → fieldA W ≤ length other →
-      (numberIn (w request book other) ≡ 31) × (fieldA (w request book other) ≡ fieldA W)
+      (numberIn (w request who book other) ≡ 31) × (fieldA (w request who book other) ≡ fieldA W)
   asked n other fits =
-      let (e, (r, b)) = at-8 n in
-      let (ns, f, size, less) = refuses (NoRoom (fieldA W)) .0 e .0 in
-      let whole = list-in-the-buffer request book other r b .1 ns f (omega (arith, entries-length ns)) in
-      let (m, a, c) = listed-word request book other book-octets (length ns) (total ns) (answer-of whole) in
-      (m, a ∙ sym (entries-length ns) ∙ size)
+      let (e, (r, a, b)) = at-8 n in
+      let (ns, f, size, less) = row-of-8 (fieldA W) (refuses (NoRoom (fieldA W)) .0 e .0) in
+      let whole = list-in-the-buffer request who book other r a b .1 ns f (omega (arith, entries-length ns)) in
+      let (m, octets, count) = listed-word request who book other book-octets (length ns) (total ns) (answer-of whole) in
+      (m, octets ∙ sym (entries-length ns) ∙ size)
 
   length-kept : (x : PermittedIssuers) → L .answer ≡ x → length (L .buffer) ≡ length buffer
   length-kept Anyone e = tells (λ r f. anyone≢refused (sym e ∙ f)) .length-stays
   length-kept (Listed count octets) e = tells (λ r f. listed≢refused (sym e ∙ f)) .length-stays
-  length-kept (Refused r) e = ap length (list-refusals request book buffer request-octets book-octets r .1 e)
+  length-kept (Refused r) e = ap length (list-refusals request who book buffer request-octets book-octets r .1 e)
 
-  number-found : (x : PermittedIssuers) → L .answer ≡ x → List·Memᴰ (numberIn W) (1 ∷ 2 ∷ 3 ∷ 5 ∷ 6 ∷ 7 ∷ 8 ∷ 30 ∷ 31 ∷ [])
+  number-found : (x : PermittedIssuers) → L .answer ≡ x → List·Memᴰ (numberIn W) (1 ∷ 2 ∷ 3 ∷ 15 ∷ 5 ∷ 6 ∷ 7 ∷ 8 ∷ 30 ∷ 31 ∷ [])
   unfolding permittedIssuersCode
   number-found Anyone e = rw (of-answer _ _ _ _ permittedIssuersCode e u .0) (one-of 30 _ refl)
   number-found (Listed count octets) e = rw (of-answer _ _ _ _ permittedIssuersCode e u .0) (one-of 31 _ refl)
   number-found (Refused r) e =
-      let n = of-answer _ _ _ _ permittedIssuersCode e u .0 in
-      list-numbers (refused-word (numberIn W) (fieldA W) (omega (arith, number-range r)) (omega (arith, number-range r)) .0 (refl, refl) .0)
+      rw (of-answer _ _ _ _ permittedIssuersCode e u .0)
+      (among listNumbers _ refl (list-keeps request who book buffer request-octets book-octets .numbered r (refuses r .0 e .0)))
 
-  issuers-word : IssuersWord request book buffer W (L .buffer)
+  issuers-word : IssuersWord request who book buffer W (L .buffer)
   issuers-word = record {
     refused-exactly = refused-word;
     refused-unchanged = λ less.
-        let (r, e, nr, pr) = list-refused _ _ _ _ (L .answer) u less in list-refusals request book buffer request-octets book-octets r .1 e;
+        let (r, e, nr, pr) = list-refused _ _ _ _ (L .answer) u less in list-refusals request who book buffer request-octets book-octets r .1 e;
     anyone-exactly = anyone-exactly;
     anyone-unchanged = λ n. let (e, never) = at-30 n in tells never .nothing-written e;
     anyone-permitted = anyone-permitted;
@@ -243,7 +255,7 @@ module _ (request book buffer : List ℕ) (request-octets : Octets request) (boo
     in-order = λ ns h. of-list ns h .in-order ns (named ns h);
     rest-stays = λ n. let (e, never) = at-31 n in tells never .rest-stays _ _ e;
     length-stays = length-kept (L .answer) refl;
-    book-length-enough = λ long n. let (e, (r, b)) = at-8 n in book-length-is-room request book buffer book-octets r b long _ e;
+    book-length-enough = λ long n. let (e, (r, a, b)) = at-8 n in book-length-is-room request who book buffer book-octets r a b long _ e;
     room-asked-enough = asked;
     numbers = number-found (L .answer) refl;
     c-unused = u .3;
@@ -251,5 +263,5 @@ module _ (request book buffer : List ℕ) (request-octets : Octets request) (boo
     a-unused = list-a _ _ _ _ (L .answer) u;
   }
 
-pub caa-permitted-issuers : Caa-permitted-issuers
-caa-permitted-issuers = issuers-word
+pub caa-permitted-issuers-for : Caa-permitted-issuers-for
+caa-permitted-issuers-for = issuers-word

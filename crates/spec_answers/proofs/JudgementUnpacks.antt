@@ -23,4 +23,4 @@ fitting-unpacks (NotGranted d) h = told-unpacks (judgementCode (NotGranted d)) (
 fitting-unpacks (Refused r) h = told-unpacks (judgementCode (Refused r)) (number-small r) h (omega arith)
 
 pub judgement-unpacks : Judgement-unpacks
-judgement-unpacks request issuer book = fitting-unpacks (judge request issuer book) (judge-fits request issuer book)
+judgement-unpacks request issuer who book = fitting-unpacks (judge request issuer who book) (judge-fits request issuer who book)

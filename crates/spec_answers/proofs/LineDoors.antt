@@ -9,7 +9,7 @@ use lib.ListN.{length, drop, length-append, length-drop}
 use lib.Seq.{take-at, drop-at}
 use borrow.Author.Tests.{leb-true, leb-false}
 use Rattle.spec_refusal.specs.declared.Refusal.{Refusal}
-use Rattle.spec_refusal.specs.declared.Refusal.the-variants.{RequestTooLong, BadName, TooManyNames, BadIssuer, BookTooLong, BadRecord, TooManyRecords, NoRoom, BadLine, LineTooLong, BadData}
+use Rattle.spec_refusal.specs.declared.Refusal.the-variants.{RequestTooLong, BadName, TooManyNames, BadIssuer, BookTooLong, BadRecord, TooManyRecords, NoRoom, BadLine, LineTooLong, BadData, BadAccountOrMethod}
 use Rattle.spec_refusal.specs.Refusal.{number, place}
 use Rattle.spec_refusal.proofs.Table.{number-and-place-tell}
 use Rattle.spec_octets.proofs.ListLaws.{true-or-false}
@@ -36,6 +36,7 @@ place-0 (NoRoom n) h = absurd (omega arith)
 place-0 BadLine h = refl
 place-0 LineTooLong h = refl
 place-0 BadData h = refl
+place-0 BadAccountOrMethod h = refl
 
 -- x at the front, the rest as it was
 abbrev pub atFront : List ℕ → List ℕ → Output

@@ -16,6 +16,7 @@ use Rattle.spec_request.specs.Request.{requestRefusal}
 use Rattle.spec_record.specs.Records.{bookRefusal, records}
 use Rattle.spec_record.proofs.Book.{book-is-its-records}
 use Rattle.spec_packed.proofs.Unpacking.{number-small}
+use Rattle.spec_applicant.specs.Applicant.{Applicant, applicantRefusal}
 use Rattle.spec_rule.specs.declared.PermittedIssuers.{PermittedIssuers}
 use Rattle.spec_rule.specs.declared.PermittedIssuers.the-variants.{Anyone, Listed, Refused}
 use Rattle.spec_rule.specs.IssuerLists.{Issuers, anyone, listed, issuers, entries}
@@ -26,7 +27,7 @@ use Rattle.spec_rule.proofs.Room.{room-of-the-book}
 use Rattle.spec_answers.specs.ListAnswers.{packedIssuers}
 use Rattle.spec_answers.specs.Theorems.{Unpacked, List-unpacks}
 use Rattle.spec_answers.proofs.JudgementUnpacks.{told-unpacks}
-use Rattle.spec_answers.proofs.RefusalPlaces.{request-fits, book-fits}
+use Rattle.spec_answers.proofs.RefusalPlaces.{request-fits, applicant-fits, book-fits}
 
 -- Each number fits its field: a list is no longer than the book.
 abbrev ListFits : PermittedIssuers → Type 0
@@ -38,26 +39,27 @@ count-less : (ns : List (List ℕ)) → length ns ≤ total ns
 count-less [] = omega arith
 count-less (n ∷ ns) = omega (arith, count-less ns)
 
-module _ (request book buffer : List ℕ) (octets : Octets book) where
-  list-small : bookRefusal book ≡ none → (ns : List (List ℕ)) → issuers (authorizations request book) ≡ listed ns →
+module _ (request : List ℕ) (who : Applicant) (book buffer : List ℕ) (octets : Octets book) where
+  list-small : bookRefusal book ≡ none → (ns : List (List ℕ)) → issuers (authorizations request who book) ≡ listed ns →
       (length (entries ns) < 2 ^ 24) × (length ns < 2 ^ 16)
   unfolding maxBookOctets
   list-small f ns g =
       let (whole, good, few, short) = book-is-its-records book octets (records book) .0 (f, refl) in (
-        omega (arith, entries-length ns, room-of-the-book request book octets f ns g),
-        omega (arith, count-less ns, room-of-the-book request book octets f ns g),
+        omega (arith, entries-length ns, room-of-the-book request who book octets f ns g),
+        omega (arith, count-less ns, room-of-the-book request who book octets f ns g),
       )
 
-  fits : (c d : Option Refusal) → requestRefusal request ≡ c → bookRefusal book ≡ d → (i : Issuers) →
-      issuers (authorizations request book) ≡ i → ListFits (listIssuers request book buffer .answer)
+  fits : (b c d : Option Refusal) → requestRefusal request ≡ b → applicantRefusal who ≡ c → bookRefusal book ≡ d → (i : Issuers) →
+      issuers (authorizations request who book) ≡ i → ListFits (listIssuers request who book buffer .answer)
   unfolding listIssuers place
-  fits (some r) d e f i g = rw e (rw e at (request-fits request))
-  fits none (some r) e f i g = rw (e, f) (rw f at (book-fits book))
-  fits none none e f anyone g = rw (e, f, g) tt
-  fits none none e f (listed ns) g = rw (e, f, g) (by (leb (length (entries ns)) (length buffer)) (list-small f ns g))
+  fits (some r) c d e a f i g = rw e (rw e at (request-fits request))
+  fits none (some r) d e a f i g = rw (e, a) (rw a at (applicant-fits who))
+  fits none none (some r) e a f i g = rw (e, a, f) (rw f at (book-fits book))
+  fits none none none e a f anyone g = rw (e, a, f, g) tt
+  fits none none none e a f (listed ns) g = rw (e, a, f, g) (by (leb (length (entries ns)) (length buffer)) (list-small f ns g))
     where
       by : (t : Bool) → (length (entries ns) < 2 ^ 24) × (length ns < 2 ^ 16) →
-          ListFits (unlessRefused (firstRefusal (none ∷ none ∷ cond t none (some (NoRoom (length (entries ns)))) ∷ [])) (written (listed ns) buffer) buffer .answer)
+          ListFits (unlessRefused (firstRefusal (none ∷ none ∷ none ∷ cond t none (some (NoRoom (length (entries ns)))) ∷ [])) (written (listed ns) buffer) buffer .answer)
       by true h = h
       by false h = h .0
 
@@ -68,6 +70,6 @@ fitting-unpacks (Listed count octets) h = told-unpacks (permittedIssuersCode (Li
 fitting-unpacks (Refused r) h = told-unpacks (refusalCode r) (number-small r) h (omega arith)
 
 pub list-unpacks : List-unpacks
-list-unpacks request book buffer octets =
-    fitting-unpacks (listIssuers request book buffer .answer)
-    (fits request book buffer octets (requestRefusal request) (bookRefusal book) refl refl (issuers (authorizations request book)) refl)
+list-unpacks request who book buffer octets =
+    fitting-unpacks (listIssuers request who book buffer .answer)
+    (fits request who book buffer octets (requestRefusal request) (applicantRefusal who) (bookRefusal book) refl refl refl (issuers (authorizations request who book)) refl)

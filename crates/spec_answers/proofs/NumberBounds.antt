@@ -16,6 +16,7 @@ use Rattle.spec_name.specs.Names.{Name}
 use Rattle.spec_request.specs.Request.{base, requestedName, nameItems, requestedNames}
 use Rattle.spec_record.specs.Property.{Property, property}
 use Rattle.spec_record.specs.Records.{Record, isCaa, resourceRecord, recordItems, records}
+use Rattle.spec_applicant.specs.Applicant.{Applicant}
 use Rattle.spec_rule.specs.declared.Judgement.{Judgement}
 use Rattle.spec_rule.specs.declared.Judgement.the-variants.{Permitted, UnknownCritical, NotGranted, Refused}
 use Rattle.spec_rule.specs.RelevantSet.{CaaRecord, found, withProperty, caaRecordsFrom, caaRecords, relevantSet}
@@ -27,7 +28,7 @@ use Rattle.spec_rule.proofs.Lookups.{a-lookup}
 use Rattle.spec_rule.proofs.Nearest.{nearest-name-decides}
 use Rattle.spec_rule.proofs.VerdictLaws.{verdict-by-the-rule}
 use Rattle.spec_octets.proofs.ItemRoom.{items-within, whole-within}
-use Rattle.spec_answers.proofs.RefusalPlaces.{PlaceFits, request-fits, issuer-fits, book-fits}
+use Rattle.spec_answers.proofs.RefusalPlaces.{PlaceFits, request-fits, issuer-fits, applicant-fits, book-fits}
 
 abbrev pub Fits : Judgement → Type 0
 Fits Permitted = Unit {0}
@@ -73,23 +74,23 @@ first-numbered m book h x rs c e (before, after, f, p, ns) =
 lowest-numbered : {P : Name → Type 0} (ns : List Name) (k : ℕ) (n : Name) → LowestNot P ns k n → k < length ns
 lowest-numbered ns k n (before, after, e, l, hs, q) = rw (e, length-append) (omega arith)
 
-module _ (book : List CaaRecord) (numbered : Numbered maxRecords book) (ns : List Name) (few : length ns ≤ maxNames) (d : List ℕ) where
-  verdict-fits : Fits (verdict d (map (authorization book) ns))
-  verdict-fits = go (verdict d (map (authorization book) ns)) refl
+module _ (who : Applicant) (book : List CaaRecord) (numbered : Numbered maxRecords book) (ns : List Name) (few : length ns ≤ maxNames) (d : List ℕ) where
+  verdict-fits : Fits (verdict d (map (authorization who book) ns))
+  verdict-fits = go (verdict d (map (authorization who book) ns)) refl
     where
-      go : (j : Judgement) → verdict d (map (authorization book) ns) ≡ j → Fits j
+      go : (j : Judgement) → verdict d (map (authorization who book) ns) ≡ j → Fits j
       go Permitted e = tt
       go (UnknownCritical w) e =
-          let (n, l, (rs, c, at, f, r)) = verdict-by-the-rule book ns d .1 (w .name .0) (w .rr .0) .0 e in
+          let (n, l, (rs, c, at, f, r)) = verdict-by-the-rule who book ns d .1 (w .name .0) (w .rr .0) .0 e in
           (omega (arith, lowest-numbered ns _ n l), rw r at (first-numbered maxRecords book numbered (base n) rs c at f))
       go (NotGranted w) e =
-          let (n, l, (rs, c, at, u, f, r)) = verdict-by-the-rule book ns d .2 (w .name .0) (w .rr .0) .0 e in
+          let (n, l, (rs, c, at, u, f, r)) = verdict-by-the-rule who book ns d .2 (w .name .0) (w .rr .0) .0 e in
           (omega (arith, lowest-numbered ns _ n l), rw r at (first-numbered maxRecords book numbered (base n) rs c at f))
-      go (Refused r) e = absurd (verdict-by-the-rule book ns d .3 r e)
+      go (Refused r) e = absurd (verdict-by-the-rule who book ns d .3 r e)
 
-pub judge-fits : (request issuer book : List ℕ) → Fits (judge request issuer book)
+pub judge-fits : (request issuer : List ℕ) (who : Applicant) (book : List ℕ) → Fits (judge request issuer who book)
 unfolding judge authorizations
-judge-fits request issuer book =
-    refused-fits (judgeChecks request issuer book) (verdict issuer (authorizations request book))
-    (all-cons (request-fits request) (all-cons (issuer-fits issuer) (all-cons (book-fits book) all-nil)))
-    (verdict-fits (caaRecords (records book)) (book-numbered book) (requestedNames request) (names-few request) issuer)
+judge-fits request issuer who book =
+    refused-fits (judgeChecks request issuer who book) (verdict issuer (authorizations request who book))
+    (all-cons (request-fits request) (all-cons (issuer-fits issuer) (all-cons (applicant-fits who) (all-cons (book-fits book) all-nil))))
+    (verdict-fits who (caaRecords (records book)) (book-numbered book) (requestedNames request) (names-few request) issuer)

@@ -1,4 +1,4 @@
--- The place of each refusal of a request, an issuer domain name and a book fits its field, for any octets.
+-- The place of each refusal of a request, an issuer domain name, an applicant and a book fits its field, for any octets.
 use Prim.Native.Nat.{ℕ, _^_, _<_}
 use native.Mathlib.Omega.{arith}
 use mathlib.Core.Path.{_≡_, refl}
@@ -9,12 +9,13 @@ use lib.Dec.{ltb}
 use lib.ListN.{length}
 use Rattle.spec_limits.specs.Limits.{maxRequestOctets, maxNames, maxBookOctets, maxRecords}
 use Rattle.spec_refusal.specs.declared.Refusal.{Refusal}
-use Rattle.spec_refusal.specs.declared.Refusal.the-variants.{RequestTooLong, BadName, TooManyNames, BadIssuer, BookTooLong, BadRecord, TooManyRecords}
+use Rattle.spec_refusal.specs.declared.Refusal.the-variants.{RequestTooLong, BadName, TooManyNames, BadIssuer, BookTooLong, BadRecord, TooManyRecords, BadAccountOrMethod}
 use Rattle.spec_refusal.specs.Refusal.{place}
 use Rattle.spec_octets.specs.Lists.{isEmpty}
 use Rattle.spec_octets.specs.Items.{Items, whole, broken, over, itemFault}
 use Rattle.spec_request.specs.Request.{requestedName, nameItems, requestRefusal}
 use Rattle.spec_issuer.specs.Issuer.{isIssuer, issuerRefusal}
+use Rattle.spec_applicant.specs.Applicant.{Applicant, isApplicant, applicantRefusal}
 use Rattle.spec_record.specs.Records.{resourceRecord, recordItems, bookRefusal}
 use Rattle.spec_octets.proofs.ItemRoom.{Within, items-within}
 
@@ -47,6 +48,10 @@ request-fits s =
 pub issuer-fits : (d : List ℕ) → PlaceFits (issuerRefusal d)
 unfolding issuerRefusal place
 issuer-fits d = cond-fits (isIssuer d) none (some BadIssuer) tt (omega arith)
+
+pub applicant-fits : (who : Applicant) → PlaceFits (applicantRefusal who)
+unfolding applicantRefusal place
+applicant-fits who = cond-fits (isApplicant who) none (some BadAccountOrMethod) tt (omega arith)
 
 pub book-fits : (b : List ℕ) → PlaceFits (bookRefusal b)
 unfolding bookRefusal recordItems place

@@ -3,7 +3,10 @@
 -- (`numberIn`, `fieldA`, `fieldB`, `fieldC` of spec_packed). Each statement is proved under its name in proofs/.
 --
 -- Where the terms of the statements are defined, in specs/ of the crate named:
---   Row-1 to Row-8                   the rows of the table of refusals: Theorems.antt of spec_request, spec_issuer, spec_record, spec_rule
+--   Row-1 to Row-8, Row-15           the rows of the table of refusals: Theorems.antt of spec_request, spec_issuer, spec_record, spec_rule,
+--                                    spec_applicant
+--   Applicant                        who asks, the account text and the method text: Applicant.antt of spec_applicant
+--   order                            the order of checks, as refusal numbers: Order.antt of spec_refusal
 --   WellFormed                       a valid issuer domain name: Issuer.antt of spec_issuer
 --   PermittedTo, Unrestricted, ..    the rule of issue for one name: Meaning.antt of spec_rule
 --   Writable, smallTag               which data has a line, and data with its tag in lower case: Theorems.antt of spec_line
@@ -14,6 +17,7 @@ use mathlib.Core.Logic.{_↔_, _≢_, _⊎_}
 use mathlib.Core.List.{List, [], _∷_, map, List·Memᴰ}
 use lib.ListN.{length, take, drop}
 use Rattle.spec_limits.specs.Limits.{maxNames, maxRecords, maxDataOctets, maxLineOctets}
+use Rattle.spec_refusal.specs.Order.{order, standsAt}
 use Rattle.spec_octets.specs.Lists.{All, Distinct, flatten}
 use Rattle.spec_octets.specs.Octets.{Octets, lowered}
 use Rattle.spec_octets.specs.Items.{whole, items}
@@ -25,6 +29,8 @@ use Rattle.spec_issuer.specs.Theorems.{Row-4}
 use Rattle.spec_record.specs.Property.{Property, wireProperty}
 use Rattle.spec_record.specs.Records.{wireRecord, records, GoodRecord}
 use Rattle.spec_record.specs.Theorems.{Row-5, Row-6, Row-7}
+use Rattle.spec_applicant.specs.Applicant.{Applicant}
+use Rattle.spec_applicant.specs.Theorems.{Row-15}
 use Rattle.spec_rule.specs.RelevantSet.{CaaRecord, caaRecords}
 use Rattle.spec_rule.specs.IssuerLists.{entries, readEntry}
 use Rattle.spec_rule.specs.Calls.{judge, listIssuers}
@@ -45,12 +51,12 @@ pub record Returned : Type 0 where
   pub word : ℕ
   pub buffer : List ℕ
 
-abbrev pub caaJudge : List ℕ → List ℕ → List ℕ → ℕ
-caaJudge request issuer book = packedJudgement (judge request issuer book)
+abbrev pub caaJudgeFor : List ℕ → List ℕ → Applicant → List ℕ → ℕ
+caaJudgeFor request issuer who book = packedJudgement (judge request issuer who book)
 
-abbrev pub caaPermittedIssuers : List ℕ → List ℕ → List ℕ → Returned
-caaPermittedIssuers request book buffer =
-    record { word = packedIssuers (listIssuers request book buffer .answer); buffer = listIssuers request book buffer .buffer }
+abbrev pub caaPermittedIssuersFor : List ℕ → Applicant → List ℕ → List ℕ → Returned
+caaPermittedIssuersFor request who book buffer =
+    record { word = packedIssuers (listIssuers request who book buffer .answer); buffer = listIssuers request who book buffer .buffer }
 
 abbrev pub caaWriteLine : List ℕ → List ℕ → Returned
 caaWriteLine d buffer = record { word = packedLine (writeLine d buffer .answer); buffer = writeLine d buffer .buffer }
@@ -58,116 +64,129 @@ caaWriteLine d buffer = record { word = packedLine (writeLine d buffer .answer);
 abbrev pub caaReadLine : List ℕ → List ℕ → Returned
 caaReadLine s buffer = record { word = packedLine (parseLine s buffer .answer); buffer = parseLine s buffer .buffer }
 
--- The table of refusals 1 to 8: row n holds with the place p. The place of a refusal is the number of a name or record, the octets needed, or 0; the
--- word has it in field a.
-pub data TableRow (request book : List ℕ) (four : Type 0) (eight : ℕ → Type 0) : ℕ → ℕ → Type 0 where
+-- The table of refusals, a part for each input: row n holds with the place p. The place of a refusal is the number of a name or record, the
+-- octets needed, or 0; the word has it in field a.
+
+pub data RequestTable (request : List ℕ) : ℕ → ℕ → Type 0 where
   -- The request is over its limit of octets.
-  row-1 : Row-1 request → TableRow request book four eight 1 0
+  row-1 : Row-1 request → RequestTable request 1 0
   -- The request is empty, or name k breaks a rule.
-  row-2 : (k : ℕ) → Row-2 request k → TableRow request book four eight 2 k
+  row-2 : (k : ℕ) → Row-2 request k → RequestTable request 2 k
   -- Octets are left after the maximum number of valid names.
-  row-3 : Row-3 request → TableRow request book four eight 3 maxNames
-  -- The issuer domain name breaks a rule (caa_judge only).
-  row-4 : four → TableRow request book four eight 4 0
+  row-3 : Row-3 request → RequestTable request 3 maxNames
+
+pub data IssuerTable (issuer : List ℕ) : ℕ → ℕ → Type 0 where
+  -- The issuer domain name breaks a rule.
+  row-4 : Row-4 issuer → IssuerTable issuer 4 0
+
+pub data ApplicantTable (who : Applicant) : ℕ → ℕ → Type 0 where
+  -- The account text, the method text or both break a rule.
+  row-15 : Row-15 who → ApplicantTable who 15 0
+
+pub data BookTable (book : List ℕ) : ℕ → ℕ → Type 0 where
   -- The book is over its limit of octets.
-  row-5 : Row-5 book → TableRow request book four eight 5 0
+  row-5 : Row-5 book → BookTable book 5 0
   -- Record k is malformed.
-  row-6 : (k : ℕ) → Row-6 book k → TableRow request book four eight 6 k
+  row-6 : (k : ℕ) → Row-6 book k → BookTable book 6 k
   -- Octets are left after the maximum number of valid records.
-  row-7 : Row-7 book → TableRow request book four eight 7 maxRecords
-  -- The output needs n octets, and the buffer has fewer (caa_permitted_issuers only).
-  row-8 : (n : ℕ) → eight n → TableRow request book four eight 8 n
+  row-7 : Row-7 book → BookTable book 7 maxRecords
 
-abbrev pub JudgeTable : List ℕ → List ℕ → List ℕ → ℕ → ℕ → Type 0
-JudgeTable request issuer book = TableRow request book (Row-4 issuer) (λ n. ⊥)
+pub data RoomTable (request : List ℕ) (who : Applicant) (book buffer : List ℕ) : ℕ → ℕ → Type 0 where
+  -- The output needs n octets, and the buffer has fewer.
+  row-8 : (n : ℕ) → Row-8 request who book buffer n → RoomTable request who book buffer 8 n
 
-abbrev pub ListTable : List ℕ → List ℕ → List ℕ → ℕ → ℕ → Type 0
-ListTable request book buffer = TableRow request book ⊥ (Row-8 request book buffer)
+-- The rows of caa_judge_for, and those of caa_permitted_issuers_for.
+abbrev pub JudgeTable : List ℕ → List ℕ → Applicant → List ℕ → ℕ → ℕ → Type 0
+JudgeTable request issuer who book n p = RequestTable request n p ⊎ IssuerTable issuer n p ⊎ ApplicantTable who n p ⊎ BookTable book n p
 
--- Row n holds with the place p, and no row with a lower number holds.
+abbrev pub ListTable : List ℕ → Applicant → List ℕ → List ℕ → ℕ → ℕ → Type 0
+ListTable request who book buffer n p =
+    RequestTable request n p ⊎ ApplicantTable who n p ⊎ BookTable book n p ⊎ RoomTable request who book buffer n p
+
+-- Row n holds with the place p, and no row holds that comes before n in the order of checks.
 abbrev pub FirstToHold : (ℕ → ℕ → Type 0) → ℕ → ℕ → Type 0
-FirstToHold row n p = row n p × ((m q : ℕ) → m < n → row m q → ⊥)
+FirstToHold row n p = row n p × ((m q : ℕ) → standsAt m order < standsAt n order → row m q → ⊥)
 
 abbrev pub NoneHolds : (ℕ → ℕ → Type 0) → Type 0
 NoneHolds row = (n p : ℕ) → row n p → ⊥
 
--- The issuer may issue for every name of the request.
-abbrev pub EveryPermitted : List ℕ → List ℕ → List ℕ → Type 0
-EveryPermitted request issuer book = All (λ n. PermittedTo (caaRecords (records book)) n issuer) (requestedNames request)
+-- The issuer may issue for every name of the request, to the applicant.
+abbrev pub EveryPermitted : List ℕ → List ℕ → Applicant → List ℕ → Type 0
+EveryPermitted request issuer who book = All (λ n. PermittedTo (caaRecords (records book)) n who issuer) (requestedNames request)
 
 -- Name k of the request is n, the lowest for which the issuer may not issue.
-abbrev pub LowestDenied : List ℕ → List ℕ → List ℕ → ℕ → Name → Type 0
-LowestDenied request issuer book k n = LowestNot (λ m. PermittedTo (caaRecords (records book)) m issuer) (requestedNames request) k n
+abbrev pub LowestDenied : List ℕ → List ℕ → Applicant → List ℕ → ℕ → Name → Type 0
+LowestDenied request issuer who book k n = LowestNot (λ m. PermittedTo (caaRecords (records book)) m who issuer) (requestedNames request) k n
 
--- caa_judge: may the issuer issue for every name of the request?
-pub record JudgeWord (request issuer book : List ℕ) (word : ℕ) : Type 0 where
-  -- Refusal n with place p in a: exactly when row n of the table holds with place p and no row with a lower number holds.
-  pub refused-exactly : (n p : ℕ) → 1 ≤ n → n ≤ 11 →
-      ((numberIn word ≡ n) × (fieldA word ≡ p)) ↔ FirstToHold (JudgeTable request issuer book) n p
-  -- 0, permitted: exactly when no row holds and every name is unrestricted or granted to the issuer.
-  pub permitted-exactly : (numberIn word ≡ 0) ↔ (NoneHolds (JudgeTable request issuer book) × EveryPermitted request issuer book)
+-- caa_judge_for: may the issuer issue for every name of the request?
+pub record JudgeWord (request issuer : List ℕ) (who : Applicant) (book : List ℕ) (word : ℕ) : Type 0 where
+  -- Refusal n with place p in a: exactly when row n of the table holds with place p and no row before it in the order of checks holds.
+  pub refused-exactly : (n p : ℕ) → 1 ≤ n → n ≤ 19 →
+      ((numberIn word ≡ n) × (fieldA word ≡ p)) ↔ FirstToHold (JudgeTable request issuer who book) n p
+  -- 0, permitted: exactly when no row holds and every name is unrestricted or granted to the issuer for the applicant.
+  pub permitted-exactly : (numberIn word ≡ 0) ↔ (NoneHolds (JudgeTable request issuer who book) × EveryPermitted request issuer who book)
   -- 20, unknown critical: exactly when no row holds, k in a is the lowest name denied, and r in b is the first critical record
   -- with an unknown tag in its relevant set.
   pub unknown-critical-exactly : (k r : ℕ) →
       ((numberIn word ≡ 20) × (fieldA word ≡ k) × (fieldB word ≡ r))
-      ↔ (NoneHolds (JudgeTable request issuer book)
-      × ((n : Name) × LowestDenied request issuer book k n × ForbiddenBy (caaRecords (records book)) n r))
+      ↔ (NoneHolds (JudgeTable request issuer who book)
+      × ((n : Name) × LowestDenied request issuer who book k n × ForbiddenBy (caaRecords (records book)) n r))
   -- 21, not granted: exactly when no row holds, k in a is the lowest name denied, its relevant set has no critical record with an
   -- unknown tag, and r in b is the first record that governs it.
   pub not-granted-exactly : (k r : ℕ) →
       ((numberIn word ≡ 21) × (fieldA word ≡ k) × (fieldB word ≡ r))
-      ↔ (NoneHolds (JudgeTable request issuer book)
-      × ((n : Name) × LowestDenied request issuer book k n × GovernedFrom (caaRecords (records book)) n r))
+      ↔ (NoneHolds (JudgeTable request issuer who book)
+      × ((n : Name) × LowestDenied request issuer who book k n × GovernedFrom (caaRecords (records book)) n r))
   -- No other number is ever returned.
-  pub numbers : List·Memᴰ (numberIn word) (0 ∷ 1 ∷ 2 ∷ 3 ∷ 4 ∷ 5 ∷ 6 ∷ 7 ∷ 20 ∷ 21 ∷ [])
+  pub numbers : List·Memᴰ (numberIn word) (0 ∷ 1 ∷ 2 ∷ 3 ∷ 4 ∷ 15 ∷ 5 ∷ 6 ∷ 7 ∷ 20 ∷ 21 ∷ [])
   -- Field c is always 0.
   pub c-unused : fieldC word ≡ 0
   -- Field b is 0 except for 20 and 21.
-  pub b-unused : numberIn word ≤ 11 → fieldB word ≡ 0
+  pub b-unused : numberIn word ≤ 19 → fieldB word ≡ 0
   -- Field a is 0 if the number is 0.
   pub a-unused : numberIn word ≡ 0 → fieldA word ≡ 0
   -- If no row holds, the request is its names in wire form, one after the other, and each is valid.
-  pub names-read : NoneHolds (JudgeTable request issuer book) →
+  pub names-read : NoneHolds (JudgeTable request issuer who book) →
       (request ≡ flatten (map wire (requestedNames request))) × All GoodRequested (requestedNames request)
   -- And the book is its records in wire form, one after the other, and each is valid.
-  pub records-read : NoneHolds (JudgeTable request issuer book) →
+  pub records-read : NoneHolds (JudgeTable request issuer who book) →
       (book ≡ flatten (map wireRecord (records book))) × All GoodRecord (records book)
 
-abbrev pub Caa-judge : Type 0
-Caa-judge =
-    (request issuer book : List ℕ) → Octets request → Octets book → JudgeWord request issuer book (caaJudge request issuer book)
+abbrev pub Caa-judge-for : Type 0
+Caa-judge-for =
+    (request issuer : List ℕ) (who : Applicant) (book : List ℕ) → Octets request → Octets book → JudgeWord request issuer who book (caaJudgeFor request issuer who book)
 
 -- The number is 31, and the first a octets of the buffer are b entries for the names ns: for each its length octet and its octets.
 abbrev pub Lists : ℕ → List ℕ → List (List ℕ) → Type 0
 Lists word after ns =
     (numberIn word ≡ 31) × (fieldA word ≤ length after) × (take (fieldA word) after ≡ entries ns) × (length ns ≡ fieldB word)
 
--- caa_permitted_issuers: who may issue for every name of the request? `after` is the buffer after the call.
-pub record IssuersWord (request book buffer : List ℕ) (word : ℕ) (after : List ℕ) : Type 0 where
-  -- Refusal n with place p in a: exactly when row n of the table holds with place p and no row with a lower number holds.
-  pub refused-exactly : (n p : ℕ) → 1 ≤ n → n ≤ 11 →
-      ((numberIn word ≡ n) × (fieldA word ≡ p)) ↔ FirstToHold (ListTable request book buffer) n p
+-- caa_permitted_issuers_for: who may issue for every name of the request? `after` is the buffer after the call.
+pub record IssuersWord (request : List ℕ) (who : Applicant) (book buffer : List ℕ) (word : ℕ) (after : List ℕ) : Type 0 where
+  -- Refusal n with place p in a: exactly when row n of the table holds with place p and no row before it in the order of checks holds.
+  pub refused-exactly : (n p : ℕ) → 1 ≤ n → n ≤ 19 →
+      ((numberIn word ≡ n) × (fieldA word ≡ p)) ↔ FirstToHold (ListTable request who book buffer) n p
   -- A refusal changes no octet of the buffer.
-  pub refused-unchanged : numberIn word ≤ 11 → after ≡ buffer
+  pub refused-unchanged : numberIn word ≤ 19 → after ≡ buffer
   -- 30, anyone: exactly when no row holds and no requested name is restricted.
   pub anyone-exactly :
       (numberIn word ≡ 30)
-      ↔ (NoneHolds (ListTable request book buffer) × All (Unrestricted (caaRecords (records book))) (requestedNames request))
+      ↔ (NoneHolds (ListTable request who book buffer) × All (Unrestricted (caaRecords (records book))) (requestedNames request))
   -- 30 changes no octet of the buffer.
   pub anyone-unchanged : numberIn word ≡ 30 → after ≡ buffer
-  -- After 30, caa_judge permits every well-formed issuer domain name.
-  pub anyone-permitted : numberIn word ≡ 30 → (d : List ℕ) → WellFormed d → numberIn (caaJudge request d book) ≡ 0
+  -- After 30, caa_judge_for permits every well-formed issuer domain name.
+  pub anyone-permitted : numberIn word ≡ 30 → (d : List ℕ) → WellFormed d → numberIn (caaJudgeFor request d who book) ≡ 0
   -- 31, a list: exactly when no row holds and some requested name is restricted.
   pub listed-exactly :
       (numberIn word ≡ 31)
-      ↔ (NoneHolds (ListTable request book buffer) × (All (Unrestricted (caaRecords (records book))) (requestedNames request) → ⊥))
+      ↔ (NoneHolds (ListTable request who book buffer) × (All (Unrestricted (caaRecords (records book))) (requestedNames request) → ⊥))
   -- The list can be read: b names in a octets at the start of the buffer.
   pub list-there : numberIn word ≡ 31 → (ns : List (List ℕ)) × Lists word after ns
   -- Reading b entries, each a length octet and that many octets, gives these names and uses all a octets.
   pub list-read : (ns : List (List ℕ)) → Lists word after ns → items readEntry (fieldB word) (take (fieldA word) after) ≡ whole ns
-  -- caa_judge permits a well-formed issuer domain name exactly when it is listed, ignoring case.
+  -- caa_judge_for permits a well-formed issuer domain name exactly when it is listed, ignoring case.
   pub permitted-exactly : (ns : List (List ℕ)) → Lists word after ns → (d : List ℕ) → WellFormed d →
-      (numberIn (caaJudge request d book) ≡ 0) ↔ List·Memᴰ (lowered d) ns
+      (numberIn (caaJudgeFor request d who book) ≡ 0) ↔ List·Memᴰ (lowered d) ns
   -- Every entry is a well-formed issuer domain name in lower case.
   pub well-formed : (ns : List (List ℕ)) → Lists word after ns → All (λ n. WellFormed n × (lowered n ≡ n)) ns
   -- No name is listed twice.
@@ -176,7 +195,7 @@ pub record IssuersWord (request book buffer : List ℕ) (word : ℕ) (after : Li
   pub in-order : (ns : List (List ℕ)) → Lists word after ns → (k : ℕ) (n : Name) (gs : List CaaRecord) →
       LowestNot (Unrestricted (caaRecords (records book))) (requestedNames request) k n →
       GoverningRecords (caaRecords (records book)) n gs → (a b : List ℕ) → List·Memᴰ a ns → List·Memᴰ b ns →
-      Before a b ns ↔ GrantedBefore gs a b
+      Before a b ns ↔ GrantedBefore who gs a b
   -- The octets after the list are unchanged.
   pub rest-stays : numberIn word ≡ 31 → drop (fieldA word) after ≡ drop (fieldA word) buffer
   -- The buffer keeps its length.
@@ -185,9 +204,9 @@ pub record IssuersWord (request book buffer : List ℕ) (word : ℕ) (after : Li
   pub book-length-enough : length book ≤ length buffer → numberIn word ≢ 8
   -- After 8, a buffer of at least a octets gets the list, in exactly a octets.
   pub room-asked-enough : numberIn word ≡ 8 → (other : List ℕ) → fieldA word ≤ length other →
-      (numberIn (caaPermittedIssuers request book other .word) ≡ 31) × (fieldA (caaPermittedIssuers request book other .word) ≡ fieldA word)
+      (numberIn (caaPermittedIssuersFor request who book other .word) ≡ 31) × (fieldA (caaPermittedIssuersFor request who book other .word) ≡ fieldA word)
   -- No other number is ever returned.
-  pub numbers : List·Memᴰ (numberIn word) (1 ∷ 2 ∷ 3 ∷ 5 ∷ 6 ∷ 7 ∷ 8 ∷ 30 ∷ 31 ∷ [])
+  pub numbers : List·Memᴰ (numberIn word) (1 ∷ 2 ∷ 3 ∷ 15 ∷ 5 ∷ 6 ∷ 7 ∷ 8 ∷ 30 ∷ 31 ∷ [])
   -- Field c is always 0.
   pub c-unused : fieldC word ≡ 0
   -- Field b is 0 except for 31.
@@ -195,10 +214,10 @@ pub record IssuersWord (request book buffer : List ℕ) (word : ℕ) (after : Li
   -- Field a is 0 if the number is 30.
   pub a-unused : numberIn word ≡ 30 → fieldA word ≡ 0
 
-abbrev pub Caa-permitted-issuers : Type 0
-Caa-permitted-issuers =
-    (request book buffer : List ℕ) → Octets request → Octets book →
-    IssuersWord request book buffer (caaPermittedIssuers request book buffer .word) (caaPermittedIssuers request book buffer .buffer)
+abbrev pub Caa-permitted-issuers-for : Type 0
+Caa-permitted-issuers-for =
+    (request : List ℕ) (who : Applicant) (book buffer : List ℕ) → Octets request → Octets book →
+    IssuersWord request who book buffer (caaPermittedIssuersFor request who book buffer .word) (caaPermittedIssuersFor request who book buffer .buffer)
 
 -- The number is 0, a is the length of x, and x is at the start of the buffer.
 abbrev pub Outputs : Returned → List ℕ → Type 0

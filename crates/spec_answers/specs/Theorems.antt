@@ -8,6 +8,7 @@ use Rattle.spec_packed.specs.Packed.{numberIn, fieldA, fieldB, fieldC}
 use Rattle.spec_line.specs.declared.LineAnswer.the-variants.{Length, Refused as LineRefused}
 use Rattle.spec_line.specs.Calls.{writeLine, parseLine}
 use Rattle.spec_octets.specs.Octets.{Octets}
+use Rattle.spec_applicant.specs.Applicant.{Applicant}
 use Rattle.spec_rule.specs.declared.Judgement.the-variants.{Permitted, UnknownCritical, NotGranted, Refused}
 use Rattle.spec_rule.specs.declared.PermittedIssuers.the-variants.{Anyone, Listed, Refused as ListRefused}
 use Rattle.spec_rule.specs.Verdicts.{denial}
@@ -23,14 +24,14 @@ Unpacked x t = (numberIn x ≡ t .number) × (fieldA x ≡ valueOf t 0) × (fiel
 -- For every input of the call that judges.
 abbrev pub Judgement-unpacks : Type 0
 Judgement-unpacks =
-    (request issuer book : List ℕ) →
-    Unpacked (packedJudgement (judge request issuer book)) (judgementCode (judge request issuer book))
+    (request issuer : List ℕ) (who : Applicant) (book : List ℕ) →
+    Unpacked (packedJudgement (judge request issuer who book)) (judgementCode (judge request issuer who book))
 
 -- For every input of the call that lists: octets in a, count in b.
 abbrev pub List-unpacks : Type 0
 List-unpacks =
-    (request book buffer : List ℕ) → Octets book →
-    Unpacked (packedIssuers (listIssuers request book buffer .answer)) (permittedIssuersCode (listIssuers request book buffer .answer))
+    (request : List ℕ) (who : Applicant) (book buffer : List ℕ) → Octets book →
+    Unpacked (packedIssuers (listIssuers request who book buffer .answer)) (permittedIssuersCode (listIssuers request who book buffer .answer))
 
 -- For every input of the two calls on lines, which answer with a length or a refusal.
 abbrev pub Written-line-unpacks : Type 0

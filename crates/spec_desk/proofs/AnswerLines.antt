@@ -14,8 +14,8 @@ line-words = (λ k r. simp append-assoc, λ k r. simp append-assoc, λ r. simp a
 
 pub line-examples : Line-examples
 unfolding answerText decimal number place deskLine maxNames maxRecords
-line-examples = (refl, refl, refl, refl, refl, refl, refl, refl, refl, λ request issuer book. refl)
+line-examples = (refl, refl, refl, refl, refl, refl, refl, refl, refl, refl, λ request issuer who book. refl)
 
 pub judged : Judged
 unfolding deskLine
-judged request issuer book = refl
+judged request issuer who book = refl

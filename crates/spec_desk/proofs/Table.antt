@@ -1,6 +1,6 @@
 -- The desk program's lines from the contents of its files, by computing.
 use mathlib.Core.Path.{refl}
-use Rattle.spec_limits.specs.Limits.{maxLabelOctets, maxIssuerOctets, maxNameOctets, maxRequestOctets, maxNames, maxBookOctets, maxRecords}
+use Rattle.spec_limits.specs.Limits.{maxAccountOctets, maxLabelOctets, maxIssuerOctets, maxNameOctets, maxRequestOctets, maxNames, maxBookOctets, maxRecords}
 use Rattle.spec_octets.specs.Reader.{number}
 use Rattle.spec_name.specs.Names.{name}
 use Rattle.spec_octets.specs.Octets.{isDigit, isUpper, isLower, isLetterOrDigit, isBlank, lower, equalIgnoringCase, isParameterOctet}
@@ -12,6 +12,9 @@ use Rattle.spec_record.specs.Records.{isCaa, isLaidOut, resourceRecord, recordI
 use Rattle.spec_value.specs.IssueValues.{isDomainName, isParameterTag, isParameter, areParameters, issueValue}
 use Rattle.spec_octets.specs.WrittenDecimal.{decimal}
 use Rattle.spec_refusal.specs.Refusal.{number as refusalNumber, place}
+use Rattle.spec_value.specs.Parameters.{parameterIn, parametersIn}
+use Rattle.spec_applicant.specs.Applicant.{isAccount, isMethod, isApplicant, applicantRefusal}
+use Rattle.spec_applicant.specs.Admission.{admits}
 use Rattle.spec_rule.specs.RelevantSet.{lookup, relevantSet}
 use Rattle.spec_rule.specs.Authorizations.{isUnknownCritical, governing, grantee, authorization}
 use Rattle.spec_rule.specs.Verdicts.{verdict}
@@ -22,8 +25,8 @@ use Rattle.spec_desk.specs.Theorems.{Desk-lines}
 pub desk-lines : Desk-lines
 unfolding maxLabelOctets maxIssuerOctets maxNameOctets maxRequestOctets maxNames maxBookOctets maxRecords isDigit isUpper isLower
     isLetterOrDigit isBlank lower equalIgnoringCase isLetterDigitHyphen isLabel isHostLabel isWildcard base isIssuer readProperty property
-    isCritical tagOf isCaa isDomainName isParameterOctet isParameterTag isParameter areParameters issueValue lookup relevantSet
+    isCritical tagOf isCaa isDomainName isParameterOctet isParameterTag isParameter areParameters issueValue parameterIn parametersIn admits lookup relevantSet
     isUnknownCritical governing grantee authorization verdict name isRequestable requestedName nameItems requestedNames requestRefusal
-    issuerRefusal isLaidOut resourceRecord recordItems records bookRefusal number authorizations judge
+    issuerRefusal maxAccountOctets isAccount isMethod isApplicant applicantRefusal isLaidOut resourceRecord recordItems records bookRefusal number authorizations judge
     decimal refusalNumber place answerText deskLine
-desk-lines = (refl, refl, refl, refl, refl, refl)
+desk-lines = (refl, refl, refl, refl, refl, refl, refl, refl, refl)

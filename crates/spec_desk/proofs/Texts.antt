@@ -13,7 +13,7 @@ use Rattle.spec_octets.specs.Pieces.{split, join}
 use Rattle.spec_octets.proofs.ListLaws.{told-apart, All-imp, All-head, all-true}
 use Rattle.spec_octets.proofs.PieceLaws.{pieces-join}
 use Rattle.spec_refusal.specs.declared.Refusal.{Refusal}
-use Rattle.spec_refusal.specs.declared.Refusal.the-variants.{RequestTooLong, BadName, TooManyNames, BadIssuer, BookTooLong, BadRecord, TooManyRecords, NoRoom, BadLine, LineTooLong, BadData}
+use Rattle.spec_refusal.specs.declared.Refusal.the-variants.{RequestTooLong, BadName, TooManyNames, BadIssuer, BookTooLong, BadRecord, TooManyRecords, NoRoom, BadLine, LineTooLong, BadData, BadAccountOrMethod}
 use Rattle.spec_refusal.specs.Refusal.{number, place}
 use Rattle.spec_refusal.proofs.Table.{number-and-place-tell}
 use Rattle.spec_rule.specs.declared.Denial.{Denial}
@@ -87,7 +87,7 @@ text-tells (UnknownCritical d) = denial-tells 20 (text "20") (text "verdict 20 n
 text-tells (NotGranted d) = denial-tells 21 (text "21") (text "verdict 21 name ") refl (letters (text "21") refl) (λ ws. refl) d
 text-tells (Refused r) = refusal-tells (number r) (place r)
 
-number-range : (r : Refusal) → (1 ≤ number r) × (number r ≤ 11)
+number-range : (r : Refusal) → (1 ≤ number r) × (number r ≤ 19)
 unfolding number
 number-range RequestTooLong = (omega arith, omega arith)
 number-range (BadName k) = (omega arith, omega arith)
@@ -100,6 +100,7 @@ number-range (NoRoom n) = (omega arith, omega arith)
 number-range BadLine = (omega arith, omega arith)
 number-range LineTooLong = (omega arith, omega arith)
 number-range BadData = (omega arith, omega arith)
+number-range BadAccountOrMethod = (omega arith, omega arith)
 
 denial-one : (d e : Denial) → d .name .0 ≡ e .name .0 → d .rr .0 ≡ e .rr .0 → d ≡ e
 denial-one d e k r = ap (λ x. denial x (d .rr .0)) k ∙ ap (denial (e .name .0)) r
@@ -139,5 +140,5 @@ bookless j e =
 
 pub no-book : No-book
 unfolding deskLine
-no-book true request issuer book = (λ e. absurd (bookless (judge request issuer book) e), λ e. absurd (true≢false e))
-no-book false request issuer book = (λ e. refl, λ e. refl)
+no-book true request issuer who book = (λ e. absurd (bookless (judge request issuer who book) e), λ e. absurd (true≢false e))
+no-book false request issuer who book = (λ e. refl, λ e. refl)

@@ -4,6 +4,7 @@ use mathlib.Core.Bool.{Bool, cond}
 use mathlib.Core.List.{List, [], _∷_, _++_}
 use Rattle.spec_octets.specs.Octets.{text}
 use Rattle.spec_refusal.specs.Refusal.{number, place}
+use Rattle.spec_applicant.specs.Applicant.{Applicant}
 use Rattle.spec_rule.specs.declared.Denial.{Denial}
 use Rattle.spec_rule.specs.declared.Judgement.{Judgement}
 use Rattle.spec_rule.specs.declared.Judgement.the-variants.{Permitted, UnknownCritical, NotGranted, Refused}
@@ -34,5 +35,5 @@ abbrev pub noBook : List ℕ
 noBook = text "no book" ++ (lineEnd ∷ [])
 
 -- "without book.bin the line is `no book`, whatever the others hold"
-unfoldable pub deskLine : Bool → List ℕ → List ℕ → List ℕ → List ℕ
-deskLine found request issuer book = cond found (judgementLine (judge request issuer book)) noBook
+unfoldable pub deskLine : Bool → List ℕ → List ℕ → Applicant → List ℕ → List ℕ
+deskLine found request issuer who book = cond found (judgementLine (judge request issuer who book)) noBook

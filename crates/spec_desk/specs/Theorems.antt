@@ -12,7 +12,9 @@ use Rattle.spec_octets.specs.Pieces.{split}
 use Rattle.spec_octets.specs.WrittenDecimal.{decimal}
 use Rattle.spec_refusal.specs.Refusal.{number, place}
 use Rattle.spec_refusal.specs.declared.Refusal.{Refusal}
-use Rattle.spec_refusal.specs.declared.Refusal.the-variants.{TooManyNames, BadIssuer, BadRecord, TooManyRecords}
+use Rattle.spec_refusal.specs.declared.Refusal.the-variants.{TooManyNames, BadIssuer, BadRecord, TooManyRecords, BadAccountOrMethod}
+use Rattle.spec_applicant.specs.Applicant.{Applicant}
+use Rattle.spec_applicant.specs.AdmissionEdges.{someone}
 use Rattle.spec_rule.specs.declared.Judgement.{Judgement}
 use Rattle.spec_rule.specs.declared.Judgement.the-variants.{Permitted, UnknownCritical, NotGranted, Refused}
 use Rattle.spec_rule.specs.Edges.{ca1, ca2, wholeBook}
@@ -35,7 +37,8 @@ Lines-differ = (i j : Judgement) → judgementLine i ≡ judgementLine j → i �
 
 -- The line is `no book` exactly when there is no book.
 abbrev pub No-book : Type 0
-No-book = (found : Bool) (request issuer book : List ℕ) → (deskLine found request issuer book ≡ noBook) ↔ (found ≡ false)
+No-book =
+    (found : Bool) (request issuer : List ℕ) (who : Applicant) (book : List ℕ) → (deskLine found request issuer who book ≡ noBook) ↔ (found ≡ false)
 
 -- The words around the numbers, for all numbers.
 abbrev pub Line-words : Type 0
@@ -56,14 +59,19 @@ Line-examples =
     × (judgementLine (Refused BadIssuer) ≡ text "refused 4 at 0\n")
     × (judgementLine (Refused TooManyNames) ≡ text "refused 3 at 250\n")
     × (judgementLine (Refused TooManyRecords) ≡ text "refused 7 at 1024\n")
-    × ((request issuer book : List ℕ) → deskLine false request issuer book ≡ text "no book\n")
+    × (judgementLine (Refused BadAccountOrMethod) ≡ text "refused 15 at 0\n")
+    × ((request issuer : List ℕ) (who : Applicant) (book : List ℕ) → deskLine false request issuer who book ≡ text "no book\n")
 
--- Lines from the contents of the files: the requirements' whole case, a permitted request, one refusal for each file, and no book.
+-- Lines from the contents of the files: the requirements' whole case, a permitted request, one refusal for each file, and no book. A file
+-- that is missing counts as empty.
 abbrev pub Desk-lines : Type 0
 Desk-lines =
-    (deskLine true both ca1 (bookOf wholeBook) ≡ text "verdict 21 name 1 record 3\n")
-    × (deskLine true both ca2 (bookOf wholeBook) ≡ text "verdict 0\n")
-    × (deskLine true [] ca1 (bookOf wholeBook) ≡ text "refused 2 at 0\n")
-    × (deskLine true both (ca1 ++ text "\n") (bookOf wholeBook) ≡ text "refused 4 at 0\n")
-    × (deskLine true both ca1 (bookOf wholeBook ++ (64 ∷ [])) ≡ text "refused 6 at 4\n")
-    × (deskLine false both ca1 (bookOf wholeBook) ≡ text "no book\n")
+    (deskLine true both ca1 someone (bookOf wholeBook) ≡ text "verdict 21 name 1 record 3\n")
+    × (deskLine true both ca2 someone (bookOf wholeBook) ≡ text "verdict 0\n")
+    × (deskLine true [] ca1 someone (bookOf wholeBook) ≡ text "refused 2 at 0\n")
+    × (deskLine true both (ca1 ++ text "\n") someone (bookOf wholeBook) ≡ text "refused 4 at 0\n")
+    × (deskLine true both ca1 (record { account = []; method = text "dns-01" }) (bookOf wholeBook) ≡ text "refused 15 at 0\n")
+    × (deskLine true both ca1 (record { account = text "https://a/1"; method = text "dns-01\n" }) (bookOf wholeBook) ≡ text "refused 15 at 0\n")
+    × (deskLine true both ca1 someone (bookOf wholeBook ++ (64 ∷ [])) ≡ text "refused 6 at 4\n")
+    × (deskLine false both ca1 someone (bookOf wholeBook) ≡ text "no book\n")
+    × (deskLine false both ca1 (record { account = []; method = [] }) [] ≡ text "no book\n")

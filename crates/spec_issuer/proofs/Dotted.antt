@@ -1,17 +1,16 @@
 -- An issuer domain name is valid labels joined by dots, and is refused exactly when it is not.
 use Prim.Native.Nat.{ℕ}
 use Prim.Native.Char.{code}
-use mathlib.Core.Path.{_≡_, refl}
-use mathlib.Core.Logic.{_↔_, _≢_}
-use mathlib.Core.Bool.{Bool, true, false, cond, false≢true, and-eq-true-iff}
+use mathlib.Core.Path.{_≡_}
+use mathlib.Core.Logic.{_≢_}
+use mathlib.Core.Bool.{true, and-eq-true-iff}
 use mathlib.Core.List.{List}
-use mathlib.Core.Option.{Option, none, some, Option·none-ne-some, Option·some-ne-none}
 use lib.Dec.{leb}
 use lib.ListN.{length}
 use borrow.Author.Tests.{leb-true, le-leb}
 use Rattle.spec_limits.specs.Limits.{maxLabelOctets, maxIssuerOctets}
-use Rattle.spec_refusal.specs.declared.Refusal.{Refusal}
 use Rattle.spec_refusal.specs.declared.Refusal.the-variants.{BadIssuer}
+use Rattle.spec_refusal.proofs.Tested.{refused-unless}
 use Rattle.spec_octets.specs.Lists.{all, All}
 use Rattle.spec_octets.specs.Octets.{between}
 use Rattle.spec_octets.specs.Label.{isLabel, isHostLabel}
@@ -19,7 +18,7 @@ use Rattle.spec_octets.specs.Pieces.{split}
 use Rattle.spec_octets.proofs.ListLaws.{All-imp}
 use Rattle.spec_octets.proofs.Labels.{host-labels}
 use Rattle.spec_octets.proofs.DottedLabels.{pieces-pass, label-dotless}
-use Rattle.spec_issuer.specs.Issuer.{isIssuer, issuerRefusal, WellFormed}
+use Rattle.spec_issuer.specs.Issuer.{isIssuer, issuerRefusal}
 use Rattle.spec_issuer.specs.Theorems.{Issuer-is-its-labels, Issuer-refusals}
 
 host-dotless : (l : List ℕ) → isHostLabel l ≡ true → All (λ x. x ≢ code ".") l
@@ -42,26 +41,6 @@ issuer-is-its-labels d =
           ),
     )
 
--- a refusal says that the test fails
-refused : (t : Bool) → (cond {A = Option Refusal} t none (some BadIssuer) ≡ some BadIssuer) ↔ (t ≡ true → ⊥)
-refused true = (λ e. absurd (Option·none-ne-some BadIssuer e), λ h. absurd (h refl))
-refused false = (λ e. false≢true, λ h. refl)
-
-admitted : (t : Bool) → (cond {A = Option Refusal} t none (some BadIssuer) ≡ none) ↔ (t ≡ true)
-admitted true = (λ e. refl, λ e. refl)
-admitted false = (λ e. absurd (Option·some-ne-none BadIssuer e), λ e. absurd (false≢true e))
-
-only : (t : Bool) (r : Refusal) → cond {A = Option Refusal} t none (some BadIssuer) ≡ some r → r ≡ BadIssuer
-only true r e = absurd (Option·none-ne-some r e)
-only false r e = cc
-
 pub issuer-refusals : Issuer-refusals
 unfolding issuerRefusal
-issuer-refusals d = (
-  (λ e w. refused (isIssuer d) .0 e (labels .1 w), λ n. refused (isIssuer d) .1 (λ e. n (labels .0 e))),
-  (λ e. labels .0 (admitted (isIssuer d) .0 e), λ w. admitted (isIssuer d) .1 (labels .1 w)),
-  only (isIssuer d),
-)
-  where
-    labels : (isIssuer d ≡ true) ↔ WellFormed d
-    labels = issuer-is-its-labels d
+issuer-refusals d = refused-unless BadIssuer (isIssuer d) (issuer-is-its-labels d)

@@ -22,6 +22,10 @@ Issuer-in-any-case = (d : List ℕ) → isIssuer (lowered d) ≡ isIssuer d
 abbrev pub Row-4 : List ℕ → Type 0
 Row-4 d = WellFormed d → ⊥
 
+-- The same by refusal.
+abbrev pub IssuerRow : List ℕ → Refusal → Type 0
+IssuerRow d r = (r ≡ BadIssuer) × Row-4 d
+
 abbrev pub Issuer-refusals : Type 0
 Issuer-refusals =
     (d : List ℕ) → ((issuerRefusal d ≡ some BadIssuer) ↔ Row-4 d) × ((issuerRefusal d ≡ none) ↔ WellFormed d)

@@ -36,3 +36,7 @@ maxLineOctets = 16384
 -- The tag length of CAA data is one octet (RFC 8659 section 4.1).
 unfoldable pub maxTagOctets : ℕ
 maxTagOctets = 255
+
+-- An account text, and a method text, of a request (RFC 8657).
+unfoldable pub maxAccountOctets : ℕ
+maxAccountOctets = 255

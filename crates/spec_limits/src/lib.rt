@@ -18,3 +18,5 @@ pub const MAX_DATA_OCTETS: usize = 4096;
 pub const MAX_LINE_OCTETS: usize = 16384;
 
 pub const MAX_TAG_OCTETS: usize = 255;
+
+pub const MAX_ACCOUNT_OCTETS: usize = 255;

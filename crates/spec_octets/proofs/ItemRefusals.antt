@@ -73,6 +73,14 @@ module _
     numbers : (r : R) → refusalOf ≡ some r → (n ≤ number r) × (number r ≤ n + 2)
     numbers r e = ⊎-elim (λ h. let z : number r ≡ n = cc in omega arith) (λ h. omega (arith, later i r (h .1))) (reason (some r) e)
 
+    pub one-of-three : (r : R) → refusalOf ≡ some r → (r ≡ long) ⊎ ((k : ℕ) × (r ≡ bad k)) ⊎ (r ≡ many)
+    one-of-three r e = ⊎-elim (λ h. inl (cc)) (λ h. inr (fault i (h .1))) (reason (some r) e)
+      where
+        fault : (i : Items A) → refusal i ≡ some r → ((k : ℕ) × (r ≡ bad k)) ⊎ (r ≡ many)
+        fault (whole xs) e = let z : _≡_ {A = ℕ} 0 1 = cc (rows .accepts xs) in absurd (omega arith)
+        fault (broken k) e = inl (k, cc (rows .breaks k))
+        fault over e = inr (cc (rows .exceeds))
+
     pub acceptance :
         (list : Items A → List A) {W : List A → Type 0} → ((xs : List A) → list (whole xs) ≡ xs) →
         ((xs : List A) → (i ≡ whole xs) ↔ W xs) → (xs : List A) → ((refusalOf ≡ none) × (list i ≡ xs)) ↔ (W xs × (length s ≤ limit))

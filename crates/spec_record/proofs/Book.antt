@@ -1,14 +1,17 @@
 -- A book is accepted with its records, or refused by one row of the table.
-use mathlib.Core.Path.{refl, ap}
-use mathlib.Core.Logic.{_≢_}
-use mathlib.Core.List.{[], append-eq-nil-iff}
+use Prim.Native.Nat.{ℕ}
+use mathlib.Core.Path.{_≡_, refl, ap}
+use mathlib.Core.Logic.{_≢_, _⊎_}
+use mathlib.Core.List.{List, [], append-eq-nil-iff}
+use mathlib.Core.Option.{some}
 use Rattle.spec_limits.specs.Limits.{maxBookOctets, maxRecords}
 use Rattle.spec_refusal.specs.Refusal.{number, place}
+use Rattle.spec_refusal.specs.declared.Refusal.{Refusal}
 use Rattle.spec_refusal.specs.declared.Refusal.the-variants.{BookTooLong, BadRecord, TooManyRecords}
 use Rattle.spec_octets.specs.Items.{wholeItems}
 use Rattle.spec_octets.specs.Theorems.{Items-are-read}
 use Rattle.spec_octets.proofs.ItemLaws.{items-end-to-end}
-use Rattle.spec_octets.proofs.ItemRefusals.{Rows, acceptance, refusals}
+use Rattle.spec_octets.proofs.ItemRefusals.{Rows, one-of-three, acceptance, refusals}
 use Rattle.spec_name.proofs.NameField.{wire-full}
 use Rattle.spec_record.specs.Records.{Record, wireRecord, resourceRecord, recordItems, recordRefusal, records, bookRefusal, GoodRecord}
 use Rattle.spec_record.specs.Theorems.{Book-is-its-records, Book-refusals}
@@ -33,3 +36,10 @@ book-is-its-records b o rs =
 pub book-refusals : Book-refusals
 unfolding bookRefusal recordItems
 book-refusals b o = let law = items-read maxRecords b o in refusals rows maxBookOctets b (recordItems b) (law .1) (law .2)
+
+-- no other refusal is given
+pub book-faults :
+    (b : List ℕ) (r : Refusal) → bookRefusal b ≡ some r →
+    (r ≡ BookTooLong) ⊎ ((k : ℕ) × (r ≡ BadRecord (record { 0 = k }))) ⊎ (r ≡ TooManyRecords)
+unfolding bookRefusal
+book-faults b r e = one-of-three rows maxBookOctets b (recordItems b) r e

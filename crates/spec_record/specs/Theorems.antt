@@ -1,7 +1,7 @@
 -- What the definitions of this crate mean. Each statement is proved under its name in proofs/.
 use Prim.Native.Nat.{ℕ, _≤_, _<_}
 use mathlib.Core.Path.{_≡_}
-use mathlib.Core.Logic.{_↔_, _≢_}
+use mathlib.Core.Logic.{_↔_, _≢_, _⊎_}
 use mathlib.Core.Bool.{true}
 use mathlib.Core.List.{List, [], _∷_, _++_, map}
 use mathlib.Core.Option.{none, some}
@@ -72,6 +72,11 @@ Row-6 b k = (k < maxRecords) × BrokenAt wireRecord GoodRecord b k
 
 abbrev pub Row-7 : List ℕ → Type 0
 Row-7 b = Beyond wireRecord GoodRecord maxRecords b
+
+-- The same by refusal: the row of r holds of the book.
+abbrev pub BookRow : List ℕ → Refusal → Type 0
+BookRow b r =
+    ((r ≡ BookTooLong) × Row-5 b) ⊎ ((k : ℕ) × (r ≡ BadRecord (record { 0 = k })) × Row-6 b k) ⊎ ((r ≡ TooManyRecords) × Row-7 b)
 
 -- Row 5 is checked first. Rows 6 and 7 never hold together.
 abbrev pub Book-refusals : Type 0

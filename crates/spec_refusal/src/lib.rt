@@ -25,6 +25,8 @@ pub enum Refusal {
     // A line, or its CAA data, is over its limit.
     LineTooLong,
     BadData,
+    // The account text, the method text or both break a rule.
+    BadAccountOrMethod,
 }
 
 // The result of checking an input.
@@ -49,6 +51,7 @@ pub fn number_of(r: Refusal) -> u64
         Refusal::BadLine => 9,
         Refusal::LineTooLong => 10,
         Refusal::BadData => 11,
+        Refusal::BadAccountOrMethod => 15,
     }
 }
 
@@ -68,5 +71,6 @@ pub fn place_of(r: Refusal) -> usize
         Refusal::BadLine => 0,
         Refusal::LineTooLong => 0,
         Refusal::BadData => 0,
+        Refusal::BadAccountOrMethod => 0,
     }
 }

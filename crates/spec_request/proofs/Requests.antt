@@ -1,20 +1,21 @@
 -- A request is accepted with its names, or refused by one row of the table.
 use Prim.Native.Nat.{ℕ, _≤_}
 use native.Mathlib.Omega.{arith}
-use mathlib.Core.Path.{_≡_, refl, ap, sym}
-use mathlib.Core.Logic.{_↔_, inl, inr}
+use mathlib.Core.Path.{_≡_, refl, ap, sym, _∙_}
+use mathlib.Core.Logic.{_↔_, _⊎_, inl, inr}
 use mathlib.Core.List.{List, [], _∷_, map, cons≢nil}
-use mathlib.Core.Option.{none}
+use mathlib.Core.Option.{none, some}
 use lib.ListN.{length}
 use Rattle.spec_limits.specs.Limits.{maxRequestOctets, maxNames}
 use Rattle.spec_refusal.specs.Refusal.{number, place}
+use Rattle.spec_refusal.specs.declared.Refusal.{Refusal}
 use Rattle.spec_refusal.specs.declared.Refusal.the-variants.{RequestTooLong, BadName, TooManyNames}
 use Rattle.spec_octets.specs.Lists.{All, all-nil, flatten}
 use Rattle.spec_octets.specs.Octets.{Octets}
 use Rattle.spec_octets.specs.Items.{Items, whole, broken, over, wholeItems}
 use Rattle.spec_octets.specs.Theorems.{Items-are-read}
 use Rattle.spec_octets.proofs.ItemLaws.{items-end-to-end}
-use Rattle.spec_octets.proofs.ItemRefusals.{Rows, refusalOf, acceptance, refusals}
+use Rattle.spec_octets.proofs.ItemRefusals.{Rows, refusalOf, one-of-three, acceptance, refusals}
 use Rattle.spec_name.specs.Names.{Name, wire}
 use Rattle.spec_name.proofs.NameField.{wire-full}
 use Rattle.spec_request.specs.Request.{requestedName, nameItems, requestedNames, nameRefusal, requestRefusal, GoodRequested}
@@ -98,3 +99,9 @@ pub request-refusals : Request-refusals
 request-refusals s o =
     let (row-1, row-2, row-3, numbers) = refusals rows maxRequestOctets s (asked s) (asked-broken s o) (asked-over s o) in
     rw (asked-refusal s) (row-1, row-2, row-3, λ r e. numbers r e .1)
+
+-- no other refusal is given
+pub request-faults :
+    (s : List ℕ) (r : Refusal) → requestRefusal s ≡ some r →
+    (r ≡ RequestTooLong) ⊎ ((k : ℕ) × (r ≡ BadName (record { 0 = k }))) ⊎ (r ≡ TooManyNames)
+request-faults s r e = one-of-three rows maxRequestOctets s (asked s) r (sym (asked-refusal s) ∙ e)

@@ -46,6 +46,11 @@ Row-2 s k = ((s ≡ []) × (k ≡ 0)) ⊎ ((k < maxNames) × BrokenAt wire GoodR
 abbrev pub Row-3 : List ℕ → Type 0
 Row-3 s = Beyond wire GoodRequested maxNames s
 
+-- The same by refusal: the row of r holds of the request.
+abbrev pub RequestRow : List ℕ → Refusal → Type 0
+RequestRow s r =
+    ((r ≡ RequestTooLong) × Row-1 s) ⊎ ((k : ℕ) × (r ≡ BadName (record { 0 = k })) × Row-2 s k) ⊎ ((r ≡ TooManyNames) × Row-3 s)
+
 -- Row 1 is checked first. Rows 2 and 3 never hold together.
 abbrev pub Request-refusals : Type 0
 Request-refusals =

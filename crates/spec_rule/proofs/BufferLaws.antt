@@ -38,7 +38,7 @@ room-exactly ns buffer = rw (← entries-length ns) (
 
 pub list-in-the-buffer : List-in-the-buffer
 unfolding listIssuers
-list-in-the-buffer request book buffer r b = (
-  λ e. rw (r, b, e),
-  λ ns e fits. rw (r, b, e, room-exactly ns buffer .1 fits, entries-length ns),
+list-in-the-buffer request who book buffer r a b = (
+  λ e. rw (r, a, b, e),
+  λ ns e fits. rw (r, a, b, e, room-exactly ns buffer .1 fits, entries-length ns),
 )

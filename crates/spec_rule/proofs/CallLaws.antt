@@ -13,6 +13,7 @@ use Rattle.spec_refusal.specs.declared.Refusal.the-variants.{NoRoom}
 use Rattle.spec_octets.proofs.ListLaws.{true-or-false}
 use Rattle.spec_request.specs.Request.{requestRefusal}
 use Rattle.spec_record.specs.Records.{bookRefusal}
+use Rattle.spec_applicant.specs.Applicant.{Applicant, applicantRefusal}
 use Rattle.spec_rule.specs.declared.PermittedIssuers.the-variants.{Anyone, Listed, Refused as ListRefused}
 use Rattle.spec_rule.specs.Authorizations.{Authorization}
 use Rattle.spec_rule.specs.IssuerLists.{Issuers, anyone, listed, issuers, entries}
@@ -23,15 +24,16 @@ use Rattle.spec_rule.proofs.BufferLaws.{entries-length}
 use Rattle.spec_rule.proofs.Room.{room-of-the-book}
 use Rattle.spec_rule.proofs.ReadBackLaws.{anyone≢listed, anyone≢refused, listed≢refused, one-count, one-length, HasRoom, written-tells}
 
--- what is answered once the request and the book are accepted
+-- what is answered once the request, the applicant and the book are accepted
 abbrev answered : List ℕ → Issuers → Listing
 answered buffer i = unlessRefused (firstRefusal (roomRefusal i buffer ∷ [])) (written i buffer) buffer
 
 accepted :
-    (request book buffer : List ℕ) → requestRefusal request ≡ none → bookRefusal book ≡ none →
-    listIssuers request book buffer ≡ answered buffer (issuers (authorizations request book))
+    (request : List ℕ) (who : Applicant) (book buffer : List ℕ) →
+    requestRefusal request ≡ none → applicantRefusal who ≡ none → bookRefusal book ≡ none →
+    listIssuers request who book buffer ≡ answered buffer (issuers (authorizations request who book))
 unfolding listIssuers
-accepted request book buffer r b = rw (r, b) refl
+accepted request who book buffer r a b = rw (r, a, b) refl
 
 module _ (buffer : List ℕ) where
   room : (i : Issuers) → HasRoom i buffer → answered buffer i ≡ written i buffer
@@ -51,22 +53,22 @@ module _ (buffer : List ℕ) where
       (true-or-false (leb (length (entries ns)) (length buffer)))
 
 pub call-lists-the-permitted : Call-lists-the-permitted
-call-lists-the-permitted request book buffer r b h =
-    let i = issuers (authorizations request book) in
-    let e = accepted request book buffer r b in
+call-lists-the-permitted request who book buffer r a b h =
+    let i = issuers (authorizations request who book) in
+    let e = accepted request who book buffer r a b in
     let fits = has-room buffer i (rw e at h) in
-    rw (e, room buffer i fits) (written-tells request book buffer i (permitted-issuers request book r b) fits)
+    rw (e, room buffer i fits) (written-tells request who book buffer i (permitted-issuers request who book r a b) fits)
 
 pub book-length-is-room : Book-length-is-room
-book-length-is-room request book buffer o r b long q e = refused (issuers says) refl (rw (accepted request book buffer r b) at e)
+book-length-is-room request who book buffer o r a b long q e = refused (issuers says) refl (rw (accepted request who book buffer r a b) at e)
   where
     says : List Authorization
-    says = authorizations request book
+    says = authorizations request who book
 
     refused : (i : Issuers) → issuers says ≡ i → answered buffer i .answer ≡ ListRefused q → ⊥
     refused anyone k h = anyone≢refused h
     refused (listed ns) k h =
-        let fits : length (entries ns) ≤ length buffer = omega (arith, entries-length ns, room-of-the-book request book o b ns k) in
+        let fits : length (entries ns) ≤ length buffer = omega (arith, entries-length ns, room-of-the-book request who book o b ns k) in
         listed≢refused (rw (room buffer (listed ns) fits) at h)
 
 -- a list is told with its count and octets, or there is no room for it
@@ -104,5 +106,5 @@ module _ (buffer other : List ℕ) where
       )
 
 pub room-needed : Room-needed
-room-needed request book buffer other r b =
-    rw (accepted request book buffer r b, accepted request book other r b) (needed buffer other (issuers (authorizations request book)))
+room-needed request who book buffer other r a b =
+    rw (accepted request who book buffer r a b, accepted request who book other r a b) (needed buffer other (issuers (authorizations request who book)))

@@ -1,91 +1,153 @@
--- Checks in the order of the table give the first row that holds.
+-- Checks in the order of `order` give the first row that holds.
 use Prim.Native.Nat.{ℕ, _≤_, _<_}
 use native.Mathlib.Omega.{arith}
-use mathlib.Core.Path.{_≡_, refl}
+use mathlib.Core.Path.{_≡_, refl, sym, ap, _∙_}
 use mathlib.Core.Logic.{_↔_, _⊎_, inl, inr, ⊎-elim}
-use mathlib.Core.List.{List, [], _∷_}
+use mathlib.Core.Bool.{Bool, true, false, true≢false}
+use mathlib.Core.List.{List, [], _∷_, _++_, List·Memᴰ, List·Memᴰ·head, List·Memᴰ·tail, Memᴰ·append-left, Memᴰ·append-right}
 use mathlib.Core.Option.{Option, none, some, Option·none-ne-some}
-use lib.Dec.{leb}
-use borrow.Author.Tests.{leb-true, leb-false}
+use lib.Dec.{eqb, leb, ltb}
+use borrow.Author.Tests.{leb-true, leb-false, ltb-true, eq-eqb}
 use Rattle.spec_refusal.specs.declared.Refusal.{Refusal}
 use Rattle.spec_refusal.specs.Refusal.{number}
-use Rattle.spec_octets.proofs.ListLaws.{true-or-false}
+use Rattle.spec_refusal.specs.Order.{order, standsAt, rank}
+use Rattle.spec_octets.specs.Lists.{all, any}
+use Rattle.spec_octets.proofs.ListLaws.{true-or-false, All-member, all-true, any-true}
 use Rattle.spec_rule.specs.Calls.{firstRefusal}
 use Rattle.spec_rule.specs.Theorems.{FirstRow}
 
--- the check gives r, or a refusal of a lower number
+-- the position of a number in the order of checks
+unfoldable pub checkedAt : ℕ → ℕ
+checkedAt n = standsAt n order
+
+-- each of ms is checked before each of ns
+abbrev pub before : List ℕ → List ℕ → Bool
+before ms ns = all (λ m. all (λ n. ltb (checkedAt m) (checkedAt n)) ns) ms
+
+earlier : {ms ns : List ℕ} → before ms ns ≡ true → {m n : ℕ} → List·Memᴰ m ms → List·Memᴰ n ns → checkedAt m < checkedAt n
+earlier {ms} {ns} sorted {m} {n} i j = ltb-true _ _ (All-member (all-true _ ns .0 (All-member (all-true _ ms .0 sorted) i)) j)
+
+-- a check gives r, or a refusal that comes before r
 abbrev pub Reached : Option Refusal → Refusal → Type 0
-Reached c r = (c ≡ some r) ⊎ ((p : Refusal) × (c ≡ some p) × (number p < number r))
+Reached c r = (c ≡ some r) ⊎ ((p : Refusal) × (c ≡ some p) × (checkedAt (number p) < checkedAt (number r)))
 
--- the check keeps to the row of r: it gives r only where the row holds, and where it holds no later refusal
-pub record Keeps (c : Option Refusal) (r : Refusal) (row : Type 0) : Type 0 where
-  pub due : c ≡ some r → row
-  pub reached : row → Reached c r
+-- checks keep to rows: they give r only where the row of r holds, and where it holds nothing that comes after r; ns are the numbers of the rows
+pub record Keeps (cs : List (Option Refusal)) (rows : Refusal → Type 0) (ns : List ℕ) : Type 0 where
+  pub due : (r : Refusal) → firstRefusal cs ≡ some r → rows r
+  pub reached : (r : Refusal) → rows r → Reached (firstRefusal cs) r
+  pub numbered : (r : Refusal) → rows r → List·Memᴰ (number r) ns
 
--- a check that keeps to every row gives the first that holds
-pub first-row :
-    (rows : Refusal → Type 0) (c : Option Refusal) → ((r : Refusal) → Keeps c r (rows r)) → (r : Refusal) → (c ≡ some r) ↔ FirstRow rows r
-first-row rows c keeps r = (
-  λ e. (keeps r .due e, λ q less row. none-lower e q less (keeps q .reached row)),
-  λ first. given (first .1) (keeps r .reached (first .0)),
-)
+module _ {cs : List (Option Refusal)} {rows : Refusal → Type 0} {ns : List ℕ} (keeps : Keeps cs rows ns) where
+  given-first :
+      (r : Refusal) → (firstRefusal cs ≡ some r) ↔ (rows r × ((q : Refusal) → checkedAt (number q) < checkedAt (number r) → rows q → ⊥))
+  given-first r = (
+    λ e. (keeps .due r e, λ q less row. none-lower e q less (keeps .reached q row)),
+    λ (row, lowest). given lowest (keeps .reached r row),
+  )
+    where
+      none-lower : firstRefusal cs ≡ some r → (q : Refusal) → checkedAt (number q) < checkedAt (number r) → Reached (firstRefusal cs) q → ⊥
+      none-lower e q less (inl f) = let same : number q ≡ number r = cc in omega (arith, ap checkedAt same)
+      none-lower e q less (inr (p, f, below)) = let same : number p ≡ number r = cc in omega (arith, ap checkedAt same)
+
+      given :
+          ((q : Refusal) → checkedAt (number q) < checkedAt (number r) → rows q → ⊥) → Reached (firstRefusal cs) r → firstRefusal cs ≡ some r
+      given lowest (inl e) = e
+      given lowest (inr (p, e, below)) = absurd (lowest p below (keeps .due p e))
+
+  -- such checks give the first row that holds
+  pub first-row : (r : Refusal) → (firstRefusal cs ≡ some r) ↔ FirstRow rows r
+  unfolding rank checkedAt
+  first-row r = given-first r
+
+  -- a refusal of another number has no row here
+  pub not-here : (r : Refusal) → any (eqb (number r)) ns ≡ false → rows r → ⊥
+  not-here r e row =
+      let there = any-true (eqb (number r)) ns .1 (number r, keeps .numbered r row, eq-eqb (number r) (number r) refl) in
+      true≢false (sym there ∙ e)
+
+-- a check in front of others, where all its numbers come before theirs
+pub in-front :
+    {c : Option Refusal} {cs : List (Option Refusal)} {P Q : Refusal → Type 0} {ms ns : List ℕ} →
+    Keeps (c ∷ []) P ms → Keeps cs Q ns → before ms ns ≡ true → Keeps (c ∷ cs) (λ r. P r ⊎ Q r) (ms ++ ns)
+in-front {c} {cs} {P} {Q} {ms} {ns} here behind sorted = record { due = due c here; reached = reached c here; numbered = numbered }
   where
-    none-lower : c ≡ some r → (q : Refusal) → number q < number r → Reached c q → ⊥
-    none-lower e q less (inl f) = let same : number q ≡ number r = cc in omega arith
-    none-lower e q less (inr (p, f, below)) = let same : number p ≡ number r = cc in omega arith
+    due : (c : Option Refusal) → Keeps (c ∷ []) P ms → (r : Refusal) → firstRefusal (c ∷ cs) ≡ some r → P r ⊎ Q r
+    due none here r e = inr (behind .due r e)
+    due (some p) here r e = inl (here .due r e)
 
-    given : ((q : Refusal) → number q < number r → rows q → ⊥) → Reached c r → c ≡ some r
-    given lowest (inl e) = e
-    given lowest (inr (p, e, below)) = absurd (lowest p below (keeps p .due e))
+    reached : (c : Option Refusal) → Keeps (c ∷ []) P ms → (r : Refusal) → P r ⊎ Q r → Reached (firstRefusal (c ∷ cs)) r
+    reached none here r (inl h) =
+        absurd (⊎-elim (Option·none-ne-some r) (λ p. Option·none-ne-some (p .0) (p .1)) (here .reached r h))
+    reached none here r (inr h) = behind .reached r h
+    reached (some p) here r (inl h) = here .reached r h
+    reached (some p) here r (inr h) = inr (p, refl, earlier sorted (here .numbered p (here .due p refl)) (behind .numbered r h))
 
--- a check that gives r exactly where its row holds
-pub exact : {c : Option Refusal} {r : Refusal} {row : Type 0} → (c ≡ some r) ↔ row → Keeps c r row
-exact law = record { due = law .0; reached = λ h. inl (law .1 h) }
+    numbered : (r : Refusal) → P r ⊎ Q r → List·Memᴰ (number r) (ms ++ ns)
+    numbered r (inl h) = Memᴰ·append-left ns (here .numbered r h)
+    numbered r (inr h) = Memᴰ·append-right ms (behind .numbered r h)
 
--- the same, where the row of too many octets is checked before
-pub limited :
-    {c : Option Refusal} {long r : Refusal} {row : Type 0} {size limit : ℕ} → (c ≡ some long) ↔ (limit < size) →
-    (c ≡ some r) ↔ ((size ≤ limit) × row) → number long < number r → Keeps c r row
-limited {c} {long} {r} {row} {size} {limit} over law less = record {
-  due = λ e. law .0 e .1;
-  reached = λ h. ⊎-elim
-      (λ t. inl (law .1 (leb-true size limit t, h)))
-      (λ t. inr (long, over .1 (leb-false size limit t), less))
-      (true-or-false (leb size limit));
-}
+one-check :
+    (c : Option Refusal) {rows : Refusal → Type 0} {ns : List ℕ} → ((r : Refusal) → c ≡ some r → rows r) →
+    ((r : Refusal) → rows r → Reached c r) → ((r : Refusal) → rows r → List·Memᴰ (number r) ns) → Keeps (c ∷ []) rows ns
+one-check none due reached numbered = record { due = due; reached = reached; numbered = numbered }
+one-check (some q) due reached numbered = record { due = due; reached = reached; numbered = numbered }
 
--- the numbers that a check gives
-abbrev pub Within : ℕ → ℕ → Option Refusal → Type 0
-Within low high c = (p : Refusal) → c ≡ some p → (low ≤ number p) × (number p < high)
+-- a check with one row, without a place
+pub one-row :
+    {c : Option Refusal} {x : Refusal} {row : Type 0} {n : ℕ} → (c ≡ some x) ↔ row → ((r : Refusal) → c ≡ some r → r ≡ x) → number x ≡ n →
+    Keeps (c ∷ []) (λ r. (r ≡ x) × row) (n ∷ [])
+one-row {c} law only same = one-check c
+    (λ r e. (only r e, law .0 (e ∙ ap some (only r e))))
+    (λ r h. inl (law .1 (h .1) ∙ ap some (sym (h .0))))
+    (λ r h. List·Memᴰ·head (ap number (h .0) ∙ same))
 
-pub within-none : {low high : ℕ} → Within low high none
-within-none p e = absurd (Option·none-ne-some p e)
+-- a check with one row, which has a place
+pub placed-row :
+    {c : Option Refusal} {x : ℕ → Refusal} {row : ℕ → Type 0} {n : ℕ} → ((k : ℕ) → (c ≡ some (x k)) ↔ row k) →
+    ((r : Refusal) → c ≡ some r → (k : ℕ) × (r ≡ x k)) → ((k : ℕ) → number (x k) ≡ n) →
+    Keeps (c ∷ []) (λ r. (k : ℕ) × (r ≡ x k) × row k) (n ∷ [])
+placed-row {c} law only same = one-check c
+    (λ r e. let k = only r e in (k .0, k .1, law (k .0) .0 (e ∙ ap some (k .1))))
+    (λ r h. inl (law (h .0) .1 (h .2) ∙ ap some (sym (h .1))))
+    (λ r h. List·Memᴰ·head (ap number (h .1) ∙ same (h .0)))
 
--- checks in their order: each gives numbers from its own bound up to that of the next
-pub data Checks : ℕ → List (Option Refusal) → Type 0 where
-  no-more : {low : ℕ} → Checks low []
-  check : (low mid : ℕ) {c : Option Refusal} {cs : List (Option Refusal)} →
-      low ≤ mid → Within low mid c → Checks mid cs → Checks low (c ∷ cs)
+-- a check of a sequence of items: too many octets, which is checked first, a malformed item, too many items
+pub three-rows :
+    {c : Option Refusal} {long many : Refusal} {bad : ℕ → Refusal} {size limit : ℕ} {B : ℕ → Type 0} {O : Type 0} {i j k : ℕ} →
+    (c ≡ some long) ↔ (limit < size) → ((n : ℕ) → (c ≡ some (bad n)) ↔ ((size ≤ limit) × B n)) → (c ≡ some many) ↔ ((size ≤ limit) × O) →
+    ((r : Refusal) → c ≡ some r → (r ≡ long) ⊎ ((n : ℕ) × (r ≡ bad n)) ⊎ (r ≡ many)) →
+    number long ≡ i → ((n : ℕ) → number (bad n) ≡ j) → number many ≡ k → before (i ∷ []) (j ∷ k ∷ []) ≡ true →
+    Keeps (c ∷ []) (λ r. ((r ≡ long) × (limit < size)) ⊎ ((n : ℕ) × (r ≡ bad n) × B n) ⊎ ((r ≡ many) × O)) (i ∷ j ∷ k ∷ [])
+three-rows {c} {long} {many} {bad} {size} {limit} {B} {O} {i} {j} {k} over broken beyond faults is-i is-j is-k sorted =
+    one-check c (λ r e. due r e (faults r e)) reached numbered
+  where
+    Rows : Refusal → Type 0
+    Rows r = ((r ≡ long) × (limit < size)) ⊎ ((n : ℕ) × (r ≡ bad n) × B n) ⊎ ((r ≡ many) × O)
 
--- they give no lower number than the first bound
-lowest : {low : ℕ} {cs : List (Option Refusal)} → Checks low cs → (p : Refusal) → firstRefusal cs ≡ some p → low ≤ number p
-lowest no-more p e = absurd (Option·none-ne-some p e)
-lowest (check low mid {c = none} up within rest) p e = omega (arith, lowest rest p e)
-lowest (check low mid {c = some q} up within rest) p e = within p e .0
+    due : (r : Refusal) → c ≡ some r → (r ≡ long) ⊎ ((n : ℕ) × (r ≡ bad n)) ⊎ (r ≡ many) → Rows r
+    due r e (inl f) = inl (f, over .0 (e ∙ ap some f))
+    due r e (inr (inl (n, f))) = inr (inl (n, f, broken n .0 (e ∙ ap some f) .1))
+    due r e (inr (inr f)) = inr (inr (f, beyond .0 (e ∙ ap some f) .1))
 
-module _ (r : Refusal) (row : Type 0) where
-  -- the check to whose numbers that of r belongs keeps to its row; beyond all of them the row never holds
-  abbrev pub Checked : {low : ℕ} {cs : List (Option Refusal)} → Checks low cs → Type 0
-  Checked no-more = row → ⊥
-  Checked (check low mid {c} up within rest) = ((number r < mid) × Keeps c r row) ⊎ ((mid ≤ number r) × Checked rest)
+    -- a row behind the first
+    later : (r : Refusal) → List·Memᴰ (number r) (j ∷ k ∷ []) → (size ≤ limit → c ≡ some r) → Reached c r
+    later r there fits = ⊎-elim
+        (λ t. inl (fits (leb-true size limit t)))
+        (λ t. inr (long, over .1 (leb-false size limit t), earlier sorted (List·Memᴰ·head {xs = []} is-i) there))
+        (true-or-false (leb size limit))
 
-  pub keeps : {low : ℕ} {cs : List (Option Refusal)} (checks : Checks low cs) → Checked checks → Keeps (firstRefusal cs) r row
-  keeps no-more never = record { due = λ e. absurd (Option·none-ne-some r e); reached = λ h. absurd (never h) }
-  keeps (check low mid {c = none} up within rest) (inl (less, k)) = record {
-    due = λ e. absurd (omega (arith, lowest rest r e));
-    reached = λ h. absurd (⊎-elim (Option·none-ne-some r) (λ p. Option·none-ne-some (p .0) (p .1)) (k .reached h));
-  }
-  keeps (check low mid {c = some q} up within rest) (inl (less, k)) = k
-  keeps (check low mid {c = none} up within rest) (inr (more, k)) = keeps rest k
-  keeps (check low mid {c = some q} up within rest) (inr (more, k)) =
-      record { due = λ e. absurd (omega (arith, within r e)); reached = λ h. inr (q, refl, omega (arith, within q refl)) }
+    at-j : (r : Refusal) (n : ℕ) → r ≡ bad n → List·Memᴰ (number r) (j ∷ k ∷ [])
+    at-j r n e = List·Memᴰ·head (ap number e ∙ is-j n)
+
+    at-k : (r : Refusal) → r ≡ many → List·Memᴰ (number r) (j ∷ k ∷ [])
+    at-k r e = List·Memᴰ·tail (List·Memᴰ·head (ap number e ∙ is-k))
+
+    reached : (r : Refusal) → Rows r → Reached c r
+    reached r (inl (e, h)) = inl (over .1 h ∙ ap some (sym e))
+    reached r (inr (inl (n, e, h))) = later r (at-j r n e) (λ fits. broken n .1 (fits, h) ∙ ap some (sym e))
+    reached r (inr (inr (e, h))) = later r (at-k r e) (λ fits. beyond .1 (fits, h) ∙ ap some (sym e))
+
+    numbered : (r : Refusal) → Rows r → List·Memᴰ (number r) (i ∷ j ∷ k ∷ [])
+    numbered r (inl (e, h)) = List·Memᴰ·head (ap number e ∙ is-i)
+    numbered r (inr (inl (n, e, h))) = List·Memᴰ·tail (at-j r n e)
+    numbered r (inr (inr (e, h))) = List·Memᴰ·tail (at-k r e)

@@ -9,6 +9,7 @@ use Rattle.spec_octets.proofs.SelectLaws.{selects-none}
 use Rattle.spec_name.specs.Names.{Name}
 use Rattle.spec_request.specs.Request.{isWildcard, requestedNames}
 use Rattle.spec_record.specs.Records.{records}
+use Rattle.spec_applicant.specs.Applicant.{Applicant}
 use Rattle.spec_rule.specs.RelevantSet.{CaaRecord, caaRecords}
 use Rattle.spec_rule.specs.Authorizations.{Authorization, unrestricted, forbidden, granted, isUnknownCritical, governing, governedBy, unlessForbidden, authorization, permits}
 use Rattle.spec_rule.specs.IssuerLists.{listed, distinct, issuers}
@@ -26,14 +27,14 @@ abbrev Forbidden : Authorization → Type 0
 Forbidden a = (r : ℕ) × (a ≡ forbidden r)
 
 forbids :
-    (book : List CaaRecord) (n : Name) (rs : List CaaRecord) → Relevant book n rs → Any UnknownCriticalRecord rs →
-    Forbidden (authorization book n)
+    (who : Applicant) (book : List CaaRecord) (n : Name) (rs : List CaaRecord) → Relevant book n rs → Any UnknownCriticalRecord rs →
+    Forbidden (authorization who book n)
 unfolding authorization
-forbids book n rs e u = rw e (go (select isUnknownCritical rs) refl)
+forbids who book n rs e u = rw e (go (select isUnknownCritical rs) refl)
   where
     go :
         (us : List CaaRecord) → select isUnknownCritical rs ≡ us →
-        Forbidden (unlessForbidden us (governedBy (governing (isWildcard n) rs)))
+        Forbidden (unlessForbidden us (governedBy who (governing (isWildcard n) rs)))
     go [] i = absurd (none-of (selects-none (critical-selects rs) .0 i) u)
     go (c ∷ cs) i = (c .number, refl)
 
@@ -54,13 +55,13 @@ nobody (granted r ns ∷ says) (any-there h) =
     ap listed (nobody-kept (λ d. all (permits d) says) (λ d. none-permitted d says h) (distinct ns))
 
 any-forbidden :
-    (book : List CaaRecord) (ns : List Name) →
+    (who : Applicant) (book : List CaaRecord) (ns : List Name) →
     Any (λ n. (rs : List CaaRecord) × Relevant book n rs × Any UnknownCriticalRecord rs) ns →
-    Any Forbidden (map (authorization book) ns)
-any-forbidden book (n ∷ ns) (any-here (rs, e, u)) = any-here (forbids book n rs e u)
-any-forbidden book (n ∷ ns) (any-there h) = any-there (any-forbidden book ns h)
+    Any Forbidden (map (authorization who book) ns)
+any-forbidden who book (n ∷ ns) (any-here (rs, e, u)) = any-here (forbids who book n rs e u)
+any-forbidden who book (n ∷ ns) (any-there h) = any-there (any-forbidden who book ns h)
 
 pub unknown-critical-lists-nobody : Unknown-critical-lists-nobody
 unfolding authorizations
-unknown-critical-lists-nobody request book buffer r b h =
-    list-in-the-buffer request book buffer r b .1 [] (nobody _ (any-forbidden (caaRecords (records book)) (requestedNames request) h)) (omega arith)
+unknown-critical-lists-nobody request who book buffer r a b h =
+    list-in-the-buffer request who book buffer r a b .1 [] (nobody _ (any-forbidden who (caaRecords (records book)) (requestedNames request) h)) (omega arith)

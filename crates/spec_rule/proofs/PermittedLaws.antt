@@ -10,6 +10,7 @@ use Rattle.spec_name.specs.Names.{Name}
 use Rattle.spec_request.specs.Request.{requestedNames}
 use Rattle.spec_issuer.proofs.Dotted.{issuer-refusals}
 use Rattle.spec_record.specs.Records.{records}
+use Rattle.spec_applicant.specs.Applicant.{Applicant}
 use Rattle.spec_rule.specs.RelevantSet.{CaaRecord, caaRecords}
 use Rattle.spec_rule.specs.Authorizations.{Authorization, unrestricted, grantees, governedBy, authorization, permits}
 use Rattle.spec_rule.specs.IssuerLists.{listed, issuers}
@@ -29,47 +30,47 @@ All-of-map f h (x ∷ xs) = (
   λ k. all-cons (h x .1 (All-head k)) (All-of-map f h xs .1 (All-tail k)),
 )
 
-module _ (book : List CaaRecord) where
-  names-unrestricted : (ns : List Name) → All (λ a. a ≡ unrestricted) (map (authorization book) ns) ↔ All (Unrestricted book) ns
-  names-unrestricted ns = All-of-map (authorization book) (unrestricted-exactly book) ns
+module _ (who : Applicant) (book : List CaaRecord) where
+  names-unrestricted : (ns : List Name) → All (λ a. a ≡ unrestricted) (map (authorization who book) ns) ↔ All (Unrestricted book) ns
+  names-unrestricted ns = All-of-map (authorization who book) (unrestricted-exactly who book) ns
 
-  names-permitted : (d : List ℕ) (ns : List Name) → (all (permits d) (map (authorization book) ns) ≡ true) ↔ All (λ n. PermittedTo book n d) ns
+  names-permitted : (d : List ℕ) (ns : List Name) → (all (permits d) (map (authorization who book) ns) ≡ true) ↔ All (λ n. PermittedTo book n who d) ns
   names-permitted d ns =
-      Iff·trans (all-true (permits d) (map (authorization book) ns)) (All-of-map (authorization book) (λ n. permits-exactly book n d) ns)
+      Iff·trans (all-true (permits d) (map (authorization who book) ns)) (All-of-map (authorization who book) (λ n. permits-exactly who book n d) ns)
 
-  names-grant-small : (ns : List Name) → All (GrantsOnly SmallName) (map (authorization book) ns)
+  names-grant-small : (ns : List Name) → All (GrantsOnly SmallName) (map (authorization who book) ns)
   names-grant-small [] = all-nil
   names-grant-small (n ∷ ns) =
-      all-cons (λ r ms e. let (gs, h, k) = granted-governs book n r ms e .1 in rw k (grantees-small gs)) (names-grant-small ns)
+      all-cons (λ r ms e. let (gs, h, k) = granted-governs who book n r ms e .1 in rw k (grantees-small who gs)) (names-grant-small ns)
 
   -- the names before the lowest restricted one don't count, and its governing records say what it grants
   order :
-      (names : List Name) (ns : List (List ℕ)) → issuers (map (authorization book) names) ≡ listed ns → (k : ℕ) (n : Name) (gs : List CaaRecord) →
+      (names : List Name) (ns : List (List ℕ)) → issuers (map (authorization who book) names) ≡ listed ns → (k : ℕ) (n : Name) (gs : List CaaRecord) →
       LowestNot (Unrestricted book) names k n → GoverningRecords book n gs → (a b : List ℕ) → List·Memᴰ a ns → List·Memᴰ b ns →
-      Before a b ns ↔ GrantedBefore gs a b
-  order names ns e k n gs (before, after, s, l, hs, q) h a b m m′ = go gs (governed book n gs h)
+      Before a b ns ↔ GrantedBefore who gs a b
+  order names ns e k n gs (before, after, s, l, hs, q) h a b m m′ = go gs (governed who book n gs h)
     where
-      from-here : issuers (authorization book n ∷ map (authorization book) after) ≡ listed ns
+      from-here : issuers (authorization who book n ∷ map (authorization who book) after) ≡ listed ns
       from-here =
-          sym (issuers-past (map (authorization book) before) (map (authorization book) (n ∷ after)) (names-unrestricted before .1 hs))
-          ∙ rw (← map-append (authorization book) before (n ∷ after), ← s) e
+          sym (issuers-past (map (authorization who book) before) (map (authorization who book) (n ∷ after)) (names-unrestricted before .1 hs))
+          ∙ rw (← map-append (authorization who book) before (n ∷ after), ← s) e
 
-      go : (gs : List CaaRecord) → authorization book n ≡ governedBy gs → Before a b ns ↔ GrantedBefore gs a b
-      go [] i = absurd (q (unrestricted-exactly book n .0 i))
+      go : (gs : List CaaRecord) → authorization who book n ≡ governedBy who gs → Before a b ns ↔ GrantedBefore who gs a b
+      go [] i = absurd (q (unrestricted-exactly who book n .0 i))
       go (g ∷ gs) i = Iff·trans
-          (issuers-order (g .number) (grantees (g ∷ gs)) (map (authorization book) after) ns (rw i at from-here) a b m m′)
-          (granted-before a b (g ∷ gs))
+          (issuers-order (g .number) (grantees who (g ∷ gs)) (map (authorization who book) after) ns (rw i at from-here) a b m m′)
+          (granted-before who a b (g ∷ gs))
 
 pub permitted-issuers : Permitted-issuers
 unfolding authorizations
-permitted-issuers request book r b = record {
-  anyone-exactly = Iff·trans (issuers-anyone says) (names-unrestricted rs names);
+permitted-issuers request who book r a b = record {
+  anyone-exactly = Iff·trans (issuers-anyone says) (names-unrestricted who rs names);
   permitted-exactly = λ d w. Iff·trans
-      (judge-accepted request d book r (issuer-refusals d .1 .1 w) b .0)
-      (Iff·trans (Iff·symm (names-permitted rs d names)) (issuers-permitted d says));
-  well-formed = λ ns. issuers-all SmallName says ns (names-grant-small rs names);
+      (judge-accepted request d who book r (issuer-refusals d .1 .1 w) a b .0)
+      (Iff·trans (Iff·symm (names-permitted who rs d names)) (issuers-permitted d says));
+  well-formed = λ ns. issuers-all SmallName says ns (names-grant-small who rs names);
   none-twice = issuers-distinct says;
-  in-order = order rs names;
+  in-order = order who rs names;
 }
   where
     rs : List CaaRecord
@@ -79,4 +80,4 @@ permitted-issuers request book r b = record {
     names = requestedNames request
 
     says : List Authorization
-    says = map (authorization rs) names
+    says = map (authorization who rs) names

@@ -9,6 +9,7 @@ use lib.Seq.{take-at, drop-at}
 use Rattle.spec_refusal.specs.declared.Refusal.{Refusal}
 use Rattle.spec_octets.specs.Octets.{lowered}
 use Rattle.spec_octets.specs.Items.{whole, items}
+use Rattle.spec_applicant.specs.Applicant.{Applicant}
 use Rattle.spec_rule.specs.declared.PermittedIssuers.the-variants.{Anyone, Listed, Refused as ListRefused}
 use Rattle.spec_rule.specs.IssuerLists.{Issuers, anyone, listed, entries, readEntry}
 use Rattle.spec_rule.specs.Calls.{Listing, written}
@@ -52,9 +53,9 @@ abbrev pub HasRoom : Issuers → List ℕ → Type 0
 HasRoom anyone buffer = Unit {0}
 HasRoom (listed ns) buffer = length (entries ns) ≤ length buffer
 
-module _ (request book buffer : List ℕ) where
+module _ (request : List ℕ) (who : Applicant) (book buffer : List ℕ) where
   pub written-tells :
-      (i : Issuers) → PermittedIssuersAre request book i → HasRoom i buffer → ListingTells request book buffer (written i buffer)
+      (i : Issuers) → PermittedIssuersAre request who book i → HasRoom i buffer → ListingTells request who book buffer (written i buffer)
   written-tells anyone are room = record {
     anyone-exactly = (λ e. are .anyone-exactly .0 refl, λ h. refl);
     permitted-exactly = λ d w. (λ j. inl refl, λ o. are .permitted-exactly d w .1 (inl refl));

@@ -7,6 +7,7 @@ use Rattle.spec_octets.specs.Lists.{all, select}
 use Rattle.spec_octets.proofs.SelectLaws.{select-map}
 use Rattle.spec_name.specs.Names.{Name, sameName, ancestors}
 use Rattle.spec_request.specs.Request.{isWildcard, base}
+use Rattle.spec_applicant.specs.Applicant.{Applicant}
 use Rattle.spec_rule.specs.declared.Judgement.{Judgement}
 use Rattle.spec_rule.specs.RelevantSet.{CaaRecord, Lookup, empty, found, asLookup, lookup, firstFound, relevantSet}
 use Rattle.spec_rule.specs.Authorizations.{Authorization, unrestricted, forbidden, granted, isUnknownCritical, isIssue, isIssueWild, orElse, governing, grantee, grantees, governedBy, unlessForbidden, authorizationFrom, authorization, permits}
@@ -14,7 +15,7 @@ use Rattle.spec_rule.specs.Verdicts.{denied, verdictFrom, verdict}
 use Rattle.spec_rule.specs.IssuerLists.{listed, distinct, issuers}
 use Rattle.spec_rule.specs.Theorems.{renumbered, renumberedAuthorization, renumberedVerdict, Renumbering}
 
-module _ (f : ℕ → ℕ) where
+module _ (f : ℕ → ℕ) (who : Applicant) where
   abbrev others : List CaaRecord → List CaaRecord
   others rs = map (renumbered f) rs
 
@@ -58,12 +59,12 @@ module _ (f : ℕ → ℕ) where
       rw (same-select isIssueWild (λ r. refl) rs, same-select isIssue (λ r. refl) rs) (or-else (select isIssueWild rs) (select isIssue rs))
   same-governing false rs = same-select isIssue (λ r. refl) rs
 
-  same-grantees : (gs : List CaaRecord) → grantees (others gs) ≡ grantees gs
+  same-grantees : (gs : List CaaRecord) → grantees who (others gs) ≡ grantees who gs
   unfolding grantee
   same-grantees [] = refl
   same-grantees (g ∷ gs) = rw (same-grantees gs)
 
-  governed-by : (gs : List CaaRecord) → governedBy (others gs) ≡ renumberedAuthorization f (governedBy gs)
+  governed-by : (gs : List CaaRecord) → governedBy who (others gs) ≡ renumberedAuthorization f (governedBy who gs)
   governed-by [] = refl
   governed-by (g ∷ gs) = rw (same-grantees (g ∷ gs))
 
@@ -73,21 +74,21 @@ module _ (f : ℕ → ℕ) where
   unless-forbidden [] a = refl
   unless-forbidden (u ∷ us) a = refl
 
-  same-decision : (wildcard : Bool) (l : Lookup) → authorizationFrom wildcard (otherLookup l) ≡ renumberedAuthorization f (authorizationFrom wildcard l)
+  same-decision : (wildcard : Bool) (l : Lookup) → authorizationFrom who wildcard (otherLookup l) ≡ renumberedAuthorization f (authorizationFrom who wildcard l)
   unfolding isUnknownCritical
   same-decision wildcard empty = refl
   same-decision wildcard (found rs) =
       rw (same-select isUnknownCritical (λ r. refl) rs, same-governing wildcard rs, governed-by (governing wildcard rs))
-      (unless-forbidden (select isUnknownCritical rs) (governedBy (governing wildcard rs)))
+      (unless-forbidden (select isUnknownCritical rs) (governedBy who (governing wildcard rs)))
 
-  same-authorization : (book : List CaaRecord) (n : Name) → authorization (others book) n ≡ renumberedAuthorization f (authorization book n)
+  same-authorization : (book : List CaaRecord) (n : Name) → authorization who (others book) n ≡ renumberedAuthorization f (authorization who book n)
   unfolding authorization
   same-authorization book n = rw (same-set book (base n)) (same-decision (isWildcard n) (relevantSet book (base n)))
 
   abbrev otherwise : List Authorization → List Authorization
   otherwise said = map (renumberedAuthorization f) said
 
-  same-authorizations : (book : List CaaRecord) (ns : List Name) → map (authorization (others book)) ns ≡ otherwise (map (authorization book) ns)
+  same-authorizations : (book : List CaaRecord) (ns : List Name) → map (authorization who (others book)) ns ≡ otherwise (map (authorization who book) ns)
   same-authorizations book ns = rw (fun-ext (same-authorization book), map-map)
 
   -- the verdict, and the issuers
@@ -123,6 +124,6 @@ module _ (f : ℕ → ℕ) where
 
 pub renumbering : Renumbering
 unfolding verdict
-renumbering f book ns =
-    let said = map (authorization book) ns in
-    rw (same-authorizations f book ns) (refl, λ d. same-verdict f 0 d said, same-issuers f said)
+renumbering f who book ns =
+    let said = map (authorization who book) ns in
+    rw (same-authorizations f who book ns) (refl, λ d. same-verdict f who 0 d said, same-issuers f who said)

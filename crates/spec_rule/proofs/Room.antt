@@ -14,6 +14,7 @@ use Rattle.spec_name.specs.Names.{Name}
 use Rattle.spec_request.specs.Request.{requestedNames, base}
 use Rattle.spec_record.specs.Records.{Record, wireRecord, records}
 use Rattle.spec_record.proofs.Book.{book-is-its-records}
+use Rattle.spec_applicant.specs.Applicant.{Applicant}
 use Rattle.spec_rule.specs.RelevantSet.{CaaRecord, caaRecords, found, relevantSet}
 use Rattle.spec_rule.specs.Authorizations.{Authorization, unrestricted, forbidden, granted, grantee, consSome, grantees, authorization, permits}
 use Rattle.spec_rule.specs.IssuerLists.{listed, distinct, issuers}
@@ -57,41 +58,41 @@ distinct-less [] = omega arith
 distinct-less (n ∷ ns) = omega (arith, select-less nameSize (λ m. not (same m n)) (distinct ns), distinct-less ns)
 
 -- the name is a part of the value
-grantee-less : (r : CaaRecord) (d : List ℕ) → Grants d r → nameSize d ≤ valueSize r
-grantee-less r d (n, (a, b, e, blank, (m, c, f, (g, labels), more)), w, l) =
+grantee-less : (who : Applicant) (r : CaaRecord) (d : List ℕ) → Grants who d r → nameSize d ≤ valueSize r
+grantee-less who r d (n, ps, (a, b, e, blank, (m, c, f, (g, labels), more)), w, l, admitted) =
     omega (arith, ap length e, length-append a b, ap length f, length-append m c, ap length g, ap length l, length-map n lower)
 
-grantees-less : (gs : List CaaRecord) → sum nameSize (grantees gs) ≤ sum valueSize gs
-grantees-less [] = omega arith
-grantees-less (g ∷ gs) = go (grantee g) refl (grantees-less gs)
+grantees-less : (who : Applicant) (gs : List CaaRecord) → sum nameSize (grantees who gs) ≤ sum valueSize gs
+grantees-less who [] = omega arith
+grantees-less who (g ∷ gs) = go (grantee who g) refl (grantees-less who gs)
   where
     go :
-        (o : Option (List ℕ)) → grantee g ≡ o → sum nameSize (grantees gs) ≤ sum valueSize gs →
-        sum nameSize (consSome o (grantees gs)) ≤ valueSize g + sum valueSize gs
+        (o : Option (List ℕ)) → grantee who g ≡ o → sum nameSize (grantees who gs) ≤ sum valueSize gs →
+        sum nameSize (consSome o (grantees who gs)) ≤ valueSize g + sum valueSize gs
     go none e h = omega arith
-    go (some d) e h = omega (arith, grantee-less g d (grantee-exactly g d .0 e))
+    go (some d) e h = omega (arith, grantee-less who g d (grantee-exactly who g d .0 e))
 
 -- all that a name grants comes from records of the book, each once
-module _ (book : List CaaRecord) where
+module _ (who : Applicant) (book : List CaaRecord) where
   relevant-less : (x : Name) (rs : List CaaRecord) → relevantSet book x ≡ found rs → sum valueSize rs ≤ sum valueSize book
   relevant-less x rs e =
       let (k, near) = nearest-name-decides book x .0 rs .0 e in
       selects-less valueSize (a-lookup book (drop k x) .1 rs .0 (near .1) .0)
 
-  granted-less : (n : Name) (r : ℕ) (ns : List (List ℕ)) → authorization book n ≡ granted r ns → sum nameSize ns ≤ sum valueSize book
+  granted-less : (n : Name) (r : ℕ) (ns : List (List ℕ)) → authorization who book n ≡ granted r ns → sum nameSize ns ≤ sum valueSize book
   granted-less n r ns e =
-      let (gs, (rs, relevant, harmless, governing), same) = granted-governs book n r ns e .1 in
-      rw same (omega (arith, grantees-less gs, selects-less valueSize governing, relevant-less (base n) rs relevant))
+      let (gs, (rs, relevant, harmless, governing), same) = granted-governs who book n r ns e .1 in
+      rw same (omega (arith, grantees-less who gs, selects-less valueSize governing, relevant-less (base n) rs relevant))
 
-  issuers-less : (names : List Name) (ns : List (List ℕ)) → issuers (map (authorization book) names) ≡ listed ns → sum nameSize ns ≤ sum valueSize book
+  issuers-less : (names : List Name) (ns : List (List ℕ)) → issuers (map (authorization who book) names) ≡ listed ns → sum nameSize ns ≤ sum valueSize book
   issuers-less [] ns e = let z : _≡_ {A = ℕ} 0 1 = cc in absurd (omega arith)
-  issuers-less (n ∷ names) ns e = go (authorization book n) refl e (issuers-less names ns)
+  issuers-less (n ∷ names) ns e = go (authorization who book n) refl e (issuers-less names ns)
     where
       rest : List Authorization
-      rest = map (authorization book) names
+      rest = map (authorization who book) names
 
       go :
-          (a : Authorization) → authorization book n ≡ a → issuers (a ∷ rest) ≡ listed ns →
+          (a : Authorization) → authorization who book n ≡ a → issuers (a ∷ rest) ≡ listed ns →
           (issuers rest ≡ listed ns → sum nameSize ns ≤ sum valueSize book) → sum nameSize ns ≤ sum valueSize book
       go unrestricted a e later = later e
       go (forbidden r) a e later = let same : [] ≡ ns = cc in rw (← same) (omega arith)
@@ -114,12 +115,12 @@ records-length (r ∷ rs) = omega (arith, length-append (wireRecord r) (flatten 
 
 pub room-of-the-book : Room-of-the-book
 unfolding authorizations
-room-of-the-book request book octets accepted ns e =
+room-of-the-book request who book octets accepted ns e =
     let (whole, good, few, short) = book-is-its-records book octets (records book) .0 (accepted, refl) in
     omega (
       arith,
       total-sum ns,
-      issuers-less (caaRecords (records book)) (requestedNames request) ns e,
+      issuers-less who (caaRecords (records book)) (requestedNames request) ns e,
       caa-less (caa-records (records book) good),
       records-length (records book),
       ap length whole,

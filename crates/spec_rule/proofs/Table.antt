@@ -1,6 +1,6 @@
 -- The tables of edges and of calls, and the numbers of the answers, by computing.
 use mathlib.Core.Path.{refl}
-use Rattle.spec_limits.specs.Limits.{maxLabelOctets, maxIssuerOctets, maxNameOctets, maxRequestOctets, maxNames, maxBookOctets, maxRecords}
+use Rattle.spec_limits.specs.Limits.{maxAccountOctets, maxLabelOctets, maxIssuerOctets, maxNameOctets, maxRequestOctets, maxNames, maxBookOctets, maxRecords}
 use Rattle.spec_octets.specs.Reader.{number}
 use Rattle.spec_name.specs.Names.{name}
 use Rattle.spec_octets.specs.Octets.{isDigit, isUpper, isLower, isLetterOrDigit, isBlank, lower, equalIgnoringCase, isParameterOctet}
@@ -11,6 +11,9 @@ use Rattle.spec_issuer.specs.Issuer.{isIssuer, issuerRefusal}
 use Rattle.spec_record.specs.Property.{readProperty, property, isCritical, tagOf}
 use Rattle.spec_record.specs.Records.{isCaa, isLaidOut, resourceRecord, recordItems, records, bookRefusal}
 use Rattle.spec_value.specs.IssueValues.{isDomainName, isParameterTag, isParameter, areParameters, issueValue}
+use Rattle.spec_value.specs.Parameters.{parameterIn, parametersIn}
+use Rattle.spec_applicant.specs.Applicant.{isAccount, isMethod, isApplicant, applicantRefusal}
+use Rattle.spec_applicant.specs.Admission.{admits}
 use Rattle.spec_rule.specs.RelevantSet.{lookup, relevantSet}
 use Rattle.spec_rule.specs.Authorizations.{isUnknownCritical, governing, grantee, authorization}
 use Rattle.spec_rule.specs.Verdicts.{verdict}
@@ -22,32 +25,32 @@ use Rattle.spec_rule.specs.Pinned.{Answer-codes, List-codes}
 pub edges-agree : Edges-agree
 unfolding maxLabelOctets maxIssuerOctets isDigit isUpper isLower isLetterOrDigit isBlank lower equalIgnoringCase
     isLetterDigitHyphen isLabel isHostLabel decimalOctet isWildcard base isIssuer readProperty property isCritical tagOf isCaa
-    isDomainName isParameterOctet isParameterTag isParameter areParameters issueValue lookup relevantSet
+    isDomainName isParameterOctet isParameterTag isParameter areParameters issueValue parameterIn parametersIn admits lookup relevantSet
     isUnknownCritical governing grantee authorization
 edges-agree = refl
 
 pub whole-case : Whole-case
 unfolding maxLabelOctets maxIssuerOctets isDigit isUpper isLower isLetterOrDigit isBlank lower equalIgnoringCase
     isLetterDigitHyphen isLabel isHostLabel isWildcard base isIssuer readProperty property isCritical tagOf isCaa
-    isDomainName isParameterOctet isParameterTag isParameter areParameters issueValue lookup relevantSet
+    isDomainName isParameterOctet isParameterTag isParameter areParameters issueValue parameterIn parametersIn admits lookup relevantSet
     isUnknownCritical governing grantee authorization verdict
 whole-case = (refl, refl, refl, refl)
 
 pub calls-agree : Calls-agree
 unfolding maxLabelOctets maxIssuerOctets maxNameOctets maxRequestOctets maxNames maxBookOctets maxRecords isDigit isUpper isLower
     isLetterOrDigit isBlank lower equalIgnoringCase isLetterDigitHyphen isLabel isHostLabel isWildcard base isIssuer readProperty property
-    isCritical tagOf isCaa isDomainName isParameterOctet isParameterTag isParameter areParameters issueValue lookup relevantSet
+    isCritical tagOf isCaa isDomainName isParameterOctet isParameterTag isParameter areParameters issueValue parameterIn parametersIn admits lookup relevantSet
     isUnknownCritical governing grantee authorization verdict name isRequestable requestedName nameItems requestedNames requestRefusal
-    issuerRefusal isLaidOut resourceRecord recordItems records bookRefusal number authorizations judge
+    issuerRefusal maxAccountOctets isAccount isMethod isApplicant applicantRefusal isLaidOut resourceRecord recordItems records bookRefusal number authorizations judge
 calls-agree = refl
 
 pub lists-agree : Lists-agree
 unfolding maxLabelOctets maxIssuerOctets maxNameOctets maxRequestOctets maxNames maxBookOctets maxRecords isDigit isUpper isLower
     isLetterOrDigit isBlank lower equalIgnoringCase isLetterDigitHyphen isLabel isHostLabel isWildcard base isIssuer readProperty property
-    isCritical tagOf isCaa isDomainName isParameterOctet isParameterTag isParameter areParameters issueValue lookup relevantSet
+    isCritical tagOf isCaa isDomainName isParameterOctet isParameterTag isParameter areParameters issueValue parameterIn parametersIn admits lookup relevantSet
     isUnknownCritical governing grantee authorization verdict name isRequestable requestedName nameItems requestedNames requestRefusal
-    issuerRefusal isLaidOut resourceRecord recordItems records bookRefusal number authorizations listIssuers
-lists-agree = (refl, refl, refl, refl, refl, refl, refl, refl, refl, refl)
+    issuerRefusal maxAccountOctets isAccount isMethod isApplicant applicantRefusal isLaidOut resourceRecord recordItems records bookRefusal number authorizations listIssuers
+lists-agree = (refl, refl, refl, refl, refl, refl, refl, refl, refl, refl, refl, refl, refl, refl, refl, refl)
 
 pub answer-codes : Answer-codes
 unfolding judgementCode permittedIssuersCode

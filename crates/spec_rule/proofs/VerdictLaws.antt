@@ -12,6 +12,7 @@ use Rattle.spec_octets.proofs.SelectLaws.{fails}
 use Rattle.spec_name.specs.Names.{Name}
 use Rattle.spec_request.specs.Request.{requestedNames}
 use Rattle.spec_record.specs.Records.{records}
+use Rattle.spec_applicant.specs.Applicant.{Applicant}
 use Rattle.spec_rule.specs.declared.Judgement.{Judgement}
 use Rattle.spec_rule.specs.declared.Judgement.the-variants.{Permitted, UnknownCritical, NotGranted, Refused}
 use Rattle.spec_rule.specs.RelevantSet.{CaaRecord, caaRecords}
@@ -35,25 +36,25 @@ all-or-lowest {P} p decides (n ∷ ns) = ⊎-elim
     later : P n → (k : ℕ) × (m : Name) × LowestNot P ns k m → (k : ℕ) × (m : Name) × LowestNot P (n ∷ ns) k m
     later h (k, m, (before, after, e, l, hs, q)) = (suc k, m, (n ∷ before, after, ap (_∷_ n) e, ap suc l, all-cons h hs, q))
 
-module _ (book : List CaaRecord) (d : List ℕ) where
+module _ (who : Applicant) (book : List CaaRecord) (d : List ℕ) where
   -- the issuer d may sign for the name
   abbrev Allowed : Name → Type 0
-  Allowed n = PermittedTo book n d
+  Allowed n = PermittedTo book n who d
 
-  allowed : (n : Name) → (permits d (authorization book n) ≡ true) ↔ Allowed n
-  allowed n = permits-exactly book n d
+  allowed : (n : Name) → (permits d (authorization who book n) ≡ true) ↔ Allowed n
+  allowed n = permits-exactly who book n d
 
-  all-allowed : (j : ℕ) {ns : List Name} → All Allowed ns → verdictFrom j d (map (authorization book) ns) ≡ Permitted
+  all-allowed : (j : ℕ) {ns : List Name} → All Allowed ns → verdictFrom j d (map (authorization who book) ns) ≡ Permitted
   all-allowed j all-nil = refl
   all-allowed j (all-cons {x = n} h hs) = rw (allowed n .1 h) (all-allowed (suc j) hs)
 
   -- the names before it are passed, each with its number
   lowest-denied :
       (n : Name) (after : List Name) → (Allowed n → ⊥) → (before : List Name) → All Allowed before → (j k : ℕ) → k ≡ j + length before →
-      verdictFrom j d (map (authorization book) (before ++ (n ∷ after))) ≡ denied k (authorization book n)
+      verdictFrom j d (map (authorization who book) (before ++ (n ∷ after))) ≡ denied k (authorization who book n)
   lowest-denied n after q [] h j k e =
       let i : j ≡ k = omega arith in
-      rw (fails (λ m. permits d (authorization book m)) allowed n .1 q, i)
+      rw (fails (λ m. permits d (authorization who book m)) allowed n .1 q, i)
   lowest-denied n after q (b ∷ before) (all-cons h hs) j k e =
       rw (allowed b .1 h) (lowest-denied n after q before hs (suc j) k (omega arith))
 
@@ -65,34 +66,34 @@ module _ (book : List CaaRecord) (d : List ℕ) where
     Means (NotGranted e) = (n : Name) × LowestNot Allowed ns (e .name .0) n × GovernedFrom book n (e .rr .0)
     Means (Refused r) = ⊥
 
-    at-lowest : (k : ℕ) (n : Name) → LowestNot Allowed ns k n → verdict d (map (authorization book) ns) ≡ denied k (authorization book n)
+    at-lowest : (k : ℕ) (n : Name) → LowestNot Allowed ns k n → verdict d (map (authorization who book) ns) ≡ denied k (authorization who book n)
     unfolding verdict
     at-lowest k n (before, after, e, l, hs, q) = rw e (lowest-denied n after q before hs 0 k (omega arith))
 
-    verdict-means : Means (verdict d (map (authorization book) ns))
+    verdict-means : Means (verdict d (map (authorization who book) ns))
     unfolding verdict
     verdict-means = ⊎-elim
         (λ h. rw (all-allowed 0 h) h)
-        (λ (k, n, l). rw (at-lowest k n l) (why k n l (authorization book n) (authorization-says book n)))
-        (all-or-lowest (λ m. permits d (authorization book m)) allowed ns)
+        (λ (k, n, l). rw (at-lowest k n l) (why k n l (authorization who book n) (authorization-says who book n)))
+        (all-or-lowest (λ m. permits d (authorization who book m)) allowed ns)
       where
-        why : (k : ℕ) (n : Name) → LowestNot Allowed ns k n → (a : Authorization) → Says book n a → Means (denied k a)
+        why : (k : ℕ) (n : Name) → LowestNot Allowed ns k n → (a : Authorization) → Says who book n a → Means (denied k a)
         why k n (before, after, e, l, hs, q) unrestricted s = absurd (q (inl s))
         why k n l (forbidden r) s = (n, l, s)
         why k n l (granted r gs) s = (n, l, s .0)
 
 pub verdict-by-the-rule : Verdict-by-the-rule
 unfolding verdict
-verdict-by-the-rule book ns d = (
-  (λ e. rw e at means, all-allowed book d 0),
-  λ k r. (λ e. rw e at means, λ (n, l, f). at-lowest book d ns k n l ∙ rw (forbidden-exactly book n r .1 f)),
-  λ k r. (λ e. rw e at means, λ (n, l, g). at-lowest book d ns k n l ∙ rw (governs-granted book n r g .1)),
+verdict-by-the-rule who book ns d = (
+  (λ e. rw e at means, all-allowed who book d 0),
+  λ k r. (λ e. rw e at means, λ (n, l, f). at-lowest who book d ns k n l ∙ rw (forbidden-exactly who book n r .1 f)),
+  λ k r. (λ e. rw e at means, λ (n, l, g). at-lowest who book d ns k n l ∙ rw (governs-granted who book n r g .1)),
   λ r e. rw e at means,
 )
   where
-    means : Means book d ns (verdict d (map (authorization book) ns))
-    means = verdict-means book d ns
+    means : Means who book d ns (verdict d (map (authorization who book) ns))
+    means = verdict-means who book d ns
 
 pub judge-accepted : Judge-accepted
 unfolding judge authorizations
-judge-accepted request issuer book r i b = rw (r, i, b) (verdict-by-the-rule (caaRecords (records book)) (requestedNames request) issuer)
+judge-accepted request issuer who book r i a b = rw (r, i, a, b) (verdict-by-the-rule who (caaRecords (records book)) (requestedNames request) issuer)

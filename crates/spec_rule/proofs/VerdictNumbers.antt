@@ -62,7 +62,7 @@ numbers (Refused r) h = absurd (h r refl)
 
 pub verdict-numbers : Verdict-numbers
 unfolding judgementCode
-verdict-numbers book ns d v (permitted, critical, ungranted, no-refusal) = (
+verdict-numbers who book ns d v (permitted, critical, ungranted, no-refusal) = (
   Iff·trans (told v Permitted _ no-refusal (apart Permitted (λ e. absurd (omega arith))) refl) permitted,
   λ k r. Iff·trans (told v (UnknownCritical (denial k r)) _ no-refusal (apart (UnknownCritical (denial k r)) (λ e. absurd (omega arith))) refl) (critical k r),
   λ k r. Iff·trans (told v (NotGranted (denial k r)) _ no-refusal (apart (NotGranted (denial k r)) (λ e. absurd (omega arith))) refl) (ungranted k r),

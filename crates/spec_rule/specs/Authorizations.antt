@@ -12,9 +12,12 @@ use Rattle.spec_record.specs.declared.PropertyTag.{PropertyTag}
 use Rattle.spec_record.specs.declared.PropertyTag.the-variants.{Issue, IssueWild, Iodef, Unknown}
 use Rattle.spec_record.specs.Property.{isCritical, tagOf}
 use Rattle.spec_value.specs.IssueValues.{IssueValue, malformed, nameless, named, issueValue}
+use Rattle.spec_value.specs.Parameters.{parametersIn}
+use Rattle.spec_applicant.specs.Applicant.{Applicant}
+use Rattle.spec_applicant.specs.Admission.{admits}
 use Rattle.spec_rule.specs.RelevantSet.{CaaRecord, Lookup, empty, found, relevantSet}
 
--- What CAA says about one requested name.
+-- What CAA says about one requested name, for one applicant.
 pub data Authorization : Type 0 where
   -- CAA doesn't restrict issuance.
   unrestricted : Authorization
@@ -70,8 +73,9 @@ granteeOfValue malformed = none
 granteeOfValue nameless = none
 granteeOfValue (named n) = cond (isIssuer n) (some (lowered n)) none
 
-unfoldable pub grantee : CaaRecord → Option (List ℕ)
-grantee r = granteeOfValue (issueValue (r .property .value))
+-- A record whose parameters don't admit the applicant (RFC 8657) grants nobody. It still governs.
+unfoldable pub grantee : Applicant → CaaRecord → Option (List ℕ)
+grantee who r = cond (admits who (parametersIn (r .property .value))) (granteeOfValue (issueValue (r .property .value))) none
 
 -- There is a grantee, and it is d.
 abbrev pub isGrantee : List ℕ → Option (List ℕ) → Bool
@@ -82,27 +86,27 @@ abbrev pub consSome : Option (List ℕ) → List (List ℕ) → List (List ℕ)
 consSome none ns = ns
 consSome (some n) ns = n ∷ ns
 
-abbrev pub grantees : List CaaRecord → List (List ℕ)
-grantees [] = []
-grantees (r ∷ rs) = consSome (grantee r) (grantees rs)
+abbrev pub grantees : Applicant → List CaaRecord → List (List ℕ)
+grantees who [] = []
+grantees who (r ∷ rs) = consSome (grantee who r) (grantees who rs)
 
 -- Without a governing record the name is unrestricted; otherwise it is restricted.
-abbrev pub governedBy : List CaaRecord → Authorization
-governedBy [] = unrestricted
-governedBy (g ∷ gs) = granted (g .number) (grantees (g ∷ gs))
+abbrev pub governedBy : Applicant → List CaaRecord → Authorization
+governedBy who [] = unrestricted
+governedBy who (g ∷ gs) = granted (g .number) (grantees who (g ∷ gs))
 
 -- A critical record with an unknown tag takes precedence over everything else.
 abbrev pub unlessForbidden : List CaaRecord → Authorization → Authorization
 unlessForbidden [] a = a
 unlessForbidden (u ∷ us) a = forbidden (u .number)
 
-abbrev pub authorizationFrom : Bool → Lookup → Authorization
-authorizationFrom wildcard empty = unrestricted
-authorizationFrom wildcard (found rs) = unlessForbidden (select isUnknownCritical rs) (governedBy (governing wildcard rs))
+abbrev pub authorizationFrom : Applicant → Bool → Lookup → Authorization
+authorizationFrom who wildcard empty = unrestricted
+authorizationFrom who wildcard (found rs) = unlessForbidden (select isUnknownCritical rs) (governedBy who (governing wildcard rs))
 
 -- For X and for *.X the search starts at X.
-unfoldable pub authorization : List CaaRecord → Name → Authorization
-authorization book n = authorizationFrom (isWildcard n) (relevantSet book (base n))
+unfoldable pub authorization : Applicant → List CaaRecord → Name → Authorization
+authorization who book n = authorizationFrom who (isWildcard n) (relevantSet book (base n))
 
 -- Whether the issuer d may issue for a name with this authorization.
 abbrev pub permits : List ℕ → Authorization → Bool

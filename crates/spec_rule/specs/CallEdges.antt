@@ -1,17 +1,22 @@
 -- The two calls on octets, each with the answer and the buffer that the requirements state.
 use Prim.Native.Nat.{ℕ}
+use Prim.Native.Char.{code}
 use Prim.Native.String.{String}
 use mathlib.Core.Path.{_≡_}
 use mathlib.Core.List.{List, [], _∷_, _++_, map}
 use lib.ListN.{replicate}
-use Rattle.spec_refusal.specs.declared.Refusal.the-variants.{BadName, BadIssuer, BadRecord, NoRoom}
+use Rattle.spec_refusal.specs.declared.Refusal.the-variants.{BadName, BadIssuer, BookTooLong, BadRecord, NoRoom, BadAccountOrMethod}
 use Rattle.spec_octets.specs.Lists.{flatten}
 use Rattle.spec_octets.specs.Octets.{text}
 use Rattle.spec_name.specs.Names.{wire}
 use Rattle.spec_record.specs.Records.{Record, wireRecord}
+use Rattle.spec_record.specs.BookEdges.{ofOctets}
 use Rattle.spec_rule.specs.declared.Judgement.{Judgement}
 use Rattle.spec_rule.specs.declared.Judgement.the-variants.{Permitted, UnknownCritical, NotGranted, Refused}
 use Rattle.spec_rule.specs.declared.PermittedIssuers.the-variants.{Anyone, Listed, Refused as ListRefused}
+use Rattle.spec_applicant.specs.Applicant.{Applicant}
+use Rattle.spec_applicant.specs.ApplicantEdges.{withAccount, withMethod}
+use Rattle.spec_applicant.specs.AdmissionEdges.{someone}
 use Rattle.spec_rule.specs.Verdicts.{denial}
 use Rattle.spec_rule.specs.Calls.{judge, Listing, listIssuers}
 use Rattle.spec_rule.specs.Edges.{dotted, caa, ca1, ca2, wholeBook}
@@ -33,13 +38,29 @@ www = asking ("www.example.com" ∷ [])
 abbrev pub both : List ℕ
 both = asking ("www.example.com" ∷ "pay.example.com" ∷ [])
 
+-- Two records of one owner, each with a limit: the first grants to the account https://a/2, the second by the method dns-01.
+abbrev pub limited : List ℕ
+limited =
+    bookOf
+    (caa "example.com" 0 "issue" "ca2.example.org; accounturi=https://a/2"
+    ∷ caa "example.com" 0 "issue" "ca1.example.net; validationmethods=dns-01"
+    ∷ [])
+
+-- A refused applicant: its account is empty.
+abbrev pub nobody : Applicant
+nobody = withAccount []
+
 -- What the call answers, and what the requirements state.
 pub record CallEdge : Type 0 where
   pub answered : Judgement
   pub stated : Judgement
 
 abbrev pub callEdge : List ℕ → List ℕ → List ℕ → Judgement → CallEdge
-callEdge request issuer book j = record { answered = judge request issuer book; stated = j }
+callEdge request issuer book j = record { answered = judge request issuer someone book; stated = j }
+
+-- The same for another applicant than `someone`.
+abbrev pub callEdgeFor : Applicant → List ℕ → List ℕ → List ℕ → Judgement → CallEdge
+callEdgeFor who request issuer book j = record { answered = judge request issuer who book; stated = j }
 
 abbrev pub callEdges : List CallEdge
 callEdges =
@@ -52,10 +73,25 @@ callEdges =
     -- A critical record with an unknown tag for the second name; if the first name is not granted, that is reported instead.
     ∷ callEdge both ca1 (bookOf (caa "example.com" 0 "issue" "ca1.example.net" ∷ caa "pay.example.com" 128 "tbs" "x" ∷ [])) (UnknownCritical (denial 1 1))
     ∷ callEdge both ca2 (bookOf (caa "example.com" 0 "issue" "ca1.example.net" ∷ caa "pay.example.com" 128 "tbs" "x" ∷ [])) (NotGranted (denial 0 0))
-    -- The order of the checks: request, issuer domain name, book.
+    -- The order of the checks: request, issuer domain name, book. Where one breaks its rule, so do all that are checked after it.
     ∷ callEdge [] [] (64 ∷ []) (Refused (BadName (record { 0 = 0 })))
     ∷ callEdge www [] (64 ∷ []) (Refused BadIssuer)
     ∷ callEdge www (text "n") (64 ∷ []) (Refused (BadRecord (record { 0 = 0 })))
+    -- The account and the method are checked after the issuer domain name and before the book.
+    ∷ callEdgeFor nobody [] [] (64 ∷ []) (Refused (BadName (record { 0 = 0 })))
+    ∷ callEdgeFor nobody www [] (64 ∷ []) (Refused BadIssuer)
+    ∷ callEdgeFor nobody www (text "n") (64 ∷ []) (Refused BadAccountOrMethod)
+    -- Where only they break a rule: an empty account; accounts of 255 and 256 octets; a comma in the account and in the method.
+    ∷ callEdgeFor nobody www (text "n") [] (Refused BadAccountOrMethod)
+    ∷ callEdgeFor (withAccount (replicate 255 (code "a"))) www (text "n") [] Permitted
+    ∷ callEdgeFor (withAccount (replicate 256 (code "a"))) www (text "n") [] (Refused BadAccountOrMethod)
+    ∷ callEdgeFor (withAccount (text "a,b")) www (text "n") [] Permitted
+    ∷ callEdgeFor (withMethod (text "a,b")) www (text "n") [] (Refused BadAccountOrMethod)
+    -- The same records for three applicants. A record whose limit is not met is still the first that governs.
+    ∷ callEdge www ca1 limited Permitted
+    ∷ callEdge www ca2 limited (NotGranted (denial 0 0))
+    ∷ callEdgeFor (withAccount (text "https://a/2")) www ca2 limited Permitted
+    ∷ callEdgeFor (withMethod (text "http-01")) www ca1 limited (NotGranted (denial 0 0))
     -- A tag with an octet that is no letter or digit refuses the book, whoever owns the record. A tag of letters does not.
     ∷ callEdge www ca1 (elsewhere "tb_s") (Refused (BadRecord (record { 0 = 1 })))
     ∷ callEdge www ca1 (elsewhere "tbs") Permitted
@@ -80,7 +116,11 @@ orders =
 
 -- The call on a buffer of n octets, all 95.
 abbrev pub listing : List String → List ℕ → ℕ → Listing
-listing ns book n = listIssuers (asking ns) book (replicate n 95)
+listing ns book n = listIssuers (asking ns) someone book (replicate n 95)
+
+-- The same for another applicant than `someone`.
+abbrev pub listingFor : Applicant → List String → List ℕ → ℕ → Listing
+listingFor who ns book n = listIssuers (asking ns) who book (replicate n 95)
 
 abbrev pub Lists-agree : Type 0
 Lists-agree =
@@ -98,3 +138,14 @@ Lists-agree =
     × (listing [] (64 ∷ []) 3 ≡ record { answer = ListRefused (BadName (record { 0 = 0 })); buffer = replicate 3 95 })
     × (listing ("www.example.com" ∷ []) (64 ∷ []) 0 ≡ record { answer = ListRefused (BadRecord (record { 0 = 0 })); buffer = [] })
     × (listing ("www.example.com" ∷ []) (elsewhere "tb_s") 3 ≡ record { answer = ListRefused (BadRecord (record { 0 = 1 })); buffer = replicate 3 95 })
+    -- The order of the checks: the book before the buffer. A record that grants, behind it one that makes the book too long, and no buffer.
+    × (listing ("www.example.com" ∷ []) (bookOf (caa "example.com" 0 "issue" "ca1.example.net" ∷ []) ++ ofOctets 49152) 0
+    ≡ record { answer = ListRefused BookTooLong; buffer = [] })
+    -- The account and the method are checked after the request and before the book.
+    × (listingFor nobody [] (64 ∷ []) 3 ≡ record { answer = ListRefused (BadName (record { 0 = 0 })); buffer = replicate 3 95 })
+    × (listingFor nobody ("www.example.com" ∷ []) (64 ∷ []) 3 ≡ record { answer = ListRefused BadAccountOrMethod; buffer = replicate 3 95 })
+    -- The same records for three applicants: one record grants, both do, and neither does. The last is an empty list, not anyone.
+    × (listing ("www.example.com" ∷ []) limited 17 ≡ record { answer = Listed 1 16; buffer = (15 ∷ ca1) ++ replicate 1 95 })
+    × (listingFor (withAccount (text "https://a/2")) ("www.example.com" ∷ []) limited 33
+    ≡ record { answer = Listed 2 32; buffer = (15 ∷ ca2) ++ ((15 ∷ ca1) ++ replicate 1 95) })
+    × (listingFor (withMethod (text "http-01")) ("www.example.com" ∷ []) limited 3 ≡ record { answer = Listed 0 0; buffer = replicate 3 95 })

@@ -10,6 +10,7 @@ use Rattle.spec_refusal.specs.declared.Refusal.the-variants.{NoRoom}
 use Rattle.spec_refusal.specs.Refusal.{number, place}
 use Rattle.spec_request.specs.Request.{requestedNames, requestRefusal}
 use Rattle.spec_issuer.specs.Issuer.{issuerRefusal}
+use Rattle.spec_applicant.specs.Applicant.{Applicant, applicantRefusal}
 use Rattle.spec_record.specs.Records.{records, bookRefusal}
 use Rattle.spec_rule.specs.declared.Judgement.{Judgement}
 use Rattle.spec_rule.specs.declared.Judgement.the-variants.{Permitted, UnknownCritical, NotGranted, Refused}
@@ -20,9 +21,9 @@ use Rattle.spec_rule.specs.Authorizations.{Authorization, authorization}
 use Rattle.spec_rule.specs.Verdicts.{verdict}
 use Rattle.spec_rule.specs.IssuerLists.{Issuers, anyone, listed, issuers, entries}
 
--- What CAA says about each requested name, by the records of the book.
-unfoldable pub authorizations : List ℕ → List ℕ → List Authorization
-authorizations request book = map (authorization (caaRecords (records book))) (requestedNames request)
+-- What CAA says about each requested name, by the records of the book, for the applicant.
+unfoldable pub authorizations : List ℕ → Applicant → List ℕ → List Authorization
+authorizations request who book = map (authorization who (caaRecords (records book))) (requestedNames request)
 
 -- Checks in their order, each a refusal or none: the first refusal is the answer.
 abbrev pub firstRefusal : List (Option Refusal) → Option Refusal
@@ -31,16 +32,16 @@ firstRefusal (none ∷ checks) = firstRefusal checks
 firstRefusal (some r ∷ checks) = some r
 
 -- May this issuer issue?
-abbrev pub judgeChecks : List ℕ → List ℕ → List ℕ → List (Option Refusal)
-judgeChecks request issuer book = requestRefusal request ∷ issuerRefusal issuer ∷ bookRefusal book ∷ []
+abbrev pub judgeChecks : List ℕ → List ℕ → Applicant → List ℕ → List (Option Refusal)
+judgeChecks request issuer who book = requestRefusal request ∷ issuerRefusal issuer ∷ applicantRefusal who ∷ bookRefusal book ∷ []
 
 abbrev pub refusedOr : Option Refusal → Judgement → Judgement
 refusedOr none j = j
 refusedOr (some r) j = Refused r
 
-unfoldable pub judge : List ℕ → List ℕ → List ℕ → Judgement
-judge request issuer book =
-    refusedOr (firstRefusal (judgeChecks request issuer book)) (verdict issuer (authorizations request book))
+unfoldable pub judge : List ℕ → List ℕ → Applicant → List ℕ → Judgement
+judge request issuer who book =
+    refusedOr (firstRefusal (judgeChecks request issuer who book)) (verdict issuer (authorizations request who book))
 
 -- Who may issue? The answer, and the buffer afterwards.
 pub record Listing : Type 0 where
@@ -51,9 +52,13 @@ abbrev pub roomRefusal : Issuers → List ℕ → Option Refusal
 roomRefusal anyone buffer = none
 roomRefusal (listed ns) buffer = cond (leb (length (entries ns)) (length buffer)) none (some (NoRoom (length (entries ns))))
 
-abbrev pub listChecks : List ℕ → List ℕ → List ℕ → List (Option Refusal)
-listChecks request book buffer =
-    requestRefusal request ∷ bookRefusal book ∷ roomRefusal (issuers (authorizations request book)) buffer ∷ []
+abbrev pub listChecks : List ℕ → Applicant → List ℕ → List ℕ → List (Option Refusal)
+listChecks request who book buffer =
+    requestRefusal request
+    ∷ applicantRefusal who
+    ∷ bookRefusal book
+    ∷ roomRefusal (issuers (authorizations request who book)) buffer
+    ∷ []
 
 -- The entries are written at the start of the buffer. Its other octets are unchanged.
 abbrev pub written : Issuers → List ℕ → Listing
@@ -65,9 +70,9 @@ abbrev pub unlessRefused : Option Refusal → Listing → List ℕ → Listing
 unlessRefused none l buffer = l
 unlessRefused (some r) l buffer = record { answer = ListRefused r; buffer = buffer }
 
-unfoldable pub listIssuers : List ℕ → List ℕ → List ℕ → Listing
-listIssuers request book buffer =
-    unlessRefused (firstRefusal (listChecks request book buffer)) (written (issuers (authorizations request book)) buffer) buffer
+unfoldable pub listIssuers : List ℕ → Applicant → List ℕ → List ℕ → Listing
+listIssuers request who book buffer =
+    unlessRefused (firstRefusal (listChecks request who book buffer)) (written (issuers (authorizations request who book)) buffer) buffer
 
 -- The number and the values of each answer. The requirements give the numbers, except 30 and 31, which are this project's own.
 pub record AnswerCode : Type 0 where

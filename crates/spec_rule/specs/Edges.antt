@@ -15,6 +15,7 @@ use Rattle.spec_issuer.specs.IssuerEdges.{ofLengths}
 use Rattle.spec_record.specs.Property.{wireProperty}
 use Rattle.spec_record.specs.Records.{Record}
 use Rattle.spec_value.specs.IssueValues.{IssueValue, malformed, nameless, named, issueValue}
+use Rattle.spec_applicant.specs.AdmissionEdges.{someone}
 use Rattle.spec_rule.specs.RelevantSet.{caaRecords}
 use Rattle.spec_rule.specs.declared.Judgement.the-variants.{NotGranted}
 use Rattle.spec_rule.specs.Authorizations.{Authorization, unrestricted, forbidden, granted, authorization}
@@ -52,7 +53,7 @@ abbrev pub valueEdge : String → IssueValue → Edge
 valueEdge s v = record { ruled = of-value (issueValue (text s)); stated = of-value v }
 
 abbrev pub nameEdge : List Record → String → Authorization → Edge
-nameEdge book n a = record { ruled = of-name (authorization (caaRecords book) (dotted n)); stated = of-name a }
+nameEdge book n a = record { ruled = of-name (authorization someone (caaRecords book) (dotted n)); stated = of-name a }
 
 abbrev pub flagsEdge : String → Option ℕ → Edge
 flagsEdge s f = record { ruled = of-flags (decimalOctet (text s)); stated = of-flags f }
@@ -67,7 +68,7 @@ abbrev pub below : ℕ → Name
 below n = replicate n (text "a") ++ dotted "c"
 
 abbrev pub climbEdge : List Record → ℕ → Authorization → Edge
-climbEdge book n a = record { ruled = of-name (authorization (caaRecords book) (below n)); stated = of-name a }
+climbEdge book n a = record { ruled = of-name (authorization someone (caaRecords book) (below n)); stated = of-name a }
 
 -- A set of one issue record with this value.
 abbrev pub issuing : String → List Record
@@ -143,6 +144,25 @@ edges =
     -- A record that grants nobody is reported if it is the first, and takes nothing away from the other.
     ∷ nameEdge (caa "example.com" 0 "issue" ";" ∷ caa "example.com" 0 "issue" "ca1.example.net" ∷ []) "example.com" (granted 0 (ca1 ∷ []))
     ∷ nameEdge (caa "example.com" 0 "issue" "ca1.example.net" ∷ caa "example.com" 0 "issue" "%%%%%" ∷ []) "example.com" (granted 0 (ca1 ∷ []))
+    -- Limits of RFC 8657, for the account https://a/1 and the method dns-01. A record with a limit that is not met grants nobody and still
+    -- governs. So does a record that has the same limit twice, though both are met.
+    ∷ nameEdge (issuing "ca1.example.net; accounturi=https://a/1") "example.com" (granted 0 (ca1 ∷ []))
+    ∷ nameEdge (issuing "ca1.example.net; accounturi=https://a/2") "example.com" (granted 0 [])
+    ∷ nameEdge (issuing "ca1.example.net; validationmethods=http-01,dns-01") "example.com" (granted 0 (ca1 ∷ []))
+    ∷ nameEdge (issuing "ca1.example.net; validationmethods=http-01") "example.com" (granted 0 [])
+    ∷ nameEdge (issuing "ca1.example.net; accounturi=https://a/1; accounturi=https://a/1") "example.com" (granted 0 [])
+    -- Next to another record: it is reported if it is the first, and takes nothing away from the other.
+    ∷ nameEdge (caa "example.com" 0 "issue" "ca1.example.net; accounturi=https://a/2" ∷ caa "example.com" 0 "issue" "ca2.example.org" ∷ []) "example.com"
+    (granted 0 (ca2 ∷ []))
+    ∷ nameEdge
+    (caa "example.com" 0 "issue" "ca1.example.net; accounturi=https://a/1" ∷ caa "example.com" 0 "issue" "ca2.example.org; accounturi=https://a/2" ∷ [])
+    "example.com" (granted 0 (ca1 ∷ []))
+    -- In issuewild, for *.X: met, not met, and not met next to an issue record, which still does not govern *.X.
+    ∷ nameEdge (caa "example.com" 0 "issuewild" "ca2.example.org; accounturi=https://a/1" ∷ []) "*.example.com" (granted 0 (ca2 ∷ []))
+    ∷ nameEdge (caa "example.com" 0 "issuewild" "ca2.example.org; accounturi=https://a/2" ∷ []) "*.example.com" (granted 0 [])
+    ∷ nameEdge
+    (caa "example.com" 0 "issue" "ca1.example.net" ∷ caa "example.com" 0 "issuewild" "ca2.example.org; accounturi=https://a/2" ∷ [])
+    "*.example.com" (granted 1 [])
     -- Of two critical records with unknown tags the first is reported, for X and for *.X.
     ∷ nameEdge (caa "example.com" 128 "tbs" "Unknown" ∷ caa "example.com" 255 "other" "Unknown" ∷ []) "example.com" (forbidden 0)
     ∷ nameEdge (caa "example.com" 127 "tbs" "Unknown" ∷ caa "example.com" 255 "other" "Unknown" ∷ caa "example.com" 128 "tbs" "Unknown" ∷ [])
@@ -202,7 +222,7 @@ wholeBook =
     ∷ []
 
 abbrev pub wholeCase : List String → List Authorization
-wholeCase ns = map (λ n. authorization (caaRecords wholeBook) (dotted n)) ns
+wholeCase ns = map (λ n. authorization someone (caaRecords wholeBook) (dotted n)) ns
 
 abbrev pub Whole-case : Type 0
 Whole-case =

@@ -14,7 +14,10 @@ use Rattle.spec_record.specs.declared.PropertyTag.{PropertyTag}
 use Rattle.spec_record.specs.declared.PropertyTag.the-variants.{Issue, IssueWild, Unknown}
 use Rattle.spec_record.specs.Property.{Property, wireProperty, isCritical, tagOf}
 use Rattle.spec_record.specs.Records.{Record}
-use Rattle.spec_value.specs.Productions.{valueWithName}
+use Rattle.spec_value.specs.Parameters.{Parameter}
+use Rattle.spec_value.specs.Productions.{valueOf}
+use Rattle.spec_applicant.specs.Applicant.{Applicant}
+use Rattle.spec_applicant.specs.Meaning.{Admits}
 use Rattle.spec_rule.specs.RelevantSet.{CaaRecord, empty, found, lookup, relevantSet}
 
 -- cs are the CAA records of rs, in their order, each with its number. The first record of rs has the number k.
@@ -47,9 +50,10 @@ abbrev pub Governs : Bool → List CaaRecord → CaaRecord → Type 0
 Governs false rs r = Tagged Issue r
 Governs true rs r = Tagged IssueWild r ⊎ (Tagged Issue r × All (λ q. Tagged IssueWild q → ⊥) rs)
 
--- Step 4: the value has a well-formed issuer domain name, and d is that name in lower case.
-abbrev pub Grants : List ℕ → CaaRecord → Type 0
-Grants d r = (n : List ℕ) × valueWithName n (r .property .value) × WellFormed n × (lowered n ≡ d)
+-- Step 4: the value has a well-formed issuer domain name, d is that name in lower case, and the parameters of the value admit the applicant.
+abbrev pub Grants : Applicant → List ℕ → CaaRecord → Type 0
+Grants who d r =
+    (n : List ℕ) × (ps : List Parameter) × valueOf n ps (r .property .value) × WellFormed n × (lowered n ≡ d) × Admits who ps
 
 module _ (book : List CaaRecord) (n : Name) where
   -- rs is the relevant set of the requested name n.
@@ -64,13 +68,13 @@ module _ (book : List CaaRecord) (n : Name) where
       (relevantSet book (base n) ≡ empty)
       ⊎ ((rs : List CaaRecord) × Relevant rs × NoneCritical rs × All (λ r. Governs (isWildcard n) rs r → ⊥) rs)
 
-  abbrev pub GrantedTo : List ℕ → Type 0
-  GrantedTo d =
-      (rs : List CaaRecord) × Relevant rs × NoneCritical rs × Any (λ r. Governs (isWildcard n) rs r × Grants (lowered d) r) rs
+  abbrev pub GrantedTo : Applicant → List ℕ → Type 0
+  GrantedTo who d =
+      (rs : List CaaRecord) × Relevant rs × NoneCritical rs × Any (λ r. Governs (isWildcard n) rs r × Grants who (lowered d) r) rs
 
-  -- Step 5: the issuer d may issue for n.
-  abbrev pub PermittedTo : List ℕ → Type 0
-  PermittedTo d = Unrestricted ⊎ GrantedTo d
+  -- Step 5: the issuer d may issue for n, to the applicant.
+  abbrev pub PermittedTo : Applicant → List ℕ → Type 0
+  PermittedTo who d = Unrestricted ⊎ GrantedTo who d
 
   -- r is the number of the first critical record with an unknown tag in the relevant set.
   abbrev pub ForbiddenBy : ℕ → Type 0
@@ -94,7 +98,7 @@ abbrev pub Before : {A : Type 0} → A → A → List A → Type 0
 Before {A} a b xs = (p q r : List A) × (xs ≡ p ++ (a ∷ (q ++ (b ∷ r))))
 
 -- Among gs, the first record that grants a comes before the first that grants b.
-abbrev pub GrantedBefore : List CaaRecord → List ℕ → List ℕ → Type 0
-GrantedBefore gs a b =
-    (p q r : List CaaRecord) × (g h : CaaRecord) × (gs ≡ p ++ (g ∷ (q ++ (h ∷ r)))) × Grants a g × Grants b h
-    × All (λ x. Grants a x → ⊥) p × All (λ x. Grants b x → ⊥) (p ++ (g ∷ q))
+abbrev pub GrantedBefore : Applicant → List CaaRecord → List ℕ → List ℕ → Type 0
+GrantedBefore who gs a b =
+    (p q r : List CaaRecord) × (g h : CaaRecord) × (gs ≡ p ++ (g ∷ (q ++ (h ∷ r)))) × Grants who a g × Grants who b h
+    × All (λ x. Grants who a x → ⊥) p × All (λ x. Grants who b x → ⊥) (p ++ (g ∷ q))

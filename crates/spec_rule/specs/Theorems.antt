@@ -6,18 +6,20 @@ use mathlib.Core.List.{List, [], _∷_, _++_, map, List·Memᴰ}
 use mathlib.Core.Option.{none}
 use lib.ListN.{length, take, drop}
 use Rattle.spec_refusal.specs.declared.Refusal.{Refusal}
-use Rattle.spec_refusal.specs.declared.Refusal.the-variants.{RequestTooLong, BadName, TooManyNames, BadIssuer, BookTooLong, BadRecord, TooManyRecords, NoRoom, BadLine, LineTooLong, BadData}
-use Rattle.spec_refusal.specs.Refusal.{number}
+use Rattle.spec_refusal.specs.declared.Refusal.the-variants.{NoRoom}
+use Rattle.spec_refusal.specs.Order.{rank}
 use Rattle.spec_octets.specs.Lists.{All, Any, Distinct, Selects}
 use Rattle.spec_octets.specs.Octets.{Octets, lowered}
 use Rattle.spec_octets.specs.Items.{whole, items}
 use Rattle.spec_name.specs.Names.{Name}
 use Rattle.spec_request.specs.Request.{requestedNames, requestRefusal}
-use Rattle.spec_request.specs.Theorems.{Row-1, Row-2, Row-3}
+use Rattle.spec_request.specs.Theorems.{RequestRow}
 use Rattle.spec_issuer.specs.Issuer.{issuerRefusal, WellFormed}
-use Rattle.spec_issuer.specs.Theorems.{Row-4}
+use Rattle.spec_issuer.specs.Theorems.{IssuerRow}
+use Rattle.spec_applicant.specs.Applicant.{Applicant, applicantRefusal}
+use Rattle.spec_applicant.specs.Theorems.{ApplicantRow}
 use Rattle.spec_record.specs.Records.{Record, records, bookRefusal, GoodRecord}
-use Rattle.spec_record.specs.Theorems.{Row-5, Row-6, Row-7}
+use Rattle.spec_record.specs.Theorems.{BookRow}
 use Rattle.spec_rule.specs.declared.Judgement.{Judgement}
 use Rattle.spec_rule.specs.declared.Judgement.the-variants.{Permitted, UnknownCritical, NotGranted, Refused}
 use Rattle.spec_rule.specs.declared.PermittedIssuers.the-variants.{Anyone, Listed, Refused as ListRefused}
@@ -47,92 +49,86 @@ Nearest-name-decides =
     × ((relevantSet book x ≡ empty) ↔ ((k : ℕ) → k < length x → lookup book (drop k x) ≡ empty))
 
 -- Permitted exactly when every name is unrestricted or granted to the issuer. Otherwise: the lowest name that isn't, and why.
-abbrev pub Verdict-on : List CaaRecord → List Name → List ℕ → Judgement → Type 0
-Verdict-on book ns d v =
-    ((v ≡ Permitted) ↔ All (λ n. PermittedTo book n d) ns)
-    × ((k r : ℕ) → (v ≡ UnknownCritical (denial k r)) ↔ ((n : Name) × LowestNot (λ m. PermittedTo book m d) ns k n × ForbiddenBy book n r))
-    × ((k r : ℕ) → (v ≡ NotGranted (denial k r)) ↔ ((n : Name) × LowestNot (λ m. PermittedTo book m d) ns k n × GovernedFrom book n r))
+abbrev pub Verdict-on : Applicant → List CaaRecord → List Name → List ℕ → Judgement → Type 0
+Verdict-on who book ns d v =
+    ((v ≡ Permitted) ↔ All (λ n. PermittedTo book n who d) ns)
+    × ((k r : ℕ) → (v ≡ UnknownCritical (denial k r)) ↔ ((n : Name) × LowestNot (λ m. PermittedTo book m who d) ns k n × ForbiddenBy book n r))
+    × ((k r : ℕ) → (v ≡ NotGranted (denial k r)) ↔ ((n : Name) × LowestNot (λ m. PermittedTo book m who d) ns k n × GovernedFrom book n r))
     × ((r : Refusal) → v ≢ Refused r)
 
 abbrev pub Verdict-by-the-rule : Type 0
-Verdict-by-the-rule = (book : List CaaRecord) (ns : List Name) (d : List ℕ) → Verdict-on book ns d (verdict d (map (authorization book) ns))
+Verdict-by-the-rule =
+    (who : Applicant) (book : List CaaRecord) (ns : List Name) (d : List ℕ) → Verdict-on who book ns d (verdict d (map (authorization who book) ns))
 
 -- The verdict in the requirements' numbers: 0; 20 and 21 with the numbers of name and record. No other number is a verdict.
 abbrev pub Verdict-numbers : Type 0
 Verdict-numbers =
-    (book : List CaaRecord) (ns : List Name) (d : List ℕ) (v : Judgement) → Verdict-on book ns d v →
-    ((judgementCode v ≡ record { number = 0; values = [] }) ↔ All (λ n. PermittedTo book n d) ns)
+    (who : Applicant) (book : List CaaRecord) (ns : List Name) (d : List ℕ) (v : Judgement) → Verdict-on who book ns d v →
+    ((judgementCode v ≡ record { number = 0; values = [] }) ↔ All (λ n. PermittedTo book n who d) ns)
     × ((k r : ℕ) → (judgementCode v ≡ record { number = 20; values = k ∷ r ∷ [] })
-    ↔ ((n : Name) × LowestNot (λ m. PermittedTo book m d) ns k n × ForbiddenBy book n r))
+    ↔ ((n : Name) × LowestNot (λ m. PermittedTo book m who d) ns k n × ForbiddenBy book n r))
     × ((k r : ℕ) → (judgementCode v ≡ record { number = 21; values = k ∷ r ∷ [] })
-    ↔ ((n : Name) × LowestNot (λ m. PermittedTo book m d) ns k n × GovernedFrom book n r))
+    ↔ ((n : Name) × LowestNot (λ m. PermittedTo book m who d) ns k n × GovernedFrom book n r))
     × ((judgementCode v .number ≡ 0) ⊎ (judgementCode v .number ≡ 20) ⊎ (judgementCode v .number ≡ 21))
 
 -- An accepted request, issuer domain name and book are judged by their names and records.
 abbrev pub Judge-accepted : Type 0
 Judge-accepted =
-    (request issuer book : List ℕ) → requestRefusal request ≡ none → issuerRefusal issuer ≡ none → bookRefusal book ≡ none →
-    Verdict-on (caaRecords (records book)) (requestedNames request) issuer (judge request issuer book)
-
--- The requirements' table: the condition of each refusal. Row 4 belongs to the judging call only, row 8 to the listing call only.
-abbrev pub Row : List ℕ → List ℕ → Type 0 → (ℕ → Type 0) → Refusal → Type 0
-Row request book four eight RequestTooLong = Row-1 request
-Row request book four eight (BadName k) = Row-2 request (k .0)
-Row request book four eight TooManyNames = Row-3 request
-Row request book four eight BadIssuer = four
-Row request book four eight BookTooLong = Row-5 book
-Row request book four eight (BadRecord r) = Row-6 book (r .0)
-Row request book four eight TooManyRecords = Row-7 book
-Row request book four eight (NoRoom n) = eight n
-Row request book four eight BadLine = ⊥
-Row request book four eight LineTooLong = ⊥
-Row request book four eight BadData = ⊥
+    (request issuer : List ℕ) (who : Applicant) (book : List ℕ) →
+    requestRefusal request ≡ none → issuerRefusal issuer ≡ none → applicantRefusal who ≡ none → bookRefusal book ≡ none →
+    Verdict-on who (caaRecords (records book)) (requestedNames request) issuer (judge request issuer who book)
 
 -- The output needs n octets, and the buffer has fewer.
-abbrev pub Row-8 : List ℕ → List ℕ → List ℕ → ℕ → Type 0
-Row-8 request book buffer n =
-    (ns : List (List ℕ)) × (issuers (authorizations request book) ≡ listed ns) × (length (entries ns) ≡ n) × (length buffer < n)
+abbrev pub Row-8 : List ℕ → Applicant → List ℕ → List ℕ → ℕ → Type 0
+Row-8 request who book buffer n =
+    (ns : List (List ℕ)) × (issuers (authorizations request who book) ≡ listed ns) × (length (entries ns) ≡ n) × (length buffer < n)
 
-abbrev pub JudgeRow : List ℕ → List ℕ → List ℕ → Refusal → Type 0
-JudgeRow request issuer book r = Row request book (Row-4 issuer) (λ n. ⊥) r
+-- The same by refusal.
+abbrev pub RoomRow : List ℕ → Applicant → List ℕ → List ℕ → Refusal → Type 0
+RoomRow request who book buffer r = (n : ℕ) × (r ≡ NoRoom n) × Row-8 request who book buffer n
 
-abbrev pub ListRow : List ℕ → List ℕ → List ℕ → Refusal → Type 0
-ListRow request book buffer r = Row request book ⊥ (Row-8 request book buffer) r
+-- The requirements' table: the row of r holds. Each call has the rows of its inputs; the order of checks is stated in `FirstRow`.
+abbrev pub JudgeRow : List ℕ → List ℕ → Applicant → List ℕ → Refusal → Type 0
+JudgeRow request issuer who book r = RequestRow request r ⊎ IssuerRow issuer r ⊎ ApplicantRow who r ⊎ BookRow book r
 
--- The checks are ordered by number: row r holds, and no row with a lower number.
+abbrev pub ListRow : List ℕ → Applicant → List ℕ → List ℕ → Refusal → Type 0
+ListRow request who book buffer r = RequestRow request r ⊎ ApplicantRow who r ⊎ BookRow book r ⊎ RoomRow request who book buffer r
+
+-- The row of r holds, and no row that comes before it in the order of checks (`order` of spec_refusal).
 abbrev pub FirstRow : (Refusal → Type 0) → Refusal → Type 0
-FirstRow rows r = rows r × ((q : Refusal) → number q < number r → rows q → ⊥)
+FirstRow rows r = rows r × ((q : Refusal) → rank q < rank r → rows q → ⊥)
 
 -- Each refusal is returned exactly when the table says so.
 abbrev pub Judge-refusals : Type 0
 Judge-refusals =
-    (request issuer book : List ℕ) → Octets request → Octets book → (r : Refusal) →
-    (judge request issuer book ≡ Refused r) ↔ FirstRow (JudgeRow request issuer book) r
+    (request issuer : List ℕ) (who : Applicant) (book : List ℕ) → Octets request → Octets book → (r : Refusal) →
+    (judge request issuer who book ≡ Refused r) ↔ FirstRow (JudgeRow request issuer who book) r
 
 -- The same for the listing call; and a refusal leaves the buffer unchanged.
 abbrev pub List-refusals : Type 0
 List-refusals =
-    (request book buffer : List ℕ) → Octets request → Octets book → (r : Refusal) →
-    ((listIssuers request book buffer .answer ≡ ListRefused r) ↔ FirstRow (ListRow request book buffer) r)
-    × (listIssuers request book buffer .answer ≡ ListRefused r → listIssuers request book buffer .buffer ≡ buffer)
+    (request : List ℕ) (who : Applicant) (book buffer : List ℕ) → Octets request → Octets book → (r : Refusal) →
+    ((listIssuers request who book buffer .answer ≡ ListRefused r) ↔ FirstRow (ListRow request who book buffer) r)
+    × (listIssuers request who book buffer .answer ≡ ListRefused r → listIssuers request who book buffer .buffer ≡ buffer)
 
 -- The requirements' third demand, on who may issue, stated over the verdict: what the permitted issuers are, for an accepted request and book.
-pub record PermittedIssuersAre (request book : List ℕ) (answer : Issuers) : Type 0 where
+pub record PermittedIssuersAre (request : List ℕ) (who : Applicant) (book : List ℕ) (answer : Issuers) : Type 0 where
   pub anyone-exactly : (answer ≡ anyone) ↔ All (Unrestricted (caaRecords (records book))) (requestedNames request)
   pub permitted-exactly : (d : List ℕ) → WellFormed d →
-      (judge request d book ≡ Permitted) ↔ ((answer ≡ anyone) ⊎ ((ns : List (List ℕ)) × (answer ≡ listed ns) × List·Memᴰ (lowered d) ns))
+      (judge request d who book ≡ Permitted) ↔ ((answer ≡ anyone) ⊎ ((ns : List (List ℕ)) × (answer ≡ listed ns) × List·Memᴰ (lowered d) ns))
   pub well-formed : (ns : List (List ℕ)) → answer ≡ listed ns → All (λ n. WellFormed n × (lowered n ≡ n)) ns
   pub none-twice : (ns : List (List ℕ)) → answer ≡ listed ns → Distinct ns
   -- The order is that of the records that govern the restricted name with the lowest number.
   pub in-order : (ns : List (List ℕ)) → answer ≡ listed ns → (k : ℕ) (n : Name) (gs : List CaaRecord) →
       LowestNot (Unrestricted (caaRecords (records book))) (requestedNames request) k n →
       GoverningRecords (caaRecords (records book)) n gs → (a b : List ℕ) → List·Memᴰ a ns → List·Memᴰ b ns →
-      Before a b ns ↔ GrantedBefore gs a b
+      Before a b ns ↔ GrantedBefore who gs a b
 
 abbrev pub Permitted-issuers : Type 0
 Permitted-issuers =
-    (request book : List ℕ) → requestRefusal request ≡ none → bookRefusal book ≡ none →
-    PermittedIssuersAre request book (issuers (authorizations request book))
+    (request : List ℕ) (who : Applicant) (book : List ℕ) →
+    requestRefusal request ≡ none → applicantRefusal who ≡ none → bookRefusal book ≡ none →
+    PermittedIssuersAre request who book (issuers (authorizations request who book))
 
 -- The octets of a list: the lengths of its names, and one more for each.
 abbrev pub total : List (List ℕ) → ℕ
@@ -142,27 +138,29 @@ total (n ∷ ns) = length n + 1 + total ns
 -- The list is at the start of the buffer, and the octets after it are unchanged. For anyone the whole buffer is unchanged.
 abbrev pub List-in-the-buffer : Type 0
 List-in-the-buffer =
-    (request book buffer : List ℕ) → requestRefusal request ≡ none → bookRefusal book ≡ none →
-    (issuers (authorizations request book) ≡ anyone →
-    listIssuers request book buffer ≡ record { answer = Anyone; buffer = buffer })
-    × ((ns : List (List ℕ)) → issuers (authorizations request book) ≡ listed ns → total ns ≤ length buffer →
-    listIssuers request book buffer
+    (request : List ℕ) (who : Applicant) (book buffer : List ℕ) →
+    requestRefusal request ≡ none → applicantRefusal who ≡ none → bookRefusal book ≡ none →
+    (issuers (authorizations request who book) ≡ anyone →
+    listIssuers request who book buffer ≡ record { answer = Anyone; buffer = buffer })
+    × ((ns : List (List ℕ)) → issuers (authorizations request who book) ≡ listed ns → total ns ≤ length buffer →
+    listIssuers request who book buffer
     ≡ record { answer = Listed (length ns) (total ns); buffer = entries ns ++ drop (total ns) buffer })
 
 -- A critical record with an unknown tag in the relevant set of any requested name gives an empty list, in any buffer.
 abbrev pub Unknown-critical-lists-nobody : Type 0
 Unknown-critical-lists-nobody =
-    (request book buffer : List ℕ) → requestRefusal request ≡ none → bookRefusal book ≡ none →
+    (request : List ℕ) (who : Applicant) (book buffer : List ℕ) →
+    requestRefusal request ≡ none → applicantRefusal who ≡ none → bookRefusal book ≡ none →
     Any
     (λ n. (rs : List CaaRecord) × Relevant (caaRecords (records book)) n rs × Any UnknownCriticalRecord rs)
     (requestedNames request) →
-    listIssuers request book buffer ≡ record { answer = Listed 0 0; buffer = buffer }
+    listIssuers request who book buffer ≡ record { answer = Listed 0 0; buffer = buffer }
 
 -- The list never needs more octets than the book has.
 abbrev pub Room-of-the-book : Type 0
 Room-of-the-book =
-    (request book : List ℕ) → Octets book → bookRefusal book ≡ none → (ns : List (List ℕ)) →
-    issuers (authorizations request book) ≡ listed ns → total ns ≤ length book
+    (request : List ℕ) (who : Applicant) (book : List ℕ) → Octets book → bookRefusal book ≡ none → (ns : List (List ℕ)) →
+    issuers (authorizations request who book) ≡ listed ns → total ns ≤ length book
 
 -- The names of a list can be read back from its octets.
 abbrev pub Entries-read-back : Type 0
@@ -178,10 +176,10 @@ abbrev pub ListsNames : Listing → List (List ℕ) → Type 0
 ListsNames l ns = (count octets : ℕ) × (l .answer ≡ Listed count octets) × ReadsBack count octets (l .buffer) ns
 
 -- The requirements' third demand, on who may issue, stated over the call: what a caller learns from the answer and the octets of the buffer.
-pub record ListingTells (request book buffer : List ℕ) (l : Listing) : Type 0 where
+pub record ListingTells (request : List ℕ) (who : Applicant) (book buffer : List ℕ) (l : Listing) : Type 0 where
   pub anyone-exactly : (l .answer ≡ Anyone) ↔ All (Unrestricted (caaRecords (records book))) (requestedNames request)
   pub permitted-exactly : (d : List ℕ) → WellFormed d →
-      (judge request d book ≡ Permitted) ↔ ((l .answer ≡ Anyone) ⊎ ((ns : List (List ℕ)) × ListsNames l ns × List·Memᴰ (lowered d) ns))
+      (judge request d who book ≡ Permitted) ↔ ((l .answer ≡ Anyone) ⊎ ((ns : List (List ℕ)) × ListsNames l ns × List·Memᴰ (lowered d) ns))
   pub answered : (l .answer ≡ Anyone) ⊎ ((count octets : ℕ) × (l .answer ≡ Listed count octets))
   -- Whatever count and octets are returned, that list can be read.
   pub readable : (count octets : ℕ) → l .answer ≡ Listed count octets → (ns : List (List ℕ)) × ReadsBack count octets (l .buffer) ns
@@ -192,7 +190,7 @@ pub record ListingTells (request book buffer : List ℕ) (l : Listing) : Type 0 
   pub in-order : (ns : List (List ℕ)) → ListsNames l ns → (k : ℕ) (n : Name) (gs : List CaaRecord) →
       LowestNot (Unrestricted (caaRecords (records book))) (requestedNames request) k n →
       GoverningRecords (caaRecords (records book)) n gs → (a b : List ℕ) → List·Memᴰ a ns → List·Memᴰ b ns →
-      Before a b ns ↔ GrantedBefore gs a b
+      Before a b ns ↔ GrantedBefore who gs a b
   pub length-stays : length (l .buffer) ≡ length buffer
   pub rest-stays : (count octets : ℕ) → l .answer ≡ Listed count octets → drop octets (l .buffer) ≡ drop octets buffer
   pub nothing-written : l .answer ≡ Anyone → l .buffer ≡ buffer
@@ -200,24 +198,27 @@ pub record ListingTells (request book buffer : List ℕ) (l : Listing) : Type 0 
 -- This holds for every buffer that is long enough, whatever its contents before.
 abbrev pub Call-lists-the-permitted : Type 0
 Call-lists-the-permitted =
-    (request book buffer : List ℕ) → requestRefusal request ≡ none → bookRefusal book ≡ none →
-    ((n : ℕ) → listIssuers request book buffer .answer ≢ ListRefused (NoRoom n)) →
-    ListingTells request book buffer (listIssuers request book buffer)
+    (request : List ℕ) (who : Applicant) (book buffer : List ℕ) →
+    requestRefusal request ≡ none → applicantRefusal who ≡ none → bookRefusal book ≡ none →
+    ((n : ℕ) → listIssuers request who book buffer .answer ≢ ListRefused (NoRoom n)) →
+    ListingTells request who book buffer (listIssuers request who book buffer)
 
 -- A buffer as long as the book is always long enough.
 abbrev pub Book-length-is-room : Type 0
 Book-length-is-room =
-    (request book buffer : List ℕ) → Octets book → requestRefusal request ≡ none → bookRefusal book ≡ none →
-    length book ≤ length buffer → (r : Refusal) → listIssuers request book buffer .answer ≢ ListRefused r
+    (request : List ℕ) (who : Applicant) (book buffer : List ℕ) → Octets book →
+    requestRefusal request ≡ none → applicantRefusal who ≡ none → bookRefusal book ≡ none →
+    length book ≤ length buffer → (r : Refusal) → listIssuers request who book buffer .answer ≢ ListRefused r
 
 -- A buffer is long enough exactly when it has the octets of the list, as answered for any other buffer; for anyone every buffer is.
 abbrev pub Room-needed : Type 0
 Room-needed =
-    (request book buffer other : List ℕ) → requestRefusal request ≡ none → bookRefusal book ≡ none →
-    (listIssuers request book other .answer ≡ Anyone → listIssuers request book buffer .answer ≡ Anyone)
-    × ((count octets : ℕ) → listIssuers request book other .answer ≡ Listed count octets →
-    (octets ≤ length buffer → listIssuers request book buffer .answer ≡ Listed count octets)
-    × (length buffer < octets → listIssuers request book buffer ≡ record { answer = ListRefused (NoRoom octets); buffer = buffer }))
+    (request : List ℕ) (who : Applicant) (book buffer other : List ℕ) →
+    requestRefusal request ≡ none → applicantRefusal who ≡ none → bookRefusal book ≡ none →
+    (listIssuers request who book other .answer ≡ Anyone → listIssuers request who book buffer .answer ≡ Anyone)
+    × ((count octets : ℕ) → listIssuers request who book other .answer ≡ Listed count octets →
+    (octets ≤ length buffer → listIssuers request who book buffer .answer ≡ Listed count octets)
+    × (length buffer < octets → listIssuers request who book buffer ≡ record { answer = ListRefused (NoRoom octets); buffer = buffer }))
 
 -- Record numbers don't influence the decision: with other numbers only the numbers in the answer change.
 abbrev pub renumbered : (ℕ → ℕ) → CaaRecord → CaaRecord
@@ -236,7 +237,7 @@ renumberedVerdict f (Refused r) = Refused r
 
 abbrev pub Renumbering : Type 0
 Renumbering =
-    (f : ℕ → ℕ) (book : List CaaRecord) (ns : List Name) →
-    (map (authorization (map (renumbered f) book)) ns ≡ map (renumberedAuthorization f) (map (authorization book) ns))
-    × ((d : List ℕ) → verdict d (map (authorization (map (renumbered f) book)) ns) ≡ renumberedVerdict f (verdict d (map (authorization book) ns)))
-    × (issuers (map (authorization (map (renumbered f) book)) ns) ≡ issuers (map (authorization book) ns))
+    (f : ℕ → ℕ) (who : Applicant) (book : List CaaRecord) (ns : List Name) →
+    (map (authorization who (map (renumbered f) book)) ns ≡ map (renumberedAuthorization f) (map (authorization who book) ns))
+    × ((d : List ℕ) → verdict d (map (authorization who (map (renumbered f) book)) ns) ≡ renumberedVerdict f (verdict d (map (authorization who book) ns)))
+    × (issuers (map (authorization who (map (renumbered f) book)) ns) ≡ issuers (map (authorization who book) ns))

@@ -5,4 +5,5 @@ pub mod DomainNames
 pub mod Parameters
 pub mod ParameterParts
 pub mod Values
+pub mod NamedParameters
 pub mod Table

@@ -59,7 +59,7 @@ joined p (k ∷ ps) h =
 one-parameter : {a q b : List ℕ} → blanks a → parameter q → blanks b → isParameter (a ++ (q ++ b)) ≡ true
 one-parameter {a} {q} {b} front body back = parameter-matches (a ++ (q ++ b)) .1 (a, q ++ b, refl, front, (q, b, refl, body, back))
 
-pieces : {q : List ℕ} → parameters q → {a b : List ℕ} → blanks a → blanks b → all isParameter (split (code ";") (a ++ (q ++ b))) ≡ true
+pub pieces : {q : List ℕ} → parameters q → {a b : List ℕ} → blanks a → blanks b → all isParameter (split (code ";") (a ++ (q ++ b))) ≡ true
 pieces (last body) front back = rw (split-one (code ";") (parameter-free front body back), one-parameter front body back)
 pieces (more x y e m rest) {a} {b} front back =
     let (q, r₁, e₁, body, m₁) = m in

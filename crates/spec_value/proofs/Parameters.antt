@@ -32,7 +32,7 @@ unfolding isLetterDigitHyphen isLetterOrDigit isUpper isLower isDigit
 tag-octets = (refl, refl, refl, refl)
 
 -- the test of a tag and its production
-tag-matches : (t : List ℕ) → (isParameterTag t ≡ true) ↔ tag t
+pub tag-matches : (t : List ℕ) → (isParameterTag t ≡ true) ↔ tag t
 unfolding isParameterTag
 tag-matches t = label-is-the-production t
 
@@ -40,7 +40,7 @@ tag-plain : (t : List ℕ) → isParameterTag t ≡ true → Of isTagOctet t
 unfolding isParameterTag
 tag-plain t h = label-parts t .0 h .0
 
-no-empty-tag : isParameterTag [] ≡ false
+pub no-empty-tag : isParameterTag [] ≡ false
 unfolding isParameterTag isLabel
 no-empty-tag = refl
 
@@ -123,7 +123,10 @@ value-behind t s = let made = pieces-join (code "=") s (split (code "=") s) .0 r
 tag-not-blank : (x : ℕ) → isTagOctet x ≡ true → isBlank x ≡ false
 tag-not-blank = not-blank isTagOctet (tag-octets .0) (tag-octets .1)
 
-value-blankless : {v : List ℕ} → Of isParameterOctet v → Blankless v
+pub tag-blankless : (t : List ℕ) → isParameterTag t ≡ true → Blankless t
+tag-blankless t h = All-imp tag-not-blank (tag-plain t h)
+
+pub value-blankless : {v : List ℕ} → Of isParameterOctet v → Blankless v
 unfolding isParameterOctet
 value-blankless = All-imp (not-blank isParameterOctet refl refl)
 
@@ -136,20 +139,25 @@ equals-not-blank : isBlank (code "=") ≡ false
 unfolding isBlank
 equals-not-blank = refl
 
-passes : {a b s : List ℕ} → Blank a → Spelled s → Blank b → isParameter (a ++ (s ++ b)) ≡ true
-unfolding isParameter
-passes {a} {b} {s} front p back =
+-- with blanks around it, a parameter is cut behind its tag and the blanks there
+pub cut-at-equals : {a b s : List ℕ} → Blank a → (p : Spelled s) → Blank b →
+    split (code "=") (trim (a ++ (s ++ b))) ≡ (p .first ∷ p .others ++ p .before) ∷ split (code "=") (trimEnd (p .after ++ (p .octets ++ b)))
+cut-at-equals {a} {b} {s} front p back =
     let x = p .first in
     let t = p .others in
     let plain = tag-plain (x ∷ t) (p .tagged) in
     let r = p .after ++ (p .octets ++ b) in
     let shape : s ++ b ≡ (x ∷ t ++ p .before) ++ (code "=" ∷ r) = rw (p .whole) (simp append-assoc) in
+    rw (shape, trim-within front x (tag-not-blank x (All-head plain)) (t ++ p .before) (code "=") equals-not-blank r)
+    (split-more (code "=") (equals-apart plain (p .blank-before)) (trimEnd r))
+
+passes : {a b s : List ℕ} → Blank a → Spelled s → Blank b → isParameter (a ++ (s ++ b)) ≡ true
+unfolding isParameter
+passes {a} {b} {s} front p back =
     rw (
-      shape,
-      trim-within front x (tag-not-blank x (All-head plain)) (t ++ p .before) (code "=") equals-not-blank r,
-      split-more (code "=") (equals-apart plain (p .blank-before)) (trimEnd r),
-      value-behind (x ∷ t ++ p .before) (trimEnd r),
-      trimEnd-leaves (All-imp tag-not-blank plain) (p .blank-before),
+      cut-at-equals front p back,
+      value-behind (p .first ∷ p .others ++ p .before) (trimEnd (p .after ++ (p .octets ++ b))),
+      trimEnd-leaves (tag-blankless (p .first ∷ p .others) (p .tagged)) (p .blank-before),
       p .tagged,
       trim-leaves (p .blank-after) (value-blankless (p .valued)) back,
     )

@@ -2,9 +2,10 @@
 use Prim.Native.Nat.{ℕ}
 use Prim.Native.Char.{code}
 use mathlib.Core.Path.{_≡_}
-use mathlib.Core.List.{List, _++_}
+use mathlib.Core.List.{List, [], _∷_, _++_}
 use Rattle.spec_octets.specs.Octets.{isBlank, isParameterOctet}
 use Rattle.spec_octets.specs.Grammar.{Production, one, lit, _⊕_, optional, many, label}
+use Rattle.spec_value.specs.Parameters.{Parameter}
 
 -- *WSP
 abbrev pub blanks : Production
@@ -41,3 +42,28 @@ valueWithoutName = blanks ⊕ parameterPart
 
 abbrev pub valueWithName : List ℕ → Production
 valueWithName n = blanks ⊕ (λ s. (s ≡ n) × issuerDomainName s) ⊕ blanks ⊕ parameterPart
+
+-- The same productions, with what they match named: the name n and the parameters ps.
+
+-- A production, and which text it matches.
+abbrev pub exactly : List ℕ → Production → Production
+exactly t p s = (s ≡ t) × p s
+
+-- parameter, with its tag and its value
+abbrev pub parameterOf : Parameter → Production
+parameterOf p = exactly (p .tag) tag ⊕ blanks ⊕ lit (code "=") ⊕ blanks ⊕ exactly (p .value) value
+
+-- parameters, with each of them
+abbrev pub parametersOf : List Parameter → Production
+parametersOf [] s = ⊥
+parametersOf (p ∷ []) s = parameterOf p s
+parametersOf (p ∷ q ∷ ps) s = (parameterOf p ⊕ blanks ⊕ lit (code ";") ⊕ blanks ⊕ parametersOf (q ∷ ps)) s
+
+-- [";" *WSP [parameters *WSP]], without parameters, and with them
+abbrev pub parameterPartOf : List Parameter → Production
+parameterPartOf [] = optional (lit (code ";") ⊕ blanks)
+parameterPartOf (p ∷ ps) = lit (code ";") ⊕ blanks ⊕ parametersOf (p ∷ ps) ⊕ blanks
+
+-- issue-value, with the name n and the parameters ps
+abbrev pub valueOf : List ℕ → List Parameter → Production
+valueOf n ps = blanks ⊕ exactly n issuerDomainName ⊕ blanks ⊕ parameterPartOf ps

@@ -3,15 +3,21 @@ use spec_line::LineAnswer;
 use spec_rule::Judgement;
 use spec_rule::PermittedIssuers;
 ghost use mathlib.Core.Path.{_≡_};
-ghost use Rattle.spec_answers.specs.Door.{caaJudge, caaPermittedIssuers, caaWriteLine, caaReadLine};
+ghost use Rattle.spec_answers.specs.Door.{caaJudgeFor, caaPermittedIssuersFor, caaWriteLine, caaReadLine};
 ghost use Rattle.spec_answers.specs.LineAnswers.{packedLine};
 
-// May this issuer issue? 0: permitted. 20 and 21: name number in a, record number in b. A refusal: its place (spec_refusal) in a.
+// May this issuer issue, for this account and by this method? 0: permitted. 20 and 21: name number in a, record number in b. A refusal: its place (spec_refusal) in a.
 #[no_mangle]
-pub extern "C" fn caa_judge(request: &[u8], issuer: &[u8], book: &[u8]) -> u64
-    ensures { λ r. ⌜ r ≡ caaJudge (now (request .entry)) (now (issuer .entry)) (now (book .entry)) ⌝ }
+pub extern "C" fn caa_judge_for(
+    request: &[u8],
+    issuer: &[u8],
+    account: &[u8],
+    method: &[u8],
+    book: &[u8],
+) -> u64
+    ensures { λ r. ⌜ r ≡ caaJudgeFor (now (request .entry)) (now (issuer .entry)) (record { account = now (account .entry); method = now (method .entry) }) (now (book .entry)) ⌝ }
 {
-    match judge_call::judge(request, issuer, book) {
+    match judge_call::judge(request, issuer, account, method, book) {
         Judgement::Permitted => 0,
         Judgement::UnknownCritical(d) => {
             let name = d.name;
@@ -27,13 +33,19 @@ pub extern "C" fn caa_judge(request: &[u8], issuer: &[u8], book: &[u8]) -> u64
     }
 }
 
-// Who may issue? 30: anyone. 31: a list at the start of the buffer, with its octets in a and its count in b. A refusal: place in a.
+// Who may issue, for this account and by this method? 30: anyone. 31: a list at the start of the buffer, with its octets in a and its count in b. A refusal: place in a.
 #[no_mangle]
-pub extern "C" fn caa_permitted_issuers(request: &[u8], book: &[u8], buffer: &mut [u8]) -> u64
-    ensures answer { λ r. ⌜ r ≡ caaPermittedIssuers (now (request .entry)) (now (book .entry)) (now (buffer .entry)) .word ⌝ }
-    ensures octets { λ r. ⌜ now (buffer .exit) ≡ caaPermittedIssuers (now (request .entry)) (now (book .entry)) (now (buffer .entry)) .buffer ⌝ }
+pub extern "C" fn caa_permitted_issuers_for(
+    request: &[u8],
+    account: &[u8],
+    method: &[u8],
+    book: &[u8],
+    buffer: &mut [u8],
+) -> u64
+    ensures answer { λ r. ⌜ r ≡ caaPermittedIssuersFor (now (request .entry)) (record { account = now (account .entry); method = now (method .entry) }) (now (book .entry)) (now (buffer .entry)) .word ⌝ }
+    ensures octets { λ r. ⌜ now (buffer .exit) ≡ caaPermittedIssuersFor (now (request .entry)) (record { account = now (account .entry); method = now (method .entry) }) (now (book .entry)) (now (buffer .entry)) .buffer ⌝ }
 {
-    match list_call::permitted_issuers(request, book, buffer) {
+    match list_call::permitted_issuers(request, account, method, book, buffer) {
         PermittedIssuers::Anyone => spec_packed::pack(30, 0, 0, 0),
         PermittedIssuers::Listed { count, octets } => spec_packed::pack(
             31,

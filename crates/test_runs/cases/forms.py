@@ -4,7 +4,10 @@ from collections import namedtuple
 FILL = ord("_")  # what every lent buffer holds before its call
 TITLE_ROOM, SHOWN = 60, 64  # as in src/main.rt
 
-Case = namedtuple("Case", "title call request issuer book room answer made")
+Case = namedtuple("Case", "title call request issuer account method book room answer made")
+
+# The account and the method of a case, if it tells no others. No record of such a case sets a limit.
+ACCOUNT, METHOD = "https://ca1.example.net/account/1", "dns-01"
 
 
 # Wire forms.
@@ -80,17 +83,18 @@ def room_for(made):
     return len(made) + 3 if made else 20
 
 
-def judge(title, request, issuer, book, answer):
-    return Case(title, 1, request, octets(issuer), book, 0, answer, b"")
+def judge(title, request, issuer, book, answer, account=ACCOUNT, method=METHOD):
+    return Case(title, 1, request, octets(issuer), octets(account), octets(method), book, 0, answer, b"")
 
 
-def listed(title, request, book, answer, room=None):
+def listed(title, request, book, answer, room=None, account=ACCOUNT, method=METHOD):
     """The answer is ANYONE, a refusal, or the listed names: "each permitted issuer name as one length octet and the name"."""
     made = b""
     if isinstance(answer, list):
         made = b"".join(bytes([len(n)]) + octets(n) for n in answer)
         answer = (31, len(made), len(answer))
-    return Case(title, 2, request, b"", book, room_for(made) if room is None else room, answer, made)
+    return Case(title, 2, request, b"", octets(account), octets(method), book, room_for(made) if room is None else room, answer,
+                made)
 
 
 def asked(title, request, book, answers, who):
@@ -104,7 +108,7 @@ def of_line(title, call, given, answer, room):
     if not isinstance(answer, tuple):
         made = octets(answer)
         answer = (0, len(made), 0)
-    return Case(title, call, octets(given), b"", b"", room_for(made) if room is None else room, answer, made)
+    return Case(title, call, octets(given), b"", b"", b"", b"", room_for(made) if room is None else room, answer, made)
 
 
 def write(title, data_, answer, room=None):
@@ -125,8 +129,8 @@ def part(s):
 
 def case_octets(case):
     assert len(case.title) <= TITLE_ROOM, case.title
-    return (part(octets(case.title)) + number(case.call) + part(case.request) + part(case.issuer) + part(case.book)
-            + number(case.room))
+    return (part(octets(case.title)) + number(case.call) + part(case.request) + part(case.issuer) + part(case.account)
+            + part(case.method) + part(case.book) + number(case.room))
 
 
 def shown(octet):

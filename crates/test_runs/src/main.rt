@@ -2,8 +2,8 @@
 // output.
 //
 // Numbers in cases.bin are three octets in network byte order. A part is a number and that many octets. The file has the number of cases,
-// and for each case its title, call, request (or data, or line), issuer domain name, book, and buffer length; call and buffer length are
-// numbers, the others parts.
+// and for each case its title, call, request (or data, or line), issuer domain name, account, method, book, and buffer length; call and
+// buffer length are numbers, the others parts.
 //
 // Proved: the program is memory-safe and terminates, and `answer` makes the call with the given number on its inputs in order.
 use libc::STDOUT_FILENO;
@@ -18,6 +18,9 @@ const TITLE_ROOM: usize = 60;
 const ROOM: usize = 50000;
 
 const ISSUER_ROOM: usize = 300;
+
+// For an account, and for a method.
+const ACCOUNT_ROOM: usize = 300;
 
 // How many octets of a buffer are printed.
 const SHOWN: usize = 64;
@@ -115,15 +118,23 @@ fn print_answer(packed: u64) {
 }
 
 // The packed answer of the call with this number: 1 judges, 2 lists, 3 writes a line, 4 reads one.
-fn answer(call: usize, request: &[u8], issuer: &[u8], book: &[u8], buffer: &mut [u8]) -> u64
-    ensures packed { λ r. ⌜ r ≡ answerOf call (now (request .entry)) (now (issuer .entry)) (now (book .entry)) (now (buffer .entry)) ⌝ }
-    ensures octets { λ r. ⌜ now (buffer .exit) ≡ bufferAfter call (now (request .entry)) (now (book .entry)) (now (buffer .entry)) ⌝ }
+fn answer(
+    call: usize,
+    request: &[u8],
+    issuer: &[u8],
+    account: &[u8],
+    method: &[u8],
+    book: &[u8],
+    buffer: &mut [u8],
+) -> u64
+    ensures packed { λ r. ⌜ r ≡ answerOf call (now (request .entry)) (now (issuer .entry)) (record { account = now (account .entry); method = now (method .entry) }) (now (book .entry)) (now (buffer .entry)) ⌝ }
+    ensures octets { λ r. ⌜ now (buffer .exit) ≡ bufferAfter call (now (request .entry)) (record { account = now (account .entry); method = now (method .entry) }) (now (book .entry)) (now (buffer .entry)) ⌝ }
 {
     if call == 1 {
-        return splinepearl::caa_judge(request, issuer, book);
+        return splinepearl::caa_judge_for(request, issuer, account, method, book);
     }
     if call == 2 {
-        return splinepearl::caa_permitted_issuers(request, book, buffer);
+        return splinepearl::caa_permitted_issuers_for(request, account, method, book, buffer);
     }
     if call == 3 {
         return splinepearl::caa_write_line(request, buffer);
@@ -132,8 +143,16 @@ fn answer(call: usize, request: &[u8], issuer: &[u8], book: &[u8], buffer: &mut 
 }
 
 // Runs a case and prints the rest of its line.
-fn run(call: usize, request: &[u8], issuer: &[u8], book: &[u8], buffer: &mut [u8]) {
-    print_answer(answer(call, request, issuer, book, buffer));
+fn run(
+    call: usize,
+    request: &[u8],
+    issuer: &[u8],
+    account: &[u8],
+    method: &[u8],
+    book: &[u8],
+    buffer: &mut [u8],
+) {
+    print_answer(answer(call, request, issuer, account, method, book, buffer));
     if call != 1 {
         print_buffer(buffer);
     }
@@ -141,24 +160,67 @@ fn run(call: usize, request: &[u8], issuer: &[u8], book: &[u8], buffer: &mut [u8
 }
 
 // These functions read a case, each one part of it, and return whether it is complete.
-fn run_with_room(fd: i32, call: usize, request: &[u8], issuer: &[u8], book: &[u8]) -> bool {
+fn run_with_room(
+    fd: i32,
+    call: usize,
+    request: &[u8],
+    issuer: &[u8],
+    account: &[u8],
+    method: &[u8],
+    book: &[u8],
+) -> bool {
     let room = read_number(fd);
     if ROOM < room {
         return false;
     }
     let mut buffer = [b'_'; ROOM];
-    run(call, request, issuer, book, &mut buffer[..room]);
+    run(
+        call,
+        request,
+        issuer,
+        account,
+        method,
+        book,
+        &mut buffer[..room],
+    );
     true
 }
 
-fn run_with_book(fd: i32, call: usize, request: &[u8], issuer: &[u8]) -> bool {
+fn run_with_book(
+    fd: i32,
+    call: usize,
+    request: &[u8],
+    issuer: &[u8],
+    account: &[u8],
+    method: &[u8],
+) -> bool {
     let mut book = [0u8; ROOM];
     let read = read_part(fd, &mut book);
     if !read.whole {
         return false;
     }
     let n = read.length;
-    run_with_room(fd, call, request, issuer, &book[..n])
+    run_with_room(fd, call, request, issuer, account, method, &book[..n])
+}
+
+fn run_with_method(fd: i32, call: usize, request: &[u8], issuer: &[u8], account: &[u8]) -> bool {
+    let mut method = [0u8; ACCOUNT_ROOM];
+    let read = read_part(fd, &mut method);
+    if !read.whole {
+        return false;
+    }
+    let n = read.length;
+    run_with_book(fd, call, request, issuer, account, &method[..n])
+}
+
+fn run_with_account(fd: i32, call: usize, request: &[u8], issuer: &[u8]) -> bool {
+    let mut account = [0u8; ACCOUNT_ROOM];
+    let read = read_part(fd, &mut account);
+    if !read.whole {
+        return false;
+    }
+    let n = read.length;
+    run_with_method(fd, call, request, issuer, &account[..n])
 }
 
 fn run_with_issuer(fd: i32, call: usize, request: &[u8]) -> bool {
@@ -168,7 +230,7 @@ fn run_with_issuer(fd: i32, call: usize, request: &[u8]) -> bool {
         return false;
     }
     let n = read.length;
-    run_with_book(fd, call, request, &issuer[..n])
+    run_with_account(fd, call, request, &issuer[..n])
 }
 
 fn run_call(fd: i32) -> bool {

@@ -3,6 +3,26 @@
 // Each test program uses its own part of this.
 #![allow(dead_code)]
 
+use splinepearl::{Judgement, PermittedIssuers};
+
+/// A good account text and a good method text.
+pub const ACCOUNT: &[u8] = b"https://ca1.example.net/acct/230123";
+pub const METHOD: &[u8] = b"dns-01";
+
+/// [`splinepearl::judge`] for the good account and method.
+pub fn judge(request: &[u8], issuer: &[u8], book: &[u8]) -> Judgement {
+    splinepearl::judge(request, issuer, ACCOUNT, METHOD, book)
+}
+
+/// [`splinepearl::permitted_issuers`] for the good account and method.
+pub fn permitted_issuers<'a>(
+    request: &[u8],
+    book: &[u8],
+    buffer: &'a mut [u8],
+) -> PermittedIssuers<'a> {
+    splinepearl::permitted_issuers(request, ACCOUNT, METHOD, book, buffer)
+}
+
 /// A name in wire form.
 pub fn name(text: &str) -> Vec<u8> {
     let mut wire = Vec::new();

@@ -1,5 +1,6 @@
 //! The two calls over the rule with its mistakes. Refusals are left to the right ones.
 
+use compare::applicant::Applicant;
 use compare::buffer::put_at_front;
 use compare::{Answer, Permitted, Word};
 
@@ -7,13 +8,20 @@ use super::book::taken_as;
 use super::mistake::Mistake;
 use super::rule::{same_up_to_128_octets, standings, Standing};
 
-pub fn judge(request: &[u8], issuer: &[u8], book: &[u8]) -> Result<Answer, Word> {
+pub fn judge(
+    request: &[u8],
+    issuer: &[u8],
+    account: &[u8],
+    method: &[u8],
+    book: &[u8],
+) -> Result<Answer, Word> {
     let book: &[u8] = &taken_as(request, book);
-    if let refused @ Answer::Refused(_) = compare::judge(request, issuer, book) {
+    if let refused @ Answer::Refused(_) = compare::judge(request, issuer, account, method, book) {
         return Ok(refused);
     }
+    let applicant = Applicant { account, method };
     let mut against = Vec::new();
-    for (name, standing) in standings(request, book).into_iter().enumerate() {
+    for (name, standing) in standings(request, applicant, book).into_iter().enumerate() {
         match standing {
             Standing::Forbidden { record } => {
                 against.push(Answer::UnknownCritical { name, record });
@@ -50,16 +58,20 @@ fn is_same(grantee: &[u8], issuer: &[u8]) -> bool {
 
 pub fn permitted_issuers(
     request: &[u8],
+    account: &[u8],
+    method: &[u8],
     book: &[u8],
     buffer: &mut [u8],
 ) -> Result<Permitted, Word> {
     let book: &[u8] = &taken_as(request, book);
     let mut enough = vec![0; book.len()];
-    if let refused @ Permitted::Refused(_) = compare::permitted_issuers(request, book, &mut enough)
+    if let refused @ Permitted::Refused(_) =
+        compare::permitted_issuers(request, account, method, book, &mut enough)
     {
         return Ok(refused);
     }
-    let Some(listed) = listed(standings(request, book)) else {
+    let applicant = Applicant { account, method };
+    let Some(listed) = listed(standings(request, applicant, book)) else {
         return Ok(Permitted::Anyone);
     };
     let entries = listed

@@ -2,6 +2,7 @@
 
 mod book;
 mod calls;
+mod limits;
 mod mistake;
 mod rule;
 
@@ -19,7 +20,7 @@ const LIST: Other = Other {
     ..Other::NOTHING
 };
 
-fn all_are_found_out(other: Other, groups: [&[Mistake]; 4]) {
+fn all_are_found_out(other: Other, groups: [&[Mistake]; 5]) {
     let is_missed = |mistake: &Mistake| {
         mistake.is_made_from_now_on();
         !is_found_at_random(other)
@@ -46,6 +47,7 @@ fn mistakes_in_judging_are_found_out() {
             Mistake::IN_THE_BOOK,
             Mistake::IN_THE_LOOK,
             Mistake::IN_THE_SET,
+            Mistake::IN_THE_LIMITS,
             Mistake::IN_THE_VERDICT,
         ],
     );
@@ -59,6 +61,7 @@ fn mistakes_in_listing_are_found_out() {
             Mistake::IN_THE_BOOK,
             Mistake::IN_THE_LOOK,
             Mistake::IN_THE_SET,
+            Mistake::IN_THE_LIMITS,
             Mistake::IN_THE_LIST,
         ],
     );

@@ -1,11 +1,13 @@
 //! The rule of issue once more, with room for mistakes. Names are in wire form.
 
+use compare::applicant::Applicant;
 use compare::book::{read_property, read_raw_record, Property};
 use compare::limits::{ISSUER_OCTETS, LABEL_OCTETS};
 use compare::request::read_requested_name;
 use compare::value::{leading_blanks, IssueValue};
 use compare::{read_issuer, read_value};
 
+use super::limits::limits_are_met;
 use super::mistake::Mistake;
 
 pub enum Standing<'a> {
@@ -19,9 +21,13 @@ pub enum Standing<'a> {
     },
 }
 
-/// How each name of a good request stands by a good book.
-pub fn standings<'a>(request: &[u8], book: &'a [u8]) -> Vec<Standing<'a>> {
-    let records = caa_records(book);
+/// How each name of a good request stands by a good book, for a good applicant.
+pub fn standings<'a>(
+    request: &[u8],
+    applicant: Applicant<'a>,
+    book: &'a [u8],
+) -> Vec<Standing<'a>> {
+    let records = caa_records(book, applicant);
     let mut standings = Vec::new();
     let mut rest = request;
     while let Some((requested, behind)) = read_requested_name(rest) {
@@ -40,9 +46,10 @@ struct Record<'a> {
     number: usize,
     owner: &'a [u8],
     property: Property<'a>,
+    applicant: Applicant<'a>,
 }
 
-fn caa_records(book: &[u8]) -> Vec<Record<'_>> {
+fn caa_records<'a>(book: &'a [u8], applicant: Applicant<'a>) -> Vec<Record<'a>> {
     let mut records = Vec::new();
     let mut numbered = 0;
     let mut rest = book;
@@ -55,6 +62,7 @@ fn caa_records(book: &[u8]) -> Vec<Record<'_>> {
                 number: numbered,
                 owner: &rest[..labels + 1],
                 property,
+                applicant,
             });
         }
         if is_caa || !Mistake::CaaRecordsAloneAreNumbered.is_made() {
@@ -159,7 +167,7 @@ fn standing<'a>(set: &[&Record<'a>], wildcard: bool) -> Standing<'a> {
             record: record.number,
             grantees: governing
                 .iter()
-                .filter_map(|record| grantee(record.property.value))
+                .filter_map(|record| record.grantee())
                 .collect(),
         },
     }
@@ -222,8 +230,14 @@ impl Record<'_> {
                     || Mistake::BadValuesOfIssuewildAreAbsent.is_made() && self.has_tag("issuewild")
             }
             IssueValue::NoName => Mistake::ValuesWithoutNameAreAbsent.is_made(),
-            IssueValue::Name(name) => match Beyond::of(name) {
-                None => false,
+            IssueValue::Name { name, parameters } => match Beyond::of(name) {
+                None => {
+                    let is_met = limits_are_met(&parameters, self.applicant);
+                    !is_met && Mistake::UnmetLimitsAreAbsent.is_made()
+                        || !is_met
+                            && Mistake::UnmetLimitsOfIssuewildAreAbsent.is_made()
+                            && self.has_tag("issuewild")
+                }
                 Some(Beyond::Label) => Mistake::NamesWithLongLabelsAreAbsent.is_made(),
                 Some(Beyond::Whole) => Mistake::LongNamesAreAbsent.is_made(),
             },
@@ -256,13 +270,21 @@ fn reading(value: &[u8]) -> IssueValue<'_> {
             .enumerate()
             .map(|(number, part)| taken_as(number, part)),
     );
-    // The name stands before all parameters, so it is where it was.
     match read_value(&parts.join(&b';')) {
         IssueValue::Malformed => IssueValue::Malformed,
         IssueValue::NoName => IssueValue::NoName,
-        IssueValue::Name(name) => {
+        // The name stands before all parameters, so it is where it was. Those of a value that fits
+        // by a mistake alone are left out.
+        IssueValue::Name { name, .. } => {
             let begins = leading_blanks(value);
-            IssueValue::Name(&value[begins..begins + name.len()])
+            let parameters = match read_value(value) {
+                IssueValue::Name { parameters, .. } => parameters,
+                _ => Vec::new(),
+            };
+            IssueValue::Name {
+                name: &value[begins..begins + name.len()],
+                parameters,
+            }
         }
     }
 }
@@ -299,25 +321,35 @@ fn taken_as(number: usize, parameter: Vec<u8>) -> Vec<u8> {
     }
 }
 
-/// In the letters of the record.
-fn grantee(value: &[u8]) -> Option<&[u8]> {
-    let name = match reading(value) {
-        IssueValue::Name(name) => name,
-        IssueValue::Malformed if Mistake::BadValuesGrantTheirFront.is_made() => {
-            value[..value.iter().position(|&octet| octet == b';')?].trim_ascii()
+impl<'a> Record<'a> {
+    /// In the letters of the record.
+    fn grantee(&self) -> Option<&'a [u8]> {
+        let value = self.property.value;
+        let name = match reading(value) {
+            IssueValue::Name { name, parameters } => {
+                let ignored =
+                    Mistake::LimitsOfIssuewildAreIgnored.is_made() && self.has_tag("issuewild");
+                if !ignored && !limits_are_met(&parameters, self.applicant) {
+                    return None;
+                }
+                name
+            }
+            IssueValue::Malformed if Mistake::BadValuesGrantTheirFront.is_made() => {
+                value[..value.iter().position(|&octet| octet == b';')?].trim_ascii()
+            }
+            IssueValue::NoName | IssueValue::Malformed => return None,
+        };
+        match Beyond::of(name) {
+            None => Some(name),
+            Some(Beyond::Label) if Mistake::NamesWithLongLabelsAreListed.is_made() => Some(name),
+            Some(Beyond::Label) if Mistake::NamesWithLongLabelsGrantTheirFront.is_made() => {
+                Some(&name[..LABEL_OCTETS])
+            }
+            Some(Beyond::Whole) if Mistake::LongNamesAreListed.is_made() => Some(name),
+            Some(Beyond::Whole) if Mistake::LongNamesGrantTheirFront.is_made() => {
+                Some(&name[..ISSUER_OCTETS])
+            }
+            Some(_) => None,
         }
-        IssueValue::NoName | IssueValue::Malformed => return None,
-    };
-    match Beyond::of(name) {
-        None => Some(name),
-        Some(Beyond::Label) if Mistake::NamesWithLongLabelsAreListed.is_made() => Some(name),
-        Some(Beyond::Label) if Mistake::NamesWithLongLabelsGrantTheirFront.is_made() => {
-            Some(&name[..LABEL_OCTETS])
-        }
-        Some(Beyond::Whole) if Mistake::LongNamesAreListed.is_made() => Some(name),
-        Some(Beyond::Whole) if Mistake::LongNamesGrantTheirFront.is_made() => {
-            Some(&name[..ISSUER_OCTETS])
-        }
-        Some(_) => None,
     }
 }

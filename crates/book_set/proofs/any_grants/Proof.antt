@@ -9,10 +9,10 @@ use Rattle.book_set.proofs.any_grants.Statement.{statement}
 use Rattle.book_set.proofs.any_grants.Tie as tie
 
 abbrev Inv-loop : tie.InvT-loop
-Inv-loop book table links first tag issuer from₀ from = GrantsLeft tag issuer book table links first (ownerAt book table first) from
+Inv-loop book table links first tag issuer account method from₀ from = GrantsLeft (record { account = account; method = method }) tag issuer book table links first (ownerAt book table first) from
 
 abbrev μ-loop : tie.MeasureT-loop
-μ-loop book table links first tag issuer from₀ from = length (ownedFrom book table links (ownerAt book table first) from)
+μ-loop book table links first tag issuer account method from₀ from = length (ownedFrom book table links (ownerAt book table first) from)
 
 loop-holds : tie.Need-loop-holds Inv-loop μ-loop
 loop-holds c = search (needs, grants-start)

@@ -10,8 +10,8 @@ index-book-requires c κs = search needs
 judge-names-requires : tie.Need-judge-names-requires
 judge-names-requires c κs =
     let indexed = c .before .before .before .before .before .before .before .before .before .before in
-    let start = indexed .before .before .before .before .before .before .before .before .before .before .before in
-    made-ready _ _ _ _ _ _ _ (start .pre) _ _ _ (indexed .index-book .ensures .0) (indexed .index-book .ensures .1 .0) (indexed .index-book .ensures .1 .1)
+    let start = indexed .before .before .before .before .before .before .before .before .before .before .before .before .before in
+    made-ready _ _ _ _ _ _ _ _ (start .pre) _ _ _ (indexed .index-book .ensures .0) (indexed .index-book .ensures .1 .0) (indexed .index-book .ensures .1 .1)
 
 same-length : tie.Need-same-length
 same-length c = search needs

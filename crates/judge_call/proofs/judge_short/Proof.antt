@@ -19,7 +19,7 @@ slice-aggregate-judge-in-3 c = search needs
 
 judge-in-requires : tie.Need-judge-in-requires
 unfolding maxRecords fewRecords shortBook noRecord
-judge-in-requires c κs = lent-short _ _ _ _ (search needs) _ _ _ (search needs) refl refl refl
+judge-in-requires c κs = lent-short _ _ _ _ _ (search needs) _ _ _ (search needs) refl refl refl
 
 same-length : tie.Need-same-length
 same-length c = search needs

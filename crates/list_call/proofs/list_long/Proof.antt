@@ -22,7 +22,7 @@ slice-aggregate-list-in-4 c = search needs
 
 list-in-requires : tie.Need-list-in-requires
 unfolding maxRecords fewRecords shortBook noRecord
-list-in-requires c κs = lent-long _ _ _ (search needs) _ _ _ (search needs) refl refl refl
+list-in-requires c κs = lent-long _ _ _ _ (search needs) _ _ _ (search needs) refl refl refl
 
 same-length : tie.Need-same-length
 same-length c = search needs

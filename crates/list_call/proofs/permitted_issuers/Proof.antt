@@ -8,14 +8,14 @@ use Rattle.list_call.proofs.CallWays.{halves, call-refused, heads-lent}
 use Rattle.list_call.proofs.permitted_issuers.Statement.{statement}
 use Rattle.list_call.proofs.permitted_issuers.Tie as tie
 
-check-request-and-book-requires : tie.Need-check-request-and-book-requires
-check-request-and-book-requires c κs = search needs
+check-list-inputs-requires : tie.Need-check-list-inputs-requires
+check-list-inputs-requires c κs = search needs
 
 enum-known-r : tie.Need-enum-known-r
 enum-known-r c = search needs
 
 returns : tie.Need-returns
-returns c = halves _ _ _ (search (needs, call-refused))
+returns c = halves _ _ _ _ (search (needs, call-refused))
 
 enum-told : tie.Need-enum-told
 enum-told c = search needs
@@ -25,7 +25,7 @@ slice-aggregate-list-short c = search needs
 
 list-short-requires : tie.Need-list-short-requires
 unfolding maxRecords fewRecords shortBook noRecord
-list-short-requires c κs = (heads-lent _ _ _ (c .before .before .before .before .before .check-request-and-book .ensures) (search needs) _ refl, search needs)
+list-short-requires c κs = (heads-lent _ _ _ _ (c .before .before .before .before .before .check-list-inputs .ensures) (search needs) _ refl, search needs)
 
 same-length : tie.Need-same-length
 same-length c = search needs
@@ -38,7 +38,7 @@ slice-aggregate-list-long c = search needs
 
 list-long-requires : tie.Need-list-long-requires
 unfolding maxRecords fewRecords shortBook noRecord
-list-long-requires c κs = (heads-lent _ _ _ (c .before .before .before .before .before .check-request-and-book .ensures) (search needs) _ refl, search needs)
+list-long-requires c κs = (heads-lent _ _ _ _ (c .before .before .before .before .before .check-list-inputs .ensures) (search needs) _ refl, search needs)
 
 same-length-2 : tie.Need-same-length-2
 same-length-2 c = search needs
@@ -50,7 +50,7 @@ pub permitted-issuers-spec : {M : Type 1} → statement M
 permitted-issuers-spec =
     tie.close
     (tie.spec
-    check-request-and-book-requires
+    check-list-inputs-requires
     enum-known-r
     returns
     enum-told

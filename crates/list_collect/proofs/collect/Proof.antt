@@ -8,10 +8,10 @@ use Rattle.list_collect.proofs.collect.Statement.{statement}
 use Rattle.list_collect.proofs.collect.Tie as tie
 
 abbrev Inv-loop : tie.InvT-loop
-Inv-loop book table links by names₀ count₀ at₀ names count at = Collecting book table links by names₀ names count at
+Inv-loop account method book table links by names₀ count₀ at₀ names count at = Collecting (record { account = account; method = method }) book table links by names₀ names count at
 
 abbrev μ-loop : tie.MeasureT-loop
-μ-loop book table links by names₀ count₀ at₀ names count at = length (grantsFrom book table links by at)
+μ-loop account method book table links by names₀ count₀ at₀ names count at = length (grantsFrom (record { account = account; method = method }) book table links by at)
 
 loop-holds : tie.Need-loop-holds Inv-loop μ-loop
 loop-holds c = search (needs, collect-start)

@@ -8,10 +8,10 @@ use Rattle.list_collect.proofs.narrow.Statement.{statement}
 use Rattle.list_collect.proofs.narrow.Tie as tie
 
 abbrev Inv-loop : tie.InvT-loop
-Inv-loop book table links by names count rounds₀ t at₀ rounds at = Narrowing book table links by names count t rounds₀ rounds at
+Inv-loop account method book table links by names count rounds₀ t at₀ rounds at = Narrowing (record { account = account; method = method }) book table links by names count t rounds₀ rounds at
 
 abbrev μ-loop : tie.MeasureT-loop
-μ-loop book table links by names count rounds₀ t at₀ rounds at = length (grantsFrom book table links by at)
+μ-loop account method book table links by names count rounds₀ t at₀ rounds at = length (grantsFrom (record { account = account; method = method }) book table links by at)
 
 loop-holds : tie.Need-loop-holds Inv-loop μ-loop
 loop-holds c = search (needs, narrow-start)

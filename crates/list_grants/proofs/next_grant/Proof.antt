@@ -10,10 +10,11 @@ use Rattle.list_grants.proofs.next_grant.Statement.{statement}
 use Rattle.list_grants.proofs.next_grant.Tie as tie
 
 abbrev Inv-loop : tie.InvT-loop
-Inv-loop book table links from set tag at₀ at = Left book table links (record { set = set; tag = tag }) from (ownerAt book table set) at
+Inv-loop account method book table links from set tag at₀ at =
+    Left (record { account = account; method = method }) book table links (record { set = set; tag = tag }) from (ownerAt book table set) at
 
 abbrev μ-loop : tie.MeasureT-loop
-μ-loop book table links from set tag at₀ at = length (ownedFrom book table links (ownerAt book table set) at)
+μ-loop account method book table links from set tag at₀ at = length (ownedFrom book table links (ownerAt book table set) at)
 
 loop-holds : tie.Need-loop-holds Inv-loop μ-loop
 loop-holds c = search (needs, walk-start)

@@ -7,10 +7,11 @@ use Rattle.list_kept.proofs.ask_sets.Statement.{statement}
 use Rattle.list_kept.proofs.ask_sets.Tie as tie
 
 abbrev Inv-loop : tie.InvT-loop
-Inv-loop book table links numbers n names₀ rounds₀ p₀ i₀ names rounds p i = Asking book table links numbers n names₀ rounds₀ names rounds p i
+Inv-loop account method book table links numbers n names₀ rounds₀ p₀ i₀ names rounds p i =
+    Asking (record { account = account; method = method }) book table links numbers n names₀ rounds₀ names rounds p i
 
 abbrev μ-loop : tie.MeasureT-loop
-μ-loop book table links numbers n names₀ rounds₀ p₀ i₀ names rounds p i = n - i
+μ-loop account method book table links numbers n names₀ rounds₀ p₀ i₀ names rounds p i = n - i
 
 loop-holds : tie.Need-loop-holds Inv-loop μ-loop
 loop-holds c = search (needs, ask-start)
@@ -22,7 +23,7 @@ same-length-2 : tie.Need-same-length-2 Inv-loop μ-loop
 same-length-2 c = search (needs, names-length, rounds-length)
 
 returns : tie.Need-returns Inv-loop μ-loop
-returns c = asked-parts _ _ _ _ _ _ (search (needs, ask-past))
+returns c = asked-parts _ _ _ _ _ _ _ (search (needs, ask-past))
 
 mul-question : tie.Need-mul-question Inv-loop μ-loop
 mul-question c = search needs
@@ -31,7 +32,7 @@ shared-slice-read-question : tie.Need-shared-slice-read-question Inv-loop μ-loo
 shared-slice-read-question c = search needs
 
 cast-question : tie.Need-cast-question Inv-loop μ-loop
-cast-question c = omega (arith, c .shared-slice-known5 .given (c .before .before .before .loop .i))
+cast-question c = omega (arith, c .shared-slice-known7 .given (c .before .before .before .loop .i))
 
 add-i : tie.Need-add-i Inv-loop μ-loop
 add-i c = search needs
@@ -58,7 +59,7 @@ same-length-4 : tie.Need-same-length-4 Inv-loop μ-loop
 same-length-4 c = search (needs, names-length, rounds-length)
 
 returns-2 : tie.Need-returns-2 Inv-loop μ-loop
-returns-2 c = asked-parts _ _ _ _ _ _ (search (needs, forbidden-found))
+returns-2 c = asked-parts _ _ _ _ _ _ _ (search (needs, forbidden-found))
 
 enum-known-g : tie.Need-enum-known-g Inv-loop μ-loop
 enum-known-g c = search needs
@@ -79,7 +80,7 @@ same-length-6 : tie.Need-same-length-6 Inv-loop μ-loop
 same-length-6 c = search (needs, names-length, rounds-length)
 
 returns-3 : tie.Need-returns-3 Inv-loop μ-loop
-returns-3 c = asked-parts _ _ _ _ _ _ (search (needs, ask-done))
+returns-3 c = asked-parts _ _ _ _ _ _ _ (search (needs, ask-done))
 
 pub ask-sets-spec : {M : Type 1} → statement M
 ask-sets-spec =

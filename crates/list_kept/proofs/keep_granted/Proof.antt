@@ -12,13 +12,13 @@ same-length : tie.Need-same-length
 same-length c = search needs
 
 returns : tie.Need-returns
-returns c = kept-parts _ _ _ _ _ _ _ (search (needs, not-true, first-governs))
+returns c = kept-parts _ _ _ _ _ _ _ _ (search (needs, not-true, first-governs))
 
 narrow-requires : tie.Need-narrow-requires
 narrow-requires c κs = search needs
 
-add-t23 : tie.Need-add-t23
-add-t23 c = search needs
+add-t25 : tie.Need-add-t25
+add-t25 c = search needs
 
 same-length-2 : tie.Need-same-length-2
 same-length-2 c = search needs
@@ -27,7 +27,7 @@ same-length-3 : tie.Need-same-length-3
 same-length-3 c = search needs
 
 returns-2 : tie.Need-returns-2
-returns-2 c = kept-parts _ _ _ _ _ _ _ (search (needs, not-false, further-governs))
+returns-2 c = kept-parts _ _ _ _ _ _ _ _ (search (needs, not-false, further-governs))
 
 pub keep-granted-spec : {M : Type 1} → statement M
 keep-granted-spec =
@@ -37,7 +37,7 @@ keep-granted-spec =
     same-length
     returns
     narrow-requires
-    add-t23
+    add-t25
     same-length-2
     same-length-3
     returns-2)

@@ -1,63 +1,50 @@
 -- `read_grantee` meets its contract.
 use borrow.Author.Needs.{needs}
-use Rattle.read_value.proofs.ValuePlaces.{name-from, name-to}
-use Rattle.read_grantee.proofs.Grantees.{no-name, value-within, first-fits, end-fits, name-no-issuer, name-granted}
+use Rattle.read_grantee.proofs.Grantees.{nobody-there, parameters-to, limits-not-met, limits-kept}
 use Rattle.read_grantee.proofs.read_grantee.Statement.{statement}
 use Rattle.read_grantee.proofs.read_grantee.Tie as tie
 
-value-part-requires : tie.Need-value-part-requires
-value-part-requires c κs = search needs
-
-read-value-requires : tie.Need-read-value-requires
-read-value-requires c κs = search needs
+issuer-in-requires : tie.Need-issuer-in-requires
+issuer-in-requires c κs = search needs
 
 enum-known-n : tie.Need-enum-known-n
 enum-known-n c = search needs
 
+enum-told : tie.Need-enum-told
+enum-told c = search needs
+
 returns : tie.Need-returns
-returns c = search (needs, no-name)
+returns c = search (needs, nobody-there)
 
-sub-name : tie.Need-sub-name
-sub-name c = search (needs, name-from)
+sub-limits-met : tie.Need-sub-limits-met
+sub-limits-met c = search (needs, parameters-to)
 
-part-name-start : tie.Need-part-name-start
-part-name-start c = search (needs, name-from)
+part-limits-met-start : tie.Need-part-limits-met-start
+part-limits-met-start c = search (needs, parameters-to)
 
-part-name-end : tie.Need-part-name-end
-part-name-end c = search (needs, name-to)
+part-limits-met-end : tie.Need-part-limits-met-end
+part-limits-met-end c = search needs
 
-is-issuer-requires : tie.Need-is-issuer-requires
-is-issuer-requires c κs = search needs
+limits-met-requires : tie.Need-limits-met-requires
+limits-met-requires c κs = search needs
 
 returns-2 : tie.Need-returns-2
-returns-2 c = search (needs, name-no-issuer)
-
-sub-start : tie.Need-sub-start
-sub-start c = search (needs, value-within)
-
-add-first : tie.Need-add-first
-add-first c = search (needs, first-fits)
-
-add-end : tie.Need-add-end
-add-end c = search (needs, end-fits)
+returns-2 c = search (needs, limits-not-met)
 
 returns-3 : tie.Need-returns-3
-returns-3 c = search (needs, name-granted)
+returns-3 c = search (needs, limits-kept)
 
 pub read-grantee-spec : {M : Type 1} → statement M
 read-grantee-spec =
     tie.close
     (tie.spec
-    value-part-requires
-    read-value-requires
+    issuer-in-requires
     enum-known-n
+    enum-told
     returns
-    sub-name
-    part-name-start
-    part-name-end
-    is-issuer-requires
+    sub-limits-met
+    part-limits-met-start
+    part-limits-met-end
+    limits-met-requires
     returns-2
-    sub-start
-    add-first
-    add-end
     returns-3)

@@ -1,6 +1,6 @@
 -- `check_inputs` meets its contract.
 use borrow.Author.Needs.{needs}
-use Rattle.read_inputs.proofs.CheckLaws.{refused-here, accepted-here, last-check}
+use Rattle.read_inputs.proofs.CheckLaws.{refused-here, accepted-here}
 use Rattle.read_inputs.proofs.check_inputs.Statement.{statement}
 use Rattle.read_inputs.proofs.check_inputs.Tie as tie
 
@@ -28,11 +28,11 @@ returns-2 c = search (needs, refused-here, accepted-here)
 enum-told-2 : tie.Need-enum-told-2
 enum-told-2 c = search needs
 
-check-book-requires : tie.Need-check-book-requires
-check-book-requires c κs = search needs
+check-applicant-and-book-requires : tie.Need-check-applicant-and-book-requires
+check-applicant-and-book-requires c κs = search needs
 
 returns-3 : tie.Need-returns-3
-returns-3 c = search (needs, accepted-here, last-check)
+returns-3 c = search (needs, accepted-here)
 
 pub check-inputs-spec : {M : Type 1} → statement M
 check-inputs-spec =
@@ -46,5 +46,5 @@ check-inputs-spec =
     enum-known-r-2
     returns-2
     enum-told-2
-    check-book-requires
+    check-applicant-and-book-requires
     returns-3)

@@ -12,8 +12,8 @@ use Rattle.read_value.proofs.read_value.Tie as tie
 piece-end-requires : tie.Need-piece-end-requires
 piece-end-requires c κs = search needs
 
-add-are-parameters : tie.Need-add-are-parameters
-add-are-parameters c = search needs
+add-parameters : tie.Need-add-parameters
+add-parameters c = search needs
 
 sub-are-parameters : tie.Need-sub-are-parameters
 sub-are-parameters c = search needs
@@ -44,7 +44,7 @@ read-value-spec =
     tie.close
     (tie.spec
     piece-end-requires
-    add-are-parameters
+    add-parameters
     sub-are-parameters
     part-are-parameters-start
     part-are-parameters-end

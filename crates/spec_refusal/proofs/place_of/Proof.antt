@@ -38,6 +38,9 @@ enum-told-7 c = search needs
 enum-told-8 : tie.Need-enum-told-8
 enum-told-8 c = search needs
 
+enum-told-9 : tie.Need-enum-told-9
+enum-told-9 c = search needs
+
 returns : tie.Need-returns
 unfolding place maxNames maxRecords
 returns c = search needs
@@ -82,6 +85,10 @@ returns-11 : tie.Need-returns-11
 unfolding place maxNames maxRecords
 returns-11 c = search needs
 
+returns-12 : tie.Need-returns-12
+unfolding place maxNames maxRecords
+returns-12 c = search needs
+
 pub place-of-spec : {M : Type 1} → statement M
 place-of-spec =
     tie.close
@@ -97,6 +104,7 @@ place-of-spec =
     enum-told-6
     enum-told-7
     enum-told-8
+    enum-told-9
     returns
     returns-2
     returns-3
@@ -107,4 +115,5 @@ place-of-spec =
     returns-8
     returns-9
     returns-10
-    returns-11)
+    returns-11
+    returns-12)

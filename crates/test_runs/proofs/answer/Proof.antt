@@ -5,15 +5,15 @@ use borrow.Author.Needs.{needs}
 use Rattle.test_runs.proofs.answer.Statement.{statement}
 use Rattle.test_runs.proofs.answer.Tie as tie
 
-caa-judge-requires : tie.Need-caa-judge-requires
-caa-judge-requires c κs = search needs
+caa-judge-for-requires : tie.Need-caa-judge-for-requires
+caa-judge-for-requires c κs = search needs
 
 returns : tie.Need-returns
 unfolding answerOf bufferAfter
 returns c = search (needs, tests)
 
-caa-permitted-issuers-requires : tie.Need-caa-permitted-issuers-requires
-caa-permitted-issuers-requires c κs = search needs
+caa-permitted-issuers-for-requires : tie.Need-caa-permitted-issuers-for-requires
+caa-permitted-issuers-for-requires c κs = search needs
 
 same-length : tie.Need-same-length
 same-length c = search needs
@@ -46,9 +46,9 @@ pub answer-spec : {M : Type 1} → statement M
 answer-spec =
     tie.close
     (tie.spec
-    caa-judge-requires
+    caa-judge-for-requires
     returns
-    caa-permitted-issuers-requires
+    caa-permitted-issuers-for-requires
     same-length
     returns-2
     caa-write-line-requires

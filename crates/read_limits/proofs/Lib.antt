@@ -1,0 +1,2 @@
+mod LimitWalk
+mod StepTests
