@@ -1,7 +1,7 @@
 -- Resource records (RFC 1035 section 3.2.1) without compression, and the records to decide by (the requirements' "book").
 use Prim.Native.Nat.{ℕ, _≤_, _<_, _^_}
 use mathlib.Core.Bool.{Bool, true, false, cond, not, _&&_, _||_}
-use mathlib.Core.List.{List, _++_}
+use mathlib.Core.List.{List, [], _∷_, _++_}
 use mathlib.Core.Option.{Option, none, some}
 use lib.Dec.{eqb, ltb}
 use lib.ListN.{length}
@@ -32,6 +32,20 @@ wireRecord r =
 -- "Class 1 with type 257 is a CAA record"
 unfoldable pub isCaa : ℕ → ℕ → Bool
 isCaa type class = eqb type 257 && eqb class 1
+
+-- "Type 5, class 1": an alias, CNAME (RFC 1035 section 3.3.1).
+unfoldable pub isAlias : ℕ → ℕ → Bool
+isAlias type class = eqb type 5 && eqb class 1
+
+-- The name that was read, if nothing is left after it.
+abbrev pub filling : Option (Name × List ℕ) → Option Name
+filling none = none
+filling (some (n, [])) = some n
+filling (some (n, x ∷ s)) = none
+
+-- The name that an alias stands for: one name that fills the data.
+unfoldable pub target : List ℕ → Option Name
+target d = filling (name d)
 
 abbrev pub isSome : {A : Type 0} → Option A → Bool
 isSome none = false

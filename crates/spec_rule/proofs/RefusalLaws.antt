@@ -28,7 +28,7 @@ use Rattle.spec_applicant.proofs.Texts.{applicant-refusals}
 use Rattle.spec_rule.specs.declared.Judgement.{Judgement}
 use Rattle.spec_rule.specs.declared.Judgement.the-variants.{Refused}
 use Rattle.spec_rule.specs.declared.PermittedIssuers.the-variants.{Refused as ListRefused}
-use Rattle.spec_rule.specs.RelevantSet.{caaRecords}
+use Rattle.spec_rule.specs.RelevantSet.{asBook}
 use Rattle.spec_rule.specs.IssuerLists.{Issuers, anyone, listed, issuers, entries}
 use Rattle.spec_rule.specs.Calls.{authorizations, firstRefusal, judgeChecks, refusedOr, judge, roomRefusal, listChecks, written, unlessRefused, listIssuers}
 use Rattle.spec_rule.specs.Theorems.{JudgeRow, ListRow, Judge-refusals, List-refusals}
@@ -75,7 +75,7 @@ pub judge-refusals : Judge-refusals
 unfolding judge authorizations
 judge-refusals request issuer who book o p r =
     Iff·trans
-    (judge-refused _ _ r (verdict-by-the-rule who (caaRecords (records book)) (requestedNames request) issuer .3 r))
+    (judge-refused _ _ r (verdict-by-the-rule who (asBook (records book)) (requestedNames request) issuer .4 r))
     (first-row (judge-keeps request issuer who book o p) r)
 
 -- row 8, whoever is to be written
