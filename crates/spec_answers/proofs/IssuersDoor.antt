@@ -26,7 +26,7 @@ use Rattle.spec_applicant.specs.Applicant.{Applicant, applicantRefusal}
 use Rattle.spec_applicant.proofs.Texts.{applicant-refusals}
 use Rattle.spec_rule.specs.declared.PermittedIssuers.{PermittedIssuers}
 use Rattle.spec_rule.specs.declared.PermittedIssuers.the-variants.{Anyone, Listed, Refused}
-use Rattle.spec_rule.specs.RelevantSet.{caaRecords}
+use Rattle.spec_rule.specs.RelevantSet.{asBook}
 use Rattle.spec_rule.specs.IssuerLists.{Issuers, anyone, listed, issuers, entries}
 use Rattle.spec_rule.specs.Calls.{Listing, authorizations, listIssuers, permittedIssuersCode}
 use Rattle.spec_rule.specs.Meaning.{Unrestricted}
@@ -141,7 +141,7 @@ module _ (request : List ℕ) (who : Applicant) (book buffer : List ℕ) (reques
   at-31 n = let e = list-31 _ _ _ _ (L .answer) u n in (e, λ r f. listed≢refused (sym e ∙ f))
 
   abbrev Free : Type 0
-  Free = All (Unrestricted (caaRecords (records book))) (requestedNames request)
+  Free = All (Unrestricted (asBook (records book))) (requestedNames request)
 
   anyone-exactly : (numberIn W ≡ 30) ↔ (None × Free)
   anyone-exactly = (
