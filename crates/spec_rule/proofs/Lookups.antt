@@ -101,33 +101,30 @@ module _ (book : Book) (x : Name) where
     never-ends : (z : Name) → EndsAt (book .aliases) x z → ⊥
     never-ends z h = Option·none-ne-some z (sym e ∙ followed-ends (book .aliases) maxAliases x z .1 h)
 
-    endless-lookup : (a : Alias) × (as : List Alias) × (aliasesOf (book .aliases) x ≡ a ∷ as) × (lookup book x ≡ endless (a .number))
+    endless-lookup : (a : Alias) × (bs : List Alias) × (aliasesOf (book .aliases) x ≡ a ∷ bs) × (lookup book x ≡ endless (a .number))
     unfolding lookup
     endless-lookup = go (aliasesOf (book .aliases) x) refl (followed-endless (book .aliases) maxAliases x .0 e)
       where
         go :
-            (as : List Alias) → aliasesOf (book .aliases) x ≡ as → (z : Name) × Leads (book .aliases) (suc maxAliases) x z →
+            (cs : List Alias) → aliasesOf (book .aliases) x ≡ cs → (z : Name) × Leads (book .aliases) (suc maxAliases) x z →
             (a : Alias) × (bs : List Alias) × (aliasesOf (book .aliases) x ≡ a ∷ bs)
             × (lookedUp (book .caa) (aliasesOf (book .aliases) x) (followed maxAliases (book .aliases) x) ≡ endless (a .number))
         go [] i (z, onward f l) = absurd (has-alias (book .aliases) x i f)
-        go (a ∷ as) i l = (a, as, i, rw (e, i) refl)
+        go (a ∷ cs) i l = (a, cs, i, rw (e, i) refl)
 
 pub a-lookup : A-lookup
 a-lookup book x = go (followed maxAliases (book .aliases) x) refl
   where
-    abbrev al : List Alias
-    al = book .aliases
-
-    go : (o : Option Name) → followed maxAliases al x ≡ o →
-        ((lookup book x ≡ empty) ↔ ((y : Name) × EndsAt al x y × All (λ r. OwnedBy y r → ⊥) (book .caa)))
-        × ((rs : List CaaRecord) → (lookup book x ≡ found rs) ↔ ((y : Name) × EndsAt al x y × Selects (OwnedBy y) (book .caa) rs × (rs ≢ [])))
+    go : (o : Option Name) → followed maxAliases (book .aliases) x ≡ o →
+        ((lookup book x ≡ empty) ↔ ((y : Name) × EndsAt (book .aliases) x y × All (λ r. OwnedBy y r → ⊥) (book .caa)))
+        × ((rs : List CaaRecord) → (lookup book x ≡ found rs) ↔ ((y : Name) × EndsAt (book .aliases) x y × Selects (OwnedBy y) (book .caa) rs × (rs ≢ [])))
         × ((r : ℕ) → (lookup book x ≡ endless r)
-        ↔ ((y : Name) × Leads al (suc maxAliases) x y × ((a : Alias) × First (AliasOf x) al a × (a .number ≡ r))))
+        ↔ ((y : Name) × Leads (book .aliases) (suc maxAliases) x y × ((a : Alias) × First (AliasOf x) (book .aliases) a × (a .number ≡ r))))
     go (some y) e = (
       (λ h. (y, ends book x y e, at-empty (book .caa) y .0 (sym is ∙ h)), λ (z, end, h). is ∙ at-empty (book .caa) y .1 (rw (only-end book x y e z end) at h)),
       λ rs. (
-        λ h. (y, ends book x y e, at-found (book .caa) y rs .0 (sym is ∙ h)),
-        λ (z, end, h). is ∙ at-found (book .caa) y rs .1 (rw (only-end book x y e z end) at h),
+        λ h. let (selects, some-set) = at-found (book .caa) y rs .0 (sym is ∙ h) in (y, ends book x y e, selects, some-set),
+        λ (z, end, h, some-set). is ∙ at-found (book .caa) y rs .1 (rw (only-end book x y e z end) at h, some-set),
       ),
       λ r. (λ h. absurd (at-never-endless (book .caa) y r (sym is ∙ h)), λ (z, l, first). absurd (not-endless book x y e (z, l))),
     )
@@ -135,13 +132,13 @@ a-lookup book x = go (followed maxAliases (book .aliases) x) refl
         is : lookup book x ≡ asLookup (caaAt (book .caa) y)
         is = at-end-lookup book x y e
     go none e =
-        let (a, as, i, is) = endless-lookup book x e in
+        let (a, bs, i, is) = endless-lookup book x e in
         (
           (λ h. absurd (empty≢endless (sym h ∙ is)), λ (z, end, h). absurd (never-ends book x e z end)),
-          λ rs. (λ h. absurd (found≢endless (sym h ∙ is)), λ (z, end, h). absurd (never-ends book x e z end)),
+          λ rs. (λ h. absurd (found≢endless (sym h ∙ is)), λ (z, end, h, some-set). absurd (never-ends book x e z end)),
           λ r. (
-            λ h. let (z, l) = followed-endless al maxAliases x .0 e in (z, l, (a, first-alias al x i, one-number (sym is ∙ h))),
-            λ (z, l, (b, f, k)). is ∙ ap endless (sym (ap (λ (c : Alias). c .number) (the-first al x i f)) ∙ k),
+            λ h. let (z, l) = followed-endless (book .aliases) maxAliases x .0 e in (z, l, (a, first-alias (book .aliases) x i, one-number (sym is ∙ h))),
+            λ (z, l, (b, f, k)). is ∙ ap endless (sym (ap (λ (c : Alias). c .number) (the-first (book .aliases) x i f)) ∙ k),
           ),
         )
 
@@ -153,7 +150,7 @@ lookup-without-aliases book x e = (
 )
   where
     none-followed : followed maxAliases (book .aliases) x ≡ some x
-    none-followed = followed-ends (book .aliases) maxAliases x x .1 (0, (omega arith, arrived, rw e all-nil))
+    none-followed = followed-ends (book .aliases) maxAliases x x .1 (0, omega arith, arrived, rw e all-nil)
 
     is : lookup book x ≡ asLookup (caaAt (book .caa) x)
     is = at-end-lookup book x x none-followed

@@ -42,17 +42,17 @@ module _ (book : Book) where
     nearest [] = (λ e. absurd (some-set (sym e)), λ n. absurd (not-suc-le-zero (n .1 .0)))
     nearest (l ∷ x) = ⊎-elim (further (nearest x)) here (empty-or-not (lookup book (l ∷ x)))
       where
-        abbrev Found : Type 0
+        Found : Type 0
         Found = firstFound (lookup book (l ∷ x) ∷ map (lookup book) (ancestors x)) ≡ f
 
         here : lookup book (l ∷ x) ≢ empty → Found ↔ Near (l ∷ x) f
         here h = (
-          λ e. (0, (omega arith, sym (at-once _ h _) ∙ e, some-set, λ j less. absurd (omega arith))),
+          λ e. (0, (omega arith, sym (at-once (lookup book (l ∷ x)) h (map (lookup book) (ancestors x))) ∙ e, some-set, λ j less. absurd (omega arith))),
           back,
         )
           where
             back : Near (l ∷ x) f → Found
-            back (zero, (less, e, n, none-below)) = at-once _ h _ ∙ e
+            back (zero, (less, e, n, none-below)) = at-once (lookup book (l ∷ x)) h (map (lookup book) (ancestors x)) ∙ e
             back (suc k, (less, e, n, none-below)) = absurd (h (none-below 0 (omega arith)))
 
         further : (relevantSet book x ≡ f) ↔ Near x f → lookup book (l ∷ x) ≡ empty → Found ↔ Near (l ∷ x) f

@@ -45,20 +45,20 @@ module _ (f : ℕ → ℕ) (who : Applicant) where
   same-aliases : (al : List Alias) (x : Name) → aliasesOf (otherAliases al) x ≡ otherAliases (aliasesOf al x)
   same-aliases al x = select-map (renumberedAlias f) (λ a. sameName (a .owner) x) (λ a. sameName (a .owner) x) (λ a. refl) al
 
-  same-through : (as : List Alias) (follow : Name → Option Name) (x : Name) → through (otherAliases as) follow x ≡ through as follow x
+  same-through : (bs : List Alias) (follow : Name → Option Name) (x : Name) → through (otherAliases bs) follow x ≡ through bs follow x
   same-through [] follow x = refl
-  same-through (a ∷ as) follow x = refl
+  same-through (a ∷ bs) follow x = refl
 
   same-followed : (n : ℕ) (al : List Alias) (x : Name) → followed n (otherAliases al) x ≡ followed n al x
   same-followed zero al x = rw (same-aliases al x) (same-through (aliasesOf al x) (λ t. none) x)
   same-followed (suc n) al x = rw (same-aliases al x, fun-ext (same-followed n al)) (same-through (aliasesOf al x) (followed n al) x)
 
   looked-up :
-      (rs : List CaaRecord) (as : List Alias) (o : Option Name) →
-      lookedUp (others rs) (otherAliases as) o ≡ otherLookup (lookedUp rs as o)
-  looked-up rs as (some y) = rw (same-select (λ r. sameName (r .owner) y) (λ r. refl) rs) (as-lookup (caaAt rs y))
+      (rs : List CaaRecord) (bs : List Alias) (o : Option Name) →
+      lookedUp (others rs) (otherAliases bs) o ≡ otherLookup (lookedUp rs bs o)
+  looked-up rs bs (some y) = rw (same-select (λ r. sameName (r .owner) y) (λ r. refl) rs) (as-lookup (caaAt rs y))
   looked-up rs [] none = refl
-  looked-up rs (a ∷ as) none = refl
+  looked-up rs (a ∷ bs) none = refl
 
   same-lookup : (book : Book) (x : Name) → lookup (renumberedBook f book) x ≡ otherLookup (lookup book x)
   unfolding lookup
