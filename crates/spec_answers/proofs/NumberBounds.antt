@@ -54,7 +54,7 @@ module _ {A B : Type 0} (isOf : ℕ → ℕ → Bool) (read : List ℕ → Optio
     where
       one : (t : Bool) (o : Option A) → All (λ b. numberOf b < m) (cond t (kept (made k (r .owner)) o) [])
       one true none = all-nil
-      one true (some a) = all-cons (rw (numbered k (r .owner) a) (omega arith)) all-nil
+      one true (some a) = all-cons {x = made k (r .owner) a} (rw (numbered k (r .owner) a) (omega arith)) all-nil
       one false o = all-nil
 
 abbrev Numbered : ℕ → Book → Type 0
