@@ -40,3 +40,7 @@ maxTagOctets = 255
 -- An account text, and a method text, of a request (RFC 8657).
 unfoldable pub maxAccountOctets : ℕ
 maxAccountOctets = 255
+
+-- How many aliases one lookup follows, one after the other.
+unfoldable pub maxAliases : ℕ
+maxAliases = 8
