@@ -1,5 +1,7 @@
 pub mod Property
+pub mod Alias
 pub mod Records
+pub mod Kinds
 pub mod BookEdges
 pub mod Pinned
 pub mod Theorems
