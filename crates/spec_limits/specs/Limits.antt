@@ -41,6 +41,6 @@ maxTagOctets = 255
 unfoldable pub maxAccountOctets : ℕ
 maxAccountOctets = 255
 
--- How many aliases one lookup follows, one after the other.
+-- The aliases that one lookup follows.
 unfoldable pub maxAliases : ℕ
 maxAliases = 8

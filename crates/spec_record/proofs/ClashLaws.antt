@@ -38,8 +38,8 @@ kinds {A} {B} {C} {D} a b c d is-a is-b is-c is-d = (λ e. told (or-eq-true _ _ 
 pub clash-exactly : (p q : Record) → (clash p q ≡ true) ↔ Clash p q
 unfolding clash
 clash-exactly p q = (
-  λ e. let (k, o) = and-eq-true-iff _ _ .0 e in (whole-names .0 (p .owner) (q .owner) .0 o, both .0 k),
-  λ h. and-eq-true-iff _ _ .1 (both .1 (h .1), whole-names .0 (p .owner) (q .owner) .1 (h .0)),
+  λ e. let (k, o) = and-eq-true-iff _ _ .0 e in (whole-names .0 _ _ .0 o, both .0 k),
+  λ h. and-eq-true-iff _ _ .1 (both .1 (h .1), whole-names .0 _ _ .1 (h .0)),
 )
   where
     both :

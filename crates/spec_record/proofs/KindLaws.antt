@@ -29,19 +29,19 @@ unfolding isAlias
 alias-exactly = kind-exactly 5 1
 
 pub kind-records : Kind-records
-kind-records A B type class isKind read Holds made exactly reads = from 0
+kind-records A B type class isOf read Holds made exactly reads = from
   where
     Held : Record → Type 0
     Held r = r .type ≡ type → r .class ≡ class → (a : A) × Holds (r .rdata) a
 
-    from : (k : ℕ) (rs : List Record) → All Held rs → OfKind type class Holds made k rs (ofKindFrom isKind read made k rs)
+    from : (k : ℕ) (rs : List Record) → All Held rs → OfKind type class Holds made k rs (ofKindFrom isOf read made k rs)
     from k [] all-nil = at-end
-    from k (r ∷ rs) (all-cons held others) = go (true-or-false (isKind (r .type) (r .class))) (from (suc k) rs others)
+    from k (r ∷ rs) (all-cons held others) = go (true-or-false (isOf (r .type) (r .class))) (from (suc k) rs others)
       where
         go :
-            (isKind (r .type) (r .class) ≡ true) ⊎ (isKind (r .type) (r .class) ≡ false) →
-            OfKind type class Holds made (suc k) rs (ofKindFrom isKind read made (suc k) rs) →
-            OfKind type class Holds made k (r ∷ rs) (ofKindFrom isKind read made k (r ∷ rs))
+            (isOf (r .type) (r .class) ≡ true) ⊎ (isOf (r .type) (r .class) ≡ false) →
+            OfKind type class Holds made (suc k) rs (ofKindFrom isOf read made (suc k) rs) →
+            OfKind type class Holds made k (r ∷ rs) (ofKindFrom isOf read made k (r ∷ rs))
         go (inl e) rest =
             let (t, c) = exactly (r .type) (r .class) .0 e in
             let (a, h) = held t c in

@@ -16,8 +16,7 @@ use Rattle.spec_octets.proofs.Fields.{number-field, octets-field, then-read, th
 use Rattle.spec_name.specs.Names.{Name, wire, GoodName}
 use Rattle.spec_name.proofs.NameField.{name-field}
 use Rattle.spec_record.specs.Property.{Property, wireProperty, property}
-use Rattle.spec_record.specs.Alias.{target}
-use Rattle.spec_record.specs.Records.{Record, wireRecord, isSome, isCaaData, isLaidOut, resourceRecord, GoodData, GoodRecord}
+use Rattle.spec_record.specs.Records.{Record, wireRecord, target, isSome, isCaaData, isLaidOut, resourceRecord, GoodData, GoodRecord}
 use Rattle.spec_record.specs.Theorems.{Record-is-its-fields, Record-example}
 use Rattle.spec_record.specs.Pinned.{Record-form}
 use Rattle.spec_record.proofs.PropertyLaws.{property-is-its-parts}

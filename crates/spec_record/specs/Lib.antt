@@ -1,5 +1,4 @@
 pub mod Property
-pub mod Alias
 pub mod Records
 pub mod Kinds
 pub mod BookEdges

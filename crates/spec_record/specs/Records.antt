@@ -14,7 +14,6 @@ use Rattle.spec_octets.specs.Reader.{Reader, given, _>>=_, octets, number, inOc
 use Rattle.spec_octets.specs.Items.{Items, wholeItems, itemFault, items}
 use Rattle.spec_name.specs.Names.{Name, wire, name, sameName, GoodName}
 use Rattle.spec_record.specs.Property.{property, Property, wireProperty}
-use Rattle.spec_record.specs.Alias.{target}
 use mathlib.Core.Path.{_≡_}
 
 pub record Record : Type 0 where
@@ -34,9 +33,19 @@ wireRecord r =
 unfoldable pub isCaa : ℕ → ℕ → Bool
 isCaa type class = eqb type 257 && eqb class 1
 
--- "Type 5, class 1": an alias (CNAME, RFC 1035 section 3.3.1)
+-- "Type 5, class 1": an alias, CNAME (RFC 1035 section 3.3.1).
 unfoldable pub isAlias : ℕ → ℕ → Bool
 isAlias type class = eqb type 5 && eqb class 1
+
+-- The name that was read, if nothing is left after it.
+abbrev pub filling : Option (Name × List ℕ) → Option Name
+filling none = none
+filling (some (n, [])) = some n
+filling (some (n, x ∷ s)) = none
+
+-- The name that an alias stands for: one name that fills the data.
+unfoldable pub target : List ℕ → Option Name
+target d = filling (name d)
 
 abbrev pub isSome : {A : Type 0} → Option A → Bool
 isSome none = false

@@ -17,10 +17,9 @@ use Rattle.spec_octets.specs.Theorems.{Reads}
 use Rattle.spec_name.specs.Names.{Name, wire, GoodName}
 use Rattle.spec_record.specs.declared.PropertyTag.the-variants.{Issue, IssueWild, Iodef, Unknown}
 use Rattle.spec_record.specs.Property.{Property, wireProperty, property, isCritical, tagOf}
-use Rattle.spec_record.specs.Alias.{target}
-use Rattle.spec_record.specs.Kinds.{ofKind, OfKind}
+use Rattle.spec_record.specs.Kinds.{ofKindFrom, OfKind}
 use Rattle.spec_record.specs.BookEdges.{bookEdges}
-use Rattle.spec_record.specs.Records.{Record, wireRecord, resourceRecord, records, bookRefusal, GoodRecord}
+use Rattle.spec_record.specs.Records.{Record, wireRecord, isCaa, isAlias, target, resourceRecord, records, bookRefusal, GoodRecord}
 
 -- Data holds a property exactly when it is the wire form of that property and the tag is not empty.
 abbrev pub Property-is-its-parts : Type 0
@@ -62,14 +61,33 @@ Record-example =
 abbrev pub Record-is-its-fields : Type 0
 Record-is-its-fields = Reads resourceRecord wireRecord GoodRecord
 
--- Where the reader finds what the data holds, and all data of a kind holds something, the records of that kind are those of its type and class,
--- numbered from 0 over all records.
+-- Where the test passes exactly that type and class, the reader finds what data holds, and all data of the kind holds something: these are the
+-- records of that kind.
 abbrev pub Kind-records : Type 1
 Kind-records =
-    (A B : Type 0) (type class : ℕ) (isKind : ℕ → ℕ → Bool) (read : List ℕ → Option A) (Holds : List ℕ → A → Type 0) (made : ℕ → Name → A → B) →
-    ((t c : ℕ) → (isKind t c ≡ true) ↔ ((t ≡ type) × (c ≡ class))) → ((d : List ℕ) (a : A) → (read d ≡ some a) ↔ Holds d a) →
-    (rs : List Record) → All (λ r. r .type ≡ type → r .class ≡ class → (a : A) × Holds (r .rdata) a) rs →
-    OfKind type class Holds made 0 rs (ofKind isKind read made rs)
+    (A B : Type 0) (type class : ℕ) (isOf : ℕ → ℕ → Bool) (read : List ℕ → Option A) (Holds : List ℕ → A → Type 0) (made : ℕ → Name → A → B) →
+    ((t c : ℕ) → (isOf t c ≡ true) ↔ ((t ≡ type) × (c ≡ class))) → ((d : List ℕ) (a : A) → (read d ≡ some a) ↔ Holds d a) →
+    (k : ℕ) (rs : List Record) → All (λ r. r .type ≡ type → r .class ≡ class → (a : A) × Holds (r .rdata) a) rs →
+    OfKind type class Holds made k rs (ofKindFrom isOf read made k rs)
+
+-- Records of type 1, CAA, alias, type 257 of class 3, CAA, alias: the numbers of the CAA records, and of the aliases with their targets.
+abbrev pub plain : ℕ → ℕ → List ℕ → Record
+plain type class d = record { owner = text "a" ∷ []; type = type; class = class; ttl = 0; rdata = d }
+
+abbrev pub mixed : List Record
+mixed =
+    plain 1 1 []
+    ∷ plain 257 1 (0 ∷ 1 ∷ text "t")
+    ∷ plain 5 1 (1 ∷ 98 ∷ 0 ∷ [])
+    ∷ plain 257 3 (0 ∷ 1 ∷ text "t")
+    ∷ plain 257 1 (0 ∷ 1 ∷ text "t")
+    ∷ plain 5 1 (0 ∷ [])
+    ∷ []
+
+abbrev pub Kind-example : Type 0
+Kind-example =
+    (ofKindFrom isCaa property (λ k owner p. k) 0 mixed ≡ 1 ∷ 4 ∷ [])
+    × (ofKindFrom {B = ℕ × Name} isAlias target (λ k owner t. (k, t)) 0 mixed ≡ (2, text "b" ∷ []) ∷ (5, []) ∷ [])
 
 -- A CAA record, and an alias.
 abbrev pub IsCaa : Record → Type 0
