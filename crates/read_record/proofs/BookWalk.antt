@@ -1,4 +1,4 @@
--- The loop of check_book over the records of a book: a law for each return.
+-- The loop of check_records over the records of a book: a law for each return.
 use Prim.Native.Nat.{ℕ, _≤_, _<_, _+_, _-_}
 use native.Mathlib.Omega.{arith}
 use mathlib.Core.Path.{_≡_}
@@ -15,12 +15,12 @@ use Rattle.spec_octets.proofs.ItemWalk.{Walked, walk-start, walk-end, walk-over
 use Rattle.read_record.specs.declared.RecordAt.{RecordAt}
 use Rattle.read_record.specs.declared.RecordRead.{RecordRead}
 use Rattle.read_record.specs.declared.RecordRead.the-variants.{Good, Fault}
-use Rattle.spec_record.specs.Records.{resourceRecord, recordItems, recordRefusal, bookRefusal}
+use Rattle.spec_record.specs.Records.{resourceRecord, recordItems, recordRefusal, layoutRefusal}
 use Rattle.read_record.specs.Places.{recordAt}
 use Rattle.read_record.proofs.RecordPlaces.{no-record, record-there, record-after}
 
-pub book-too-long : (b : List ℕ) → maxBookOctets < length b → Refused BookTooLong ≡ checked (bookRefusal b)
-unfolding bookRefusal
+pub book-too-long : (b : List ℕ) → maxBookOctets < length b → Refused BookTooLong ≡ checked (layoutRefusal b)
+unfolding layoutRefusal
 book-too-long b h = rw (lt-ltb maxBookOctets (length b) h)
 
 module _ (b : List ℕ) where
@@ -36,21 +36,21 @@ module _ (b : List ℕ) where
 
   module _ (k at : ℕ) (w : BookRead k at) where
     module _ (l : length b ≤ maxBookOctets) where
-      answer : (x : Option Refusal) → recordRefusal (recordItems b) ≡ x → checked x ≡ checked (bookRefusal b)
-      unfolding bookRefusal
+      answer : (x : Option Refusal) → recordRefusal (recordItems b) ≡ x → checked x ≡ checked (layoutRefusal b)
+      unfolding layoutRefusal
       answer x e = rw (le-ltb maxBookOctets (length b) l, e)
 
-      pub book-whole : length b ≤ at → Accepted ≡ checked (bookRefusal b)
+      pub book-whole : length b ≤ at → Accepted ≡ checked (layoutRefusal b)
       unfolding recordItems
       book-whole h = answer none (walk-end w h)
 
       module _ (h : at < length b) where
-        pub too-many-records : k ≡ maxRecords → Refused TooManyRecords ≡ checked (bookRefusal b)
+        pub too-many-records : k ≡ maxRecords → Refused TooManyRecords ≡ checked (layoutRefusal b)
         unfolding recordItems
         too-many-records e = answer (some TooManyRecords) (walk-over w h e)
 
         pub bad-record :
-            (o : RecordRead) → (k ≡ maxRecords → ⊥) → o ≡ recordAt b at → o ≡ Fault → Refused (BadRecord (record { 0 = k })) ≡ checked (bookRefusal b)
+            (o : RecordRead) → (k ≡ maxRecords → ⊥) → o ≡ recordAt b at → o ≡ Fault → Refused (BadRecord (record { 0 = k })) ≡ checked (layoutRefusal b)
         unfolding recordItems
         bad-record o n f g =
             answer (some (bad k)) (walk-broken w h n (no-record b at o f g))

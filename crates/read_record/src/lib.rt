@@ -10,7 +10,7 @@ ghost use Prim.Native.Nat.{_+_, _≤_};
 ghost use lib.ListN.{length, take, drop};
 ghost use Rattle.spec_refusal.specs.Checks.{checked};
 ghost use Rattle.spec_octets.specs.Reader.{valueFrom};
-ghost use Rattle.spec_record.specs.Records.{isCaa, isLaidOut, bookRefusal};
+ghost use Rattle.spec_record.specs.Records.{isCaa, isAlias, target, isSome, isLaidOut, layoutRefusal};
 ghost use Rattle.read_record.specs.Places.{fieldsAt, recordAt};
 
 // Class 1 with type 257 is a CAA record.
@@ -23,12 +23,35 @@ pub fn is_caa(rtype: usize, class: usize) -> bool
     false
 }
 
+// Class 1 with type 5 is an alias.
+pub fn is_alias(rtype: usize, class: usize) -> bool
+    ensures { λ r. ⌜ r ≡ isAlias rtype class ⌝ }
+{
+    if rtype == 5 {
+        return class == 1;
+    }
+    false
+}
+
+// Whether one name fills the data.
+fn is_target(d: &[u8]) -> bool
+    ensures { λ r. ⌜ r ≡ isSome (target (now (d .entry))) ⌝ }
+{
+    let NameEnd::At(end) = read_name::name_end(d, 0) else {
+        return false;
+    };
+    end == d.len()
+}
+
 // Whether data is well formed for its type and class.
 fn is_laid_out(rtype: usize, class: usize, d: &[u8]) -> bool
     ensures { λ r. ⌜ r ≡ isLaidOut rtype class (now (d .entry)) ⌝ }
 {
     if is_caa(rtype, class) {
         return read_property::is_caa_data(d);
+    }
+    if is_alias(rtype, class) {
+        return is_target(d);
     }
     true
 }
@@ -101,8 +124,8 @@ pub fn read_record(s: &[u8], at: usize) -> RecordRead
 }
 
 // Refusals 5, 6 and 7.
-pub fn check_book(b: &[u8]) -> Check
-    ensures { λ r. ⌜ r ≡ checked (bookRefusal (now (b .entry))) ⌝ }
+pub fn check_records(b: &[u8]) -> Check
+    ensures { λ r. ⌜ r ≡ checked (layoutRefusal (now (b .entry))) ⌝ }
 {
     if MAX_BOOK_OCTETS < b.len() {
         return Check::Refused(Refusal::BookTooLong);

@@ -1,5 +1,6 @@
 -- Records by type and class: the test of a kind, and the records of one kind in a book.
 use Prim.Native.Nat.{ℕ, suc}
+use native.Mathlib.Omega.{arith}
 use mathlib.Core.Path.{_≡_, sym, _∙_}
 use mathlib.Core.Logic.{_↔_, _⊎_, inl, inr}
 use mathlib.Core.Bool.{Bool, true, false, _&&_, and-eq-true-iff, true≢false}
@@ -8,7 +9,7 @@ use mathlib.Core.Option.{Option, some}
 use lib.Dec.{eqb}
 use borrow.Author.Tests.{eqb-true, eq-eqb}
 use Rattle.spec_octets.specs.Lists.{All, all-nil, all-cons}
-use Rattle.spec_octets.proofs.ListLaws.{true-or-false}
+use Rattle.spec_octets.proofs.ListLaws.{true-or-false, not-passed}
 use Rattle.spec_name.specs.Names.{Name}
 use Rattle.spec_record.specs.Records.{Record, isCaa, isAlias}
 use Rattle.spec_record.specs.Kinds.{ofKindFrom, OfKind, at-end, is-of-kind, is-other}
@@ -27,6 +28,10 @@ caa-exactly = kind-exactly 257 1
 pub alias-exactly : (type class : ℕ) → (isAlias type class ≡ true) ↔ ((type ≡ 5) × (class ≡ 1))
 unfolding isAlias
 alias-exactly = kind-exactly 5 1
+
+-- no record is of both kinds
+pub caa-no-alias : (type class : ℕ) → isCaa type class ≡ true → isAlias type class ≡ false
+caa-no-alias type class e = not-passed (isAlias type class) (λ f. omega (arith, caa-exactly type class .0 e, alias-exactly type class .0 f))
 
 pub kind-records : Kind-records
 kind-records A B type class isOf read Holds made exactly reads = from

@@ -1,11 +1,11 @@
--- `check_book` meets its contract. The loop's invariant: k records are read, and the next begins at `at`.
+-- `check_records` meets its contract. The loop's invariant: k records are read, and the next begins at `at`.
 use Prim.Native.Nat.{_-_}
 use lib.ListN.{length}
 use borrow.Author.Needs.{needs}
 use Rattle.spec_limits.specs.Limits.{maxBookOctets, maxRecords}
 use Rattle.read_record.proofs.BookWalk.{BookRead, book-too-long, book-start, book-whole, too-many-records, bad-record, record-passed, less-left}
-use Rattle.read_record.proofs.check_book.Statement.{statement}
-use Rattle.read_record.proofs.check_book.Tie as tie
+use Rattle.read_record.proofs.check_records.Statement.{statement}
+use Rattle.read_record.proofs.check_records.Tie as tie
 
 abbrev Inv-loop : tie.InvT-loop
 Inv-loop b at₀ k₀ at k = BookRead b k at
@@ -52,8 +52,8 @@ returns-4 : tie.Need-returns-4 Inv-loop μ-loop
 unfolding maxBookOctets
 returns-4 c = search (needs, book-whole)
 
-pub check-book-spec : {M : Type 1} → statement M
-check-book-spec =
+pub check-records-spec : {M : Type 1} → statement M
+check-records-spec =
     tie.close
     (tie.spec
     Inv-loop
