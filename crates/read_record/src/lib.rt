@@ -27,8 +27,8 @@ pub fn is_caa(rtype: usize, class: usize) -> bool
 pub fn is_alias(rtype: usize, class: usize) -> bool
     ensures { λ r. ⌜ r ≡ isAlias rtype class ⌝ }
 {
-    if rtype == 5 {
-        return class == 1;
+    if class == 1 {
+        return rtype == 5;
     }
     false
 }

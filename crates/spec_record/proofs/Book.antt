@@ -1,9 +1,9 @@
 -- A book is accepted with its records, or refused by one row of the table.
 use Prim.Native.Nat.{ℕ, _≤_, _<_}
 use native.Mathlib.Omega.{arith}
-use mathlib.Core.Path.{_≡_, refl, sym, ap, _∙_}
+use mathlib.Core.Path.{_≡_, refl, sym, ap}
 use mathlib.Core.Logic.{_↔_, _≢_, _⊎_, inl, inr, Iff·trans, ⊎-elim}
-use mathlib.Core.List.{List, [], _∷_, _++_, map, append-eq-nil-iff, nil≢cons}
+use mathlib.Core.List.{List, [], map, append-eq-nil-iff}
 use mathlib.Core.Option.{Option, none, some, Option·some-injective, Option·none-ne-some}
 use lib.ListN.{length}
 use Rattle.spec_limits.specs.Limits.{maxBookOctets, maxRecords}
@@ -67,11 +67,10 @@ module _ (rs : List Record) where
       is-none (some k) = (λ e. absurd (Option·none-ne-some _ (sym e)), λ e. absurd (Option·none-ne-some _ (sym e)))
 
   conflict-some : (k : ℕ) → (conflictRefusal rs ≡ some (AliasConflict (record { 0 = k }))) ↔ (ClashAt rs k × ((j : ℕ) → j < k → ClashAt rs j → ⊥))
-  unfolding conflictRefusal
+  unfolding conflictRefusal place
   conflict-some k = Iff·trans (is-some (clashFrom 0 [] rs)) (clash-some rs k)
     where
       is-some : (o : Option ℕ) → (conflictAt o ≡ some (AliasConflict (record { 0 = k }))) ↔ (o ≡ some k)
-      unfolding place
       is-some none = (λ e. absurd (Option·none-ne-some _ e), λ e. absurd (Option·none-ne-some _ e))
       is-some (some j) = (λ e. ap some (ap place (Option·some-injective _ _ e)), λ e. rw (Option·some-injective _ _ e))
 
@@ -89,26 +88,19 @@ module _ (rs : List Record) where
 
 -- a book with a conflict is read whole
 pub conflict-exactly : (b : List ℕ) → Octets b → (k : ℕ) → (conflictRefusal (records b) ≡ some (AliasConflict (record { 0 = k }))) ↔ Row-12 b k
-unfolding records recordItems
+unfolding records recordItems conflictRefusal
 conflict-exactly b o k = (go (recordItems b) refl, found)
   where
     Given : List Record → Type 0
     Given rs = conflictRefusal rs ≡ some (AliasConflict (record { 0 = k }))
-
-    no-record : (before : List Record) (r : Record) (after : List Record) → [] ≡ before ++ (r ∷ after) → ⊥
-    no-record [] r after e = nil≢cons e
-    no-record (q ∷ before) r after e = nil≢cons e
-
-    nothing : Given [] → Row-12 b k
-    nothing e = absurd (Option·none-ne-some _ (sym (conflict-none [] .1 (λ j c. no-record (c .0) (c .1) (c .2) (c .3))) ∙ e))
 
     go : (i : Items Record) → recordItems b ≡ i → Given (wholeItems i) → Row-12 b k
     go (whole rs) w e =
         let (a, g, l) = items-read maxRecords b o .0 rs .0 w in
         let (c, lowest) = conflict-some rs k .0 e in
         (rs, a, g, l, c, lowest)
-    go (broken j) w e = nothing e
-    go over w e = nothing e
+    go (broken j) w e = absurd (Option·none-ne-some _ e)
+    go over w e = absurd (Option·none-ne-some _ e)
 
     found : Row-12 b k → Given (records b)
     found (rs, a, g, l, c, lowest) = rw (items-read maxRecords b o .0 rs .1 (a, g, l)) (conflict-some rs k .1 (c, lowest))
