@@ -148,7 +148,7 @@ module _ (b : List ℕ) (o : Octets b) where
   )
     where
       clear : length b ≤ maxBookOctets → Row-12 b k → layout ≡ none
-      clear short (rs, a, g, l, rest) = layout-whole b o rs .1 ((a, g, l), short) .0
+      clear short (rs, a, g, l, c, lowest) = layout-whole b o rs .1 ((a, g, l), short) .0
 
   numbers : (r : Refusal) → orRefusal layout conflict ≡ some r → ((5 ≤ number r) × (number r ≤ 7)) ⊎ (number r ≡ 12)
   numbers r e = ⊎-elim (λ f. inl (layout-refusals b o .3 r f)) (λ f. inr (conflict-number (records b) r (f .1))) (or-some layout conflict r .0 e)

@@ -1,53 +1,61 @@
 -- The first record that clashes with one before it.
 use Prim.Native.Nat.{ℕ, suc, _+_, _<_}
 use native.Mathlib.Omega.{arith}
-use mathlib.Core.Path.{_≡_, refl, ap}
-use mathlib.Core.Logic.{_↔_, _⊎_, inl, inr, Iff·trans, Iff·and, ⊎-elim}
-use mathlib.Core.Bool.{Bool, true, false, cond, _&&_, _||_, and-eq-true-iff, false≢true, true≢false}
-use mathlib.Core.List.{List, [], _∷_, _++_, map, nil≢cons, cons≢nil, head-eq-of-cons-eq, tail-eq-of-cons-eq}
+use mathlib.Core.Path.{_≡_, refl, sym, ap, _∙_}
+use mathlib.Core.Logic.{_↔_, _⊎_, inl, inr, ⊎-elim}
+use mathlib.Core.Bool.{Bool, true, false, cond, _&&_, _||_, and-eq-true-iff, false≢true}
+use mathlib.Core.List.{List, [], _∷_, _++_, nil≢cons, cons≢nil, head-eq-of-cons-eq, tail-eq-of-cons-eq}
 use mathlib.Core.Option.{Option, none, some, Option·some-injective, Option·none-ne-some}
 use lib.ListN.{length}
 use Rattle.spec_octets.specs.Lists.{any, Any, any-here, any-there}
-use Rattle.spec_octets.specs.Octets.{lowered}
 use Rattle.spec_octets.proofs.ListLaws.{or-eq-true, true-or-false}
 use Rattle.spec_name.specs.Names.{sameName}
 use Rattle.spec_name.proofs.WholeNames.{whole-names}
-use Rattle.spec_record.specs.Records.{Record, isCaa, isAlias, counts, clash, clashFrom}
+use Rattle.spec_record.specs.Records.{Record, isCaa, isAlias, counts, clash, clashes, clashFrom}
 use Rattle.spec_record.specs.Theorems.{IsCaa, IsAlias, Clash, ClashAt}
 use Rattle.spec_record.proofs.KindLaws.{caa-exactly, alias-exactly}
 
--- two kinds that exclude each other: a and b say whether they are aliases, c and d whether they are CAA records
+-- of two records that count, where one is an alias: a and b say whether they are aliases, c and d whether they are CAA records
 kinds :
-    {A B C D : Type 0} (a b c d : Bool) → (a ≡ true) ↔ A → (b ≡ true) ↔ B → (c ≡ true) ↔ C → (d ≡ true) ↔ D →
-    ((a && (d || b)) || ((c || a) && b) ≡ true) ↔ ((A × D) ⊎ (C × B) ⊎ (A × B))
-kinds {A} {B} {C} {D} a b c d is-a is-b is-c is-d = (λ e. told (or-eq-true _ _ .0 e), λ h. or-eq-true _ _ .1 (passed h))
+    {A B C D : Type 0} (a b c d : Bool) → (a ≡ true) ↔ A → (b ≡ true) ↔ B → (c ≡ true) ↔ C → (d ≡ true) ↔ D → c || a ≡ true →
+    (((d || b) ≡ true) × ((a || b) ≡ true)) ↔ ((A × D) ⊎ (C × B) ⊎ (A × B))
+kinds {A} {B} {C} {D} a b c d is-a is-b is-c is-d first = (λ h. told (or-eq-true d b .0 (h .0)) (or-eq-true a b .0 (h .1)) (or-eq-true c a .0 first), passed)
   where
-    told : (a && (d || b) ≡ true) ⊎ ((c || a) && b ≡ true) → (A × D) ⊎ (C × B) ⊎ (A × B)
-    told (inl e) =
-        let (first, e₂) = and-eq-true-iff a (d || b) .0 e in
-        ⊎-elim (λ second. inl (is-a .0 first, is-d .0 second)) (λ second. inr (inr (is-a .0 first, is-b .0 second))) (or-eq-true d b .0 e₂)
-    told (inr e) =
-        let (e₁, second) = and-eq-true-iff (c || a) b .0 e in
-        ⊎-elim (λ first. inr (inl (is-c .0 first, is-b .0 second))) (λ first. inr (inr (is-a .0 first, is-b .0 second))) (or-eq-true c a .0 e₁)
+    told : (d ≡ true) ⊎ (b ≡ true) → (a ≡ true) ⊎ (b ≡ true) → (c ≡ true) ⊎ (a ≡ true) → (A × D) ⊎ (C × B) ⊎ (A × B)
+    told (inl e) (inl f) g = inl (is-a .0 f, is-d .0 e)
+    told (inr e) (inl f) g = inr (inr (is-a .0 f, is-b .0 e))
+    told e (inr f) (inl g) = inr (inl (is-c .0 g, is-b .0 f))
+    told e (inr f) (inr g) = inr (inr (is-a .0 g, is-b .0 f))
 
-    passed : (A × D) ⊎ (C × B) ⊎ (A × B) → (a && (d || b) ≡ true) ⊎ ((c || a) && b ≡ true)
-    passed (inl (x, y)) = inl (and-eq-true-iff a (d || b) .1 (is-a .1 x, or-eq-true d b .1 (inl (is-d .1 y))))
-    passed (inr (inl (x, y))) = inr (and-eq-true-iff (c || a) b .1 (or-eq-true c a .1 (inl (is-c .1 x)), is-b .1 y))
-    passed (inr (inr (x, y))) = inl (and-eq-true-iff a (d || b) .1 (is-a .1 x, or-eq-true d b .1 (inr (is-b .1 y))))
+    passed : (A × D) ⊎ (C × B) ⊎ (A × B) → ((d || b) ≡ true) × ((a || b) ≡ true)
+    passed (inl (x, y)) = (or-eq-true d b .1 (inl (is-d .1 y)), or-eq-true a b .1 (inl (is-a .1 x)))
+    passed (inr (inl (x, y))) = (or-eq-true d b .1 (inr (is-b .1 y)), or-eq-true a b .1 (inr (is-b .1 y)))
+    passed (inr (inr (x, y))) = (or-eq-true d b .1 (inr (is-b .1 y)), or-eq-true a b .1 (inr (is-b .1 y)))
 
-pub clash-exactly : (p q : Record) → (clash p q ≡ true) ↔ Clash p q
-unfolding clash
-clash-exactly p q = (
-  λ e. let (k, o) = and-eq-true-iff _ _ .0 e in (whole-names .0 _ _ .0 o, both .0 k),
-  λ h. and-eq-true-iff _ _ .1 (both .1 (h .1), whole-names .0 _ _ .1 (h .0)),
+clash-exactly : (r p : Record) → counts r ≡ true → (counts p && clash r p ≡ true) ↔ Clash r p
+clash-exactly r p first = (
+  λ e. let (second, f) = and-eq-true-iff (counts p) (clash r p) .0 e in
+      let (alias, owner) = and-eq-true-iff (isAlias (r .type) (r .class) || isAlias (p .type) (p .class)) (sameName (r .owner) (p .owner)) .0 f in
+      (whole-names .0 (r .owner) (p .owner) .0 owner, both .0 (second, alias)),
+  λ h. let (second, alias) = both .1 (h .1) in
+      and-eq-true-iff (counts p) (clash r p) .1 (second, and-eq-true-iff _ _ .1 (alias, whole-names .0 (r .owner) (p .owner) .1 (h .0))),
 )
   where
     both :
-        ((isAlias (p .type) (p .class) && counts q) || (counts p && isAlias (q .type) (q .class)) ≡ true)
-        ↔ ((IsAlias p × IsCaa q) ⊎ (IsCaa p × IsAlias q) ⊎ (IsAlias p × IsAlias q))
+        ((counts p ≡ true) × ((isAlias (r .type) (r .class) || isAlias (p .type) (p .class)) ≡ true))
+        ↔ ((IsAlias r × IsCaa p) ⊎ (IsCaa r × IsAlias p) ⊎ (IsAlias r × IsAlias p))
     both =
-        kinds _ _ _ _ (alias-exactly (p .type) (p .class)) (alias-exactly (q .type) (q .class)) (caa-exactly (p .type) (p .class))
-        (caa-exactly (q .type) (q .class))
+        kinds _ _ _ _ (alias-exactly (r .type) (r .class)) (alias-exactly (p .type) (p .class)) (caa-exactly (r .type) (r .class))
+        (caa-exactly (p .type) (p .class)) first
+
+-- what clashes counts
+clash-counts : (r p : Record) → Clash r p → counts r ≡ true
+clash-counts r p (owner, kind) = or-eq-true _ _ .1 (go kind)
+  where
+    go : (IsAlias r × IsCaa p) ⊎ (IsCaa r × IsAlias p) ⊎ (IsAlias r × IsAlias p) → (isCaa (r .type) (r .class) ≡ true) ⊎ (isAlias (r .type) (r .class) ≡ true)
+    go (inl (x, y)) = inr (alias-exactly (r .type) (r .class) .1 x)
+    go (inr (inl (x, y))) = inl (caa-exactly (r .type) (r .class) .1 x)
+    go (inr (inr (x, y))) = inr (alias-exactly (r .type) (r .class) .1 x)
 
 nowhere : {A : Type 0} {P : A → Type 0} {xs : List A} → xs ≡ [] → Any P xs → ⊥
 nowhere e (any-here h) = cons≢nil e
@@ -64,6 +72,21 @@ any-exactly {A} {P} p law (x ∷ xs) = (
     split : Any P (x ∷ xs) → (Any P xs → any p xs ≡ true) → (p x ≡ true) ⊎ (any p xs ≡ true)
     split (any-here h) rest = inl (law x .1 h)
     split (any-there h) rest = inr (rest h)
+
+pub clashes-exactly : (r : Record) (before : List Record) → (clashes r before ≡ true) ↔ Any (Clash r) before
+unfolding clashes
+clashes-exactly r before = go (true-or-false (counts r))
+  where
+    test : Record → Bool
+    test p = counts p && clash r p
+
+    some-counts : {xs : List Record} → Any (Clash r) xs → counts r ≡ true
+    some-counts (any-here {x} h) = clash-counts r x h
+    some-counts (any-there h) = some-counts h
+
+    go : (counts r ≡ true) ⊎ (counts r ≡ false) → (counts r && any test before ≡ true) ↔ Any (Clash r) before
+    go (inl e) = rw e (any-exactly test (λ p. clash-exactly r p e) before)
+    go (inr e) = (λ h. absurd (false≢true (sym e ∙ and-eq-true-iff (counts r) (any test before) .0 h .0)), λ h. absurd (false≢true (sym e ∙ some-counts h)))
 
 -- record j of rs clashes with a record before it, in rs or among `before`
 abbrev Hit : List Record → List Record → ℕ → Type 0
@@ -103,7 +126,7 @@ finds k before [] = λ j h. nothing (h .0) (h .1) (h .2) (h .3)
     nothing [] r after e = nil≢cons e
     nothing (m ∷ mid) r after e = nil≢cons e
 finds k before (r ∷ rs) =
-    go (any (clash r) before) (any-exactly (clash r) (clash-exactly r) before) (clashFrom (suc k) (r ∷ before) rs) (finds (suc k) (r ∷ before) rs)
+    go (clashes r before) (clashes-exactly r before) (clashFrom (suc k) (r ∷ before) rs) (finds (suc k) (r ∷ before) rs)
   where
     go :
         (t : Bool) → (t ≡ true) ↔ Any (Clash r) before → (o : Option ℕ) → Finds (suc k) (Hit (r ∷ before) rs) o →

@@ -54,7 +54,7 @@ laid-out type class d =
 
     alias : (isSome (target d) ≡ true) ↔ ((t : Name) × (d ≡ wire t) × GoodName t)
     alias = (
-      λ h. let (t, e) = some-there (target d) h in (t, target-is-its-name d t .0 e),
+      λ h. let (t, e) = some-there (target d) h in let (written, good) = target-is-its-name d t .0 e in (t, written, good),
       λ h. rw (target-is-its-name d (h .0) .1 (h .1, h .2)),
     )
 

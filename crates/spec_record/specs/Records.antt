@@ -85,19 +85,21 @@ recordRefusal i = itemFault (λ k. BadRecord (record { 0 = k })) TooManyRecords 
 unfoldable pub layoutRefusal : List ℕ → Option Refusal
 layoutRefusal b = cond (ltb maxBookOctets (length b)) (some BookTooLong) (recordRefusal (recordItems b))
 
--- The records that an alias of the same owner excludes: CAA records and aliases.
+-- The records between which there can be a conflict: CAA records and aliases.
 abbrev pub counts : Record → Bool
 counts r = isCaa (r .type) (r .class) || isAlias (r .type) (r .class)
 
--- "An owner with an alias and a CAA record, or two aliases"
-unfoldable pub clash : Record → Record → Bool
-clash p q =
-    ((isAlias (p .type) (p .class) && counts q) || (counts p && isAlias (q .type) (q .class))) && sameName (p .owner) (q .owner)
+-- Two such records of one owner, one of them an alias: "An owner with an alias and a CAA record, or two aliases"
+abbrev pub clash : Record → Record → Bool
+clash p q = (isAlias (p .type) (p .class) || isAlias (q .type) (q .class)) && sameName (p .owner) (q .owner)
+
+unfoldable pub clashes : Record → List Record → Bool
+clashes r before = counts r && any (λ p. counts p && clash r p) before
 
 -- The number of the first record that clashes with one before it. The records rs are numbered from k, and `before` are those before them.
 abbrev pub clashFrom : ℕ → List Record → List Record → Option ℕ
 clashFrom k before [] = none
-clashFrom k before (r ∷ rs) = cond (any (clash r) before) (some k) (clashFrom (suc k) (r ∷ before) rs)
+clashFrom k before (r ∷ rs) = cond (clashes r before) (some k) (clashFrom (suc k) (r ∷ before) rs)
 
 -- Row 12: "the later record's number, the lowest such"
 abbrev pub conflictAt : Option ℕ → Option Refusal
