@@ -42,21 +42,16 @@ clause false good kind law = (λ e x y. absurd (false≢true (kind .1 (x, y))), 
 pub laid-out : (type class : ℕ) (d : List ℕ) → (isLaidOut type class d ≡ true) ↔ GoodData type class d
 unfolding isLaidOut
 laid-out type class d =
-    Iff·trans (and-eq-true-iff _ _) (Iff·and (clause _ _ (caa-exactly type class) caa) (clause _ _ (alias-exactly type class) alias))
-  where
-    caa :
-        (isCaaData (property d) ≡ true)
-        ↔ ((p : Property) × (d ≡ wireProperty p) × (1 ≤ length (p .tag)) × All (λ x. isLetterOrDigit x ≡ true) (p .tag))
-    caa = (
+    Iff·trans (and-eq-true-iff _ _)
+    (Iff·and
+    (clause _ _ (caa-exactly type class) (
       λ h. let (p, e, tag) = caa-data d h in let (written, long) = property-is-its-parts d p .0 e in (p, written, long, all-true _ _ .0 tag),
       λ h. rw (property-is-its-parts d (h .0) .1 (h .1, h .2)) (all-true _ _ .1 (h .3)),
-    )
-
-    alias : (isSome (target d) ≡ true) ↔ ((t : Name) × (d ≡ wire t) × GoodName t)
-    alias = (
+    ))
+    (clause _ _ (alias-exactly type class) (
       λ h. let (t, e) = some-there (target d) h in let (written, good) = target-is-its-name d t .0 e in (t, written, good),
       λ h. rw (target-is-its-name d (h .0) .1 (h .1, h .2)),
-    )
+    )))
 
 -- the fields, each before all that follows it
 abbrev fields : Record → List ℕ → List ℕ
