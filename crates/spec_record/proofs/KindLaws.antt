@@ -3,14 +3,12 @@ use Prim.Native.Nat.{ℕ, suc}
 use native.Mathlib.Omega.{arith}
 use mathlib.Core.Path.{_≡_, sym, _∙_}
 use mathlib.Core.Logic.{_↔_, _⊎_, inl, inr}
-use mathlib.Core.Bool.{Bool, true, false, _&&_, and-eq-true-iff, true≢false}
+use mathlib.Core.Bool.{true, false, _&&_, and-eq-true-iff, true≢false}
 use mathlib.Core.List.{List, [], _∷_}
-use mathlib.Core.Option.{Option, some}
 use lib.Dec.{eqb}
 use borrow.Author.Tests.{eqb-true, eq-eqb}
 use Rattle.spec_octets.specs.Lists.{All, all-nil, all-cons}
 use Rattle.spec_octets.proofs.ListLaws.{true-or-false, not-passed}
-use Rattle.spec_name.specs.Names.{Name}
 use Rattle.spec_record.specs.Records.{Record, isCaa, isAlias}
 use Rattle.spec_record.specs.Kinds.{ofKindFrom, OfKind, at-end, is-of-kind, is-other}
 use Rattle.spec_record.specs.Theorems.{Kind-records}

@@ -1,5 +1,5 @@
 -- A resource record is read exactly where the octets begin with its fields in order.
-use Prim.Native.Nat.{ℕ, _≤_}
+use Prim.Native.Nat.{ℕ}
 use native.Mathlib.Omega.{arith}
 use mathlib.Core.Path.{_≡_, refl, _∙_}
 use mathlib.Core.Logic.{_↔_, Iff·trans, Iff·and}
@@ -7,15 +7,13 @@ use mathlib.Core.Bool.{Bool, true, false, not, _||_, and-eq-true-iff, false≢tr
 use mathlib.Core.List.{List, _++_, append-assoc}
 use mathlib.Core.Option.{Option, none, some}
 use lib.ListN.{length}
-use Rattle.spec_octets.specs.Lists.{All}
-use Rattle.spec_octets.specs.Octets.{isLetterOrDigit}
 use Rattle.spec_octets.specs.Reader.{inOctets}
 use Rattle.spec_octets.proofs.ListLaws.{all-true}
 use Rattle.spec_octets.proofs.ReaderLaws.{given-some}
 use Rattle.spec_octets.proofs.Fields.{number-field, octets-field, then-read, then-stand, given-read}
-use Rattle.spec_name.specs.Names.{Name, wire, GoodName}
+use Rattle.spec_name.specs.Names.{wire}
 use Rattle.spec_name.proofs.NameField.{name-field}
-use Rattle.spec_record.specs.Property.{Property, wireProperty, property}
+use Rattle.spec_record.specs.Property.{Property, property}
 use Rattle.spec_record.specs.Records.{Record, wireRecord, target, isSome, isCaaData, isLaidOut, resourceRecord, GoodData, GoodRecord}
 use Rattle.spec_record.specs.Theorems.{Record-is-its-fields, Record-example}
 use Rattle.spec_record.specs.Pinned.{Record-form}
