@@ -1,4 +1,5 @@
 -- `is_alias` meets its contract.
+use mathlib.Core.Bool.{and-true}
 use borrow.Author.Needs.{needs}
 use Rattle.spec_octets.proofs.Tests.{tests}
 use Rattle.spec_record.specs.Records.{isAlias}
@@ -7,7 +8,7 @@ use Rattle.read_record.proofs.is_alias.Tie as tie
 
 returns : tie.Need-returns
 unfolding isAlias
-returns c = search (needs, tests)
+returns c = search (needs, tests, and-true)
 
 returns-2 : tie.Need-returns-2
 unfolding isAlias
