@@ -3,31 +3,24 @@ use Prim.Native.Nat.{ℕ, suc}
 use native.Mathlib.Omega.{arith}
 use mathlib.Core.Path.{_≡_, refl, sym, ap, _∙_}
 use mathlib.Core.Logic.{_↔_, _≢_, _⊎_, inl, inr, Iff·rfl, Iff·trans, Iff·and}
-use mathlib.Core.Bool.{true, false, and-eq-true-iff, true≢false}
+use mathlib.Core.Bool.{true, false, true≢false}
 use mathlib.Core.List.{List, [], _∷_, cons≢nil}
 use mathlib.Core.Option.{Option, none, some, Option·none-ne-some, Option·some-injective}
-use lib.Dec.{eqb}
 use Rattle.spec_limits.specs.Limits.{maxAliases}
-use borrow.Author.Tests.{eqb-true, eq-eqb}
 use Rattle.spec_octets.specs.Lists.{All, all-nil, all-cons, First, Selects}
-use Rattle.spec_octets.proofs.ListLaws.{true-or-false}
+use Rattle.spec_octets.proofs.ListLaws.{true-or-false, All-imp}
 use Rattle.spec_octets.proofs.SelectLaws.{selects-none, selected, selects-exactly}
-use Rattle.spec_name.specs.Names.{Name, sameName}
+use Rattle.spec_name.specs.Names.{Name, sameName, wire, GoodName}
 use Rattle.spec_name.proofs.WholeNames.{whole-names}
-use Rattle.spec_record.specs.Records.{Record, isCaa, GoodRecord}
+use Rattle.spec_record.specs.Records.{Record, isCaa, isAlias, target, GoodRecord}
 use Rattle.spec_record.proofs.PropertyLaws.{property-is-its-parts}
-use Rattle.spec_rule.specs.Aliases.{Alias, aliasesOf, followed}
+use Rattle.spec_record.proofs.AliasLaws.{target-is-its-name}
+use Rattle.spec_record.proofs.KindLaws.{caa-exactly, alias-exactly, kind-records}
+use Rattle.spec_rule.specs.Aliases.{Alias, asAlias, aliasesOf, followed}
 use Rattle.spec_rule.specs.RelevantSet.{CaaRecord, Book, empty, found, endless, asLookup, caaAt, lookedUp, lookup, caaRecordsFrom}
 use Rattle.spec_rule.specs.Meaning.{CaaRecordsOf, at-end, is-caa, is-other, OwnedBy, AliasOf, Leads, arrived, onward, EndsAt}
-use Rattle.spec_rule.specs.Theorems.{Caa-records, A-lookup, Lookup-without-aliases}
+use Rattle.spec_rule.specs.Theorems.{Caa-records, Alias-records, A-lookup, Lookup-without-aliases}
 use Rattle.spec_rule.proofs.Following.{first-alias, the-first, has-alias, followed-ends, followed-endless}
-
-caa-exactly : (type class : ℕ) → (isCaa type class ≡ true) ↔ ((type ≡ 257) × (class ≡ 1))
-unfolding isCaa
-caa-exactly type class = (
-  λ e. let (t, c) = and-eq-true-iff (eqb type 257) (eqb class 1) .0 e in (eqb-true type 257 t, eqb-true class 1 c),
-  λ k. and-eq-true-iff (eqb type 257) (eqb class 1) .1 (eq-eqb type 257 (k .0), eq-eqb class 1 (k .1)),
-)
 
 caa-from : (k : ℕ) (rs : List Record) → All GoodRecord rs → CaaRecordsOf k rs (caaRecordsFrom k rs)
 caa-from k [] all-nil = at-end
@@ -38,12 +31,15 @@ caa-from k (r ∷ rs) (all-cons good goods) = go (true-or-false (isCaa (r .type)
         CaaRecordsOf (suc k) rs (caaRecordsFrom (suc k) rs) → CaaRecordsOf k (r ∷ rs) (caaRecordsFrom k (r ∷ rs))
     go (inl e) rest =
         let (t, c) = caa-exactly (r .type) (r .class) .0 e in
-        let (p, d, l, tag) = good .5 t c in
+        let (p, d, l, tag) = good .5 .0 t c in
         rw (e, property-is-its-parts (r .rdata) p .1 (d, l)) (is-caa p t c d l rest)
     go (inr e) rest = rw e (is-other (λ both. true≢false (rw (caa-exactly (r .type) (r .class) .1 both) at e)) rest)
 
 pub caa-records : Caa-records
 caa-records = caa-from 0
+
+pub alias-records : Alias-records
+alias-records rs good = kind-records Name Alias 5 1 isAlias target (λ d t. (d ≡ wire t) × GoodName t) asAlias alias-exactly target-is-its-name 0 rs (All-imp (λ r g t c. let (n, whole, valid) = g .5 .1 t c in (n, (whole, valid))) good)
 
 empty≢endless : {r : ℕ} → empty ≡ endless r → ⊥
 empty≢endless e = true≢false (cc)

@@ -118,7 +118,7 @@ records-length (r ∷ rs) = omega (arith, length-append (wireRecord r) (flatten 
 pub room-of-the-book : Room-of-the-book
 unfolding authorizations
 room-of-the-book request who book octets accepted ns e =
-    let (whole, good, few, short) = book-is-its-records book octets (records book) .0 (accepted, refl) in
+    let (whole, good, few, short, apart) = book-is-its-records book octets (records book) .0 (accepted, refl) in
     omega (
       arith,
       total-sum ns,

@@ -1,5 +1,5 @@
 -- The requirements' "rule of issue" (RFC 8659 sections 3 and 4) as statements about records, without the search. The theorems use these.
-use Prim.Native.Nat.{ℕ, zero, suc, _≤_, _<_}
+use Prim.Native.Nat.{ℕ, suc, _≤_, _<_}
 use mathlib.Core.Path.{_≡_}
 use mathlib.Core.Logic.{_≢_, _⊎_}
 use mathlib.Core.Bool.{Bool, true, false}
@@ -15,11 +15,12 @@ use Rattle.spec_record.specs.declared.PropertyTag.{PropertyTag}
 use Rattle.spec_record.specs.declared.PropertyTag.the-variants.{Issue, IssueWild, Unknown}
 use Rattle.spec_record.specs.Property.{Property, wireProperty, isCritical, tagOf}
 use Rattle.spec_record.specs.Records.{Record}
+use Rattle.spec_record.specs.Kinds.{OfKind}
 use Rattle.spec_value.specs.Parameters.{Parameter}
 use Rattle.spec_value.specs.Productions.{valueOf}
 use Rattle.spec_applicant.specs.Applicant.{Applicant}
 use Rattle.spec_applicant.specs.Meaning.{Admits}
-use Rattle.spec_rule.specs.Aliases.{Alias}
+use Rattle.spec_rule.specs.Aliases.{Alias, asAlias}
 use Rattle.spec_rule.specs.RelevantSet.{CaaRecord, Book, Lookup, empty, found, endless, lookup, relevantSet}
 
 -- cs are the CAA records of rs, in their order, each with its number. The first record of rs has the number k.
@@ -31,14 +32,9 @@ pub data CaaRecordsOf : ℕ → List Record → List CaaRecord → Type 0 where
   is-other : {k : ℕ} {r : Record} {rs : List Record} {cs : List CaaRecord} →
       ((r .type ≡ 257) × (r .class ≡ 1) → ⊥) → CaaRecordsOf (suc k) rs cs → CaaRecordsOf k (r ∷ rs) cs
 
--- The same for aliases.
-pub data AliasesOf : ℕ → List Record → List Alias → Type 0 where
-  no-more : {k : ℕ} → AliasesOf k [] []
-  is-alias : {k : ℕ} {r : Record} {rs : List Record} {al : List Alias} (t : Name) →
-      r .type ≡ 5 → r .class ≡ 1 → r .rdata ≡ wire t → GoodName t → AliasesOf (suc k) rs al →
-      AliasesOf k (r ∷ rs) (record { number = k; owner = r .owner; target = t } ∷ al)
-  is-none : {k : ℕ} {r : Record} {rs : List Record} {al : List Alias} →
-      ((r .type ≡ 5) × (r .class ≡ 1) → ⊥) → AliasesOf (suc k) rs al → AliasesOf k (r ∷ rs) al
+-- The same for aliases: type 5 and class 1, and the data is one valid name.
+abbrev pub AliasesOf : ℕ → List Record → List Alias → Type 0
+AliasesOf = OfKind 5 1 (λ d t. (d ≡ wire t) × GoodName t) asAlias
 
 -- The owner of the record is x: the whole name, ignoring case.
 abbrev pub OwnedBy : Name → CaaRecord → Type 0
