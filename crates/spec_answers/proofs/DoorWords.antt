@@ -3,7 +3,7 @@ use Prim.Native.Nat.{ℕ, _≤_}
 use native.Mathlib.Omega.{arith}
 use mathlib.Core.Path.{_≡_, refl}
 use Rattle.spec_refusal.specs.declared.Refusal.{Refusal}
-use Rattle.spec_refusal.specs.declared.Refusal.the-variants.{RequestTooLong, BadName, TooManyNames, BadIssuer, BookTooLong, BadRecord, TooManyRecords, NoRoom, BadLine, LineTooLong, BadData, BadAccountOrMethod}
+use Rattle.spec_refusal.specs.declared.Refusal.the-variants.{RequestTooLong, BadName, TooManyNames, BadIssuer, BookTooLong, BadRecord, TooManyRecords, AliasConflict, NoRoom, BadLine, LineTooLong, BadData, BadAccountOrMethod}
 use Rattle.spec_refusal.specs.Refusal.{number, place}
 use Rattle.spec_rule.specs.declared.Judgement.{Judgement}
 use Rattle.spec_rule.specs.declared.Judgement.the-variants.{Permitted, UnknownCritical, NotGranted, TooManyAliases, Refused}
@@ -25,6 +25,7 @@ number-range BadIssuer = omega arith
 number-range BookTooLong = omega arith
 number-range (BadRecord r) = omega arith
 number-range TooManyRecords = omega arith
+number-range (AliasConflict r) = omega arith
 number-range (NoRoom n) = omega arith
 number-range BadLine = omega arith
 number-range LineTooLong = omega arith

@@ -95,7 +95,7 @@ module _ (request issuer : List ℕ) (who : Applicant) (book : List ℕ) where
         refuses-exactly (judge-rows request issuer who book) (λ r. j ≡ Refused r) (judge-refusals request issuer who book request-octets book-octets)
         (numberIn w) (fieldA w) (judge-refused _ _ _ _ j u) (λ r e. let h = of-answer _ _ _ _ judgementCode e u in (h .0, h .1))
 
-    number-found : (j′ : Judgement) → j ≡ j′ → List·Memᴰ (numberIn w) (0 ∷ 1 ∷ 2 ∷ 3 ∷ 4 ∷ 15 ∷ 5 ∷ 6 ∷ 7 ∷ 20 ∷ 21 ∷ 22 ∷ [])
+    number-found : (j′ : Judgement) → j ≡ j′ → List·Memᴰ (numberIn w) (0 ∷ 1 ∷ 2 ∷ 3 ∷ 4 ∷ 15 ∷ 5 ∷ 6 ∷ 7 ∷ 12 ∷ 20 ∷ 21 ∷ 22 ∷ [])
     unfolding judgementCode
     number-found Permitted e = rw (of-answer _ _ _ _ judgementCode e u .0) (one-of 0 _ refl)
     number-found (UnknownCritical d) e = rw (of-answer _ _ _ _ judgementCode e u .0) (one-of 20 _ refl)

@@ -3,7 +3,7 @@
 -- (`numberIn`, `fieldA`, `fieldB`, `fieldC` of spec_packed). Each statement is proved under its name in proofs/.
 --
 -- Where the terms of the statements are defined, in specs/ of the crate named:
---   Row-1 to Row-8, Row-15           the rows of the table of refusals: Theorems.antt of spec_request, spec_issuer, spec_record, spec_rule,
+--   Row-1 to Row-8, Row-12, Row-15   the rows of the table of refusals: Theorems.antt of spec_request, spec_issuer, spec_record, spec_rule,
 --                                    spec_applicant
 --   Applicant                        who asks, the account text and the method text: Applicant.antt of spec_applicant
 --   order                            the order of checks, as refusal numbers: Order.antt of spec_refusal
@@ -28,7 +28,7 @@ use Rattle.spec_issuer.specs.Issuer.{WellFormed}
 use Rattle.spec_issuer.specs.Theorems.{Row-4}
 use Rattle.spec_record.specs.Property.{Property, wireProperty}
 use Rattle.spec_record.specs.Records.{wireRecord, records, GoodRecord}
-use Rattle.spec_record.specs.Theorems.{Row-5, Row-6, Row-7}
+use Rattle.spec_record.specs.Theorems.{Row-5, Row-6, Row-7, Row-12}
 use Rattle.spec_applicant.specs.Applicant.{Applicant}
 use Rattle.spec_applicant.specs.Theorems.{Row-15}
 use Rattle.spec_rule.specs.RelevantSet.{CaaRecord, asBook}
@@ -90,6 +90,8 @@ pub data BookTable (book : List ℕ) : ℕ → ℕ → Type 0 where
   row-6 : (k : ℕ) → Row-6 book k → BookTable book 6 k
   -- Octets are left after the maximum number of valid records.
   row-7 : Row-7 book → BookTable book 7 maxRecords
+  -- Record k has the same owner as a record before it, and one of the two is an alias, the other an alias or a CAA record.
+  row-12 : (k : ℕ) → Row-12 book k → BookTable book 12 k
 
 pub data RoomTable (request : List ℕ) (who : Applicant) (book buffer : List ℕ) : ℕ → ℕ → Type 0 where
   -- The output needs n octets, and the buffer has fewer.
@@ -144,7 +146,7 @@ pub record JudgeWord (request issuer : List ℕ) (who : Applicant) (book : List 
       ↔ (NoneHolds (JudgeTable request issuer who book)
       × ((n : Name) × LowestDenied request issuer who book k n × UnresolvedFrom (asBook (records book)) n r))
   -- No other number is ever returned.
-  pub numbers : List·Memᴰ (numberIn word) (0 ∷ 1 ∷ 2 ∷ 3 ∷ 4 ∷ 15 ∷ 5 ∷ 6 ∷ 7 ∷ 20 ∷ 21 ∷ 22 ∷ [])
+  pub numbers : List·Memᴰ (numberIn word) (0 ∷ 1 ∷ 2 ∷ 3 ∷ 4 ∷ 15 ∷ 5 ∷ 6 ∷ 7 ∷ 12 ∷ 20 ∷ 21 ∷ 22 ∷ [])
   -- Field c is always 0.
   pub c-unused : fieldC word ≡ 0
   -- Field b is 0 except for 20, 21 and 22.
@@ -212,7 +214,7 @@ pub record IssuersWord (request : List ℕ) (who : Applicant) (book buffer : Lis
   pub room-asked-enough : numberIn word ≡ 8 → (other : List ℕ) → fieldA word ≤ length other →
       (numberIn (caaPermittedIssuersFor request who book other .word) ≡ 31) × (fieldA (caaPermittedIssuersFor request who book other .word) ≡ fieldA word)
   -- No other number is ever returned.
-  pub numbers : List·Memᴰ (numberIn word) (1 ∷ 2 ∷ 3 ∷ 15 ∷ 5 ∷ 6 ∷ 7 ∷ 8 ∷ 30 ∷ 31 ∷ [])
+  pub numbers : List·Memᴰ (numberIn word) (1 ∷ 2 ∷ 3 ∷ 15 ∷ 5 ∷ 6 ∷ 7 ∷ 12 ∷ 8 ∷ 30 ∷ 31 ∷ [])
   -- Field c is always 0.
   pub c-unused : fieldC word ≡ 0
   -- Field b is 0 except for 31.

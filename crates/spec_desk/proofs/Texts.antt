@@ -13,7 +13,7 @@ use Rattle.spec_octets.specs.Pieces.{split, join}
 use Rattle.spec_octets.proofs.ListLaws.{told-apart, All-imp, All-head, all-true}
 use Rattle.spec_octets.proofs.PieceLaws.{pieces-join}
 use Rattle.spec_refusal.specs.declared.Refusal.{Refusal}
-use Rattle.spec_refusal.specs.declared.Refusal.the-variants.{RequestTooLong, BadName, TooManyNames, BadIssuer, BookTooLong, BadRecord, TooManyRecords, NoRoom, BadLine, LineTooLong, BadData, BadAccountOrMethod}
+use Rattle.spec_refusal.specs.declared.Refusal.the-variants.{RequestTooLong, BadName, TooManyNames, BadIssuer, BookTooLong, BadRecord, TooManyRecords, AliasConflict, NoRoom, BadLine, LineTooLong, BadData, BadAccountOrMethod}
 use Rattle.spec_refusal.specs.Refusal.{number, place}
 use Rattle.spec_refusal.proofs.Table.{number-and-place-tell}
 use Rattle.spec_rule.specs.declared.Denial.{Denial}
@@ -97,6 +97,7 @@ number-range BadIssuer = (omega arith, omega arith)
 number-range BookTooLong = (omega arith, omega arith)
 number-range (BadRecord r) = (omega arith, omega arith)
 number-range TooManyRecords = (omega arith, omega arith)
+number-range (AliasConflict r) = (omega arith, omega arith)
 number-range (NoRoom n) = (omega arith, omega arith)
 number-range BadLine = (omega arith, omega arith)
 number-range LineTooLong = (omega arith, omega arith)
