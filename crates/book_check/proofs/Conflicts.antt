@@ -59,7 +59,10 @@ module _ (b : List ℕ) where
 
   -- without an alias, there is no conflict with a CAA record
   pub none-before : (r : Record) (front : List Record) → isAliasRecord r ≡ false → any isAliasRecord front ≡ false → any (test r) front ≡ false
-  none-before r front e f = any-false (test r) front .1 (All-imp (λ p g. rw (e, g) (and-false (counts p))) (any-false isAliasRecord front .0 f))
+  none-before r front e f = any-false (test r) front .1 (All-imp (λ p g. off (counts p) _ _ _ e g) (any-false isAliasRecord front .0 f))
+    where
+      off : (c s x y : Bool) → x ≡ false → y ≡ false → c && ((x || y) && s) ≡ false
+      off c s x y e f = rw (e, f) (and-false c)
 
   -- c, a: the record is a CAA record, is an alias; aliased: there is an alias before it; t: it clashes with one of those before it
   asked : (c a aliased t : Bool) → (a ≡ false → aliased ≡ false → t ≡ false) → (a || (aliased && c)) && t ≡ (c || a) && t

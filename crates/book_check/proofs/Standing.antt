@@ -19,8 +19,8 @@ use Rattle.spec_record.specs.Records.{Record, resourceRecord}
 use Rattle.read_record.specs.declared.RecordAt.{RecordAt}
 use Rattle.read_record.specs.declared.RecordRead.{RecordRead}
 use Rattle.read_record.specs.declared.RecordRead.the-variants.{Good, Fault}
-use Rattle.read_record.specs.Places.{recordPlaces, recordAt, fieldsAt}
-use Rattle.read_record.proofs.RecordPlaces.{RecordTo, fields-at, fields-places, record-there}
+use Rattle.read_record.specs.Places.{recordAt, fieldsAt}
+use Rattle.read_record.proofs.RecordPlaces.{RecordTo, fields-at, fields-places, record-faults, record-there}
 
 module _ (b : List ℕ) where
   -- the records rs stand in b one after the other, from one offset to another
@@ -57,7 +57,6 @@ module _ (b : List ℕ) where
 
   -- the records that are read stand there
   pub standing : (rs : List Record) → Standing rs
-  unfolding recordAt
   standing [] room at inside e = go (true-or-false (ltb at (length b)))
     where
       go : (ltb at (length b) ≡ true) ⊎ (ltb at (length b) ≡ false) → Stand at (length b) []
@@ -71,7 +70,11 @@ module _ (b : List ℕ) where
       by r p t same s = subst (λ (x : Record). Stand at (length b) (x ∷ qs)) same (stand-cons p (fields-at b at p r t) t s)
 
       good : (x : Record × List ℕ) → resourceRecord (drop at b) ≡ some x → (p : RecordAt) × (recordAt b at ≡ Good p)
-      good x h = (_, rw h)
+      good x h = by-answer (recordAt b at) refl
+        where
+          by-answer : (o : RecordRead) → recordAt b at ≡ o → (p : RecordAt) × (recordAt b at ≡ Good p)
+          by-answer Fault e = absurd (Option·none-ne-some _ (sym (record-faults b at .0 e) ∙ h))
+          by-answer (Good p) e = (p, e)
 
       next :
           (x : Record) (rest : List ℕ) → resourceRecord (drop at b) ≡ some (x, rest) → q ≡ x → (fewer : ℕ) → items resourceRecord fewer rest ≡ whole qs →
