@@ -32,7 +32,7 @@ kinds {A} {B} {C} {D} a b c d is-a is-b is-c is-d first = (λ h. told (or-eq-tru
     passed (inr (inl (x, y))) = (or-eq-true d b .1 (inr (is-b .1 y)), or-eq-true a b .1 (inr (is-b .1 y)))
     passed (inr (inr (x, y))) = (or-eq-true d b .1 (inr (is-b .1 y)), or-eq-true a b .1 (inr (is-b .1 y)))
 
-clash-exactly : (r p : Record) → counts r ≡ true → (counts p && clash r p ≡ true) ↔ Clash r p
+pub clash-exactly : (r p : Record) → counts r ≡ true → (counts p && clash r p ≡ true) ↔ Clash r p
 clash-exactly r p first = (
   λ e. let (second, f) = and-eq-true-iff (counts p) (clash r p) .0 e in
       let (alias, owner) = and-eq-true-iff (isAlias (r .type) (r .class) || isAlias (p .type) (p .class)) (sameName (r .owner) (p .owner)) .0 f in
