@@ -6,6 +6,7 @@ pub mod TableLaws
 pub mod ChainedRecords
 pub mod SetLaws
 pub mod OwnedWalk
+pub mod OnwardLaws
 pub mod LookLaws
 pub mod ClimbLaws
 pub mod AuthorizationLaws
