@@ -14,8 +14,10 @@ use Rattle.spec_octets.proofs.ListLaws.{All-join}
 use Rattle.spec_name.specs.Names.{Name, wire, sameName, GoodName}
 use Rattle.spec_name.proofs.WholeNames.{whole-names}
 use Rattle.spec_record.specs.Property.{Property, property}
-use Rattle.spec_record.specs.Records.{Record, isCaa, recordRefusal, recordItems, records, bookRefusal}
-use Rattle.spec_rule.specs.RelevantSet.{CaaRecord, withProperty, caaRecordsFrom, caaRecords, asLookup, lookup}
+use Rattle.spec_record.specs.Records.{Record, isCaa, isAlias, target, counts, clash, clashes, clashFrom, conflictRefusal, recordRefusal, recordItems, records, layoutRefusal, bookRefusal}
+use Rattle.spec_record.specs.Kinds.{kept}
+use Rattle.spec_rule.specs.Aliases.{Alias, asAlias, aliasesFrom, aliases, aliasesOf, followed}
+use Rattle.spec_rule.specs.RelevantSet.{CaaRecord, asCaa, caaRecordsFrom, caaRecords, Book, asBook, asLookup, caaAt, lookup}
 use Rattle.book_places.proofs.AcceptedBook.{accepted-readable, HoldsProperty, records-hold}
 use Rattle.book_places.specs.Table.{tabled, tableOf, dataAt}
 use Rattle.book_places.specs.Chains.{chainsOf}
@@ -44,7 +46,7 @@ module _ (book table : List ℕ) where
   caa-hold k [] t = all-nil
   caa-hold k (r ∷ rs) t = All-join (one (isCaa (r .type) (r .class)) (property (r .rdata)) refl) (caa-hold (suc k) rs (t .1))
     where
-      one : (b : Bool) (o : Option Property) → property (r .rdata) ≡ o → All Holds (cond b (withProperty k (r .owner) o) [])
+      one : (b : Bool) (o : Option Property) → property (r .rdata) ≡ o → All Holds (cond b (kept (asCaa k (r .owner)) o) [])
       one true none e = all-nil
       one true (some q) e = let there : property (dataAt book table k) ≡ some q = rw (t .0 .rdata) e in all-cons there all-nil
       one false o e = all-nil
@@ -73,7 +75,7 @@ module _ (book table : List ℕ) where
 
         caa :
             (b : Bool) → isCaa (r .type) (r .class) ≡ b → (o : Option Property) → property (r .rdata) ≡ o → rest ≡ numbersOf (select isOf more) →
-            consIf (b && sameName (r .owner) x) k rest ≡ numbersOf (select isOf (cond b (withProperty k (r .owner) o) [] ++ more))
+            consIf (b && sameName (r .owner) x) k rest ≡ numbersOf (select isOf (cond b (kept (asCaa k (r .owner)) o) [] ++ more))
         caa true f (some q) g e = owner (sameName (r .owner) x) (record { number = k; owner = r .owner; property = q }) refl e
         caa true f none g e = let (q, h) = holds f in absurd (Option·none-ne-some q (sym g ∙ h))
         caa false f o g e = e

@@ -16,7 +16,7 @@ use Rattle.spec_refusal.specs.declared.Refusal.the-variants.{TooManyNames, BadI
 use Rattle.spec_applicant.specs.Applicant.{Applicant}
 use Rattle.spec_applicant.specs.AdmissionEdges.{someone}
 use Rattle.spec_rule.specs.declared.Judgement.{Judgement}
-use Rattle.spec_rule.specs.declared.Judgement.the-variants.{Permitted, UnknownCritical, NotGranted, Refused}
+use Rattle.spec_rule.specs.declared.Judgement.the-variants.{Permitted, UnknownCritical, NotGranted, TooManyAliases, Refused}
 use Rattle.spec_rule.specs.Edges.{ca1, ca2, wholeBook}
 use Rattle.spec_rule.specs.CallEdges.{both, bookOf}
 use Rattle.spec_rule.specs.Verdicts.{denial}
@@ -45,6 +45,7 @@ abbrev pub Line-words : Type 0
 Line-words =
     ((k r : ℕ) → judgementLine (UnknownCritical (denial k r)) ≡ text "verdict 20 name " ++ decimal k ++ text " record " ++ decimal r ++ text "\n")
     × ((k r : ℕ) → judgementLine (NotGranted (denial k r)) ≡ text "verdict 21 name " ++ decimal k ++ text " record " ++ decimal r ++ text "\n")
+    × ((k r : ℕ) → judgementLine (TooManyAliases (denial k r)) ≡ text "verdict 22 name " ++ decimal k ++ text " record " ++ decimal r ++ text "\n")
     × ((r : Refusal) → judgementLine (Refused r) ≡ text "refused " ++ decimal (number r) ++ text " at " ++ decimal (place r) ++ text "\n")
 
 -- The lines that the requirements print, and some more.
@@ -54,6 +55,7 @@ Line-examples =
     × (judgementLine (NotGranted (denial 1 3)) ≡ text "verdict 21 name 1 record 3\n")
     × (judgementLine (UnknownCritical (denial 0 2)) ≡ text "verdict 20 name 0 record 2\n")
     × (judgementLine (UnknownCritical (denial 99 255)) ≡ text "verdict 20 name 99 record 255\n")
+    × (judgementLine (TooManyAliases (denial 3 1)) ≡ text "verdict 22 name 3 record 1\n")
     × (judgementLine (NotGranted (denial 249 1023)) ≡ text "verdict 21 name 249 record 1023\n")
     × (judgementLine (Refused (BadRecord (record { 0 = 4 }))) ≡ text "refused 6 at 4\n")
     × (judgementLine (Refused BadIssuer) ≡ text "refused 4 at 0\n")

@@ -12,14 +12,14 @@ use Rattle.spec_name.specs.Names.{wire}
 use Rattle.spec_record.specs.Records.{Record, wireRecord}
 use Rattle.spec_record.specs.BookEdges.{ofOctets}
 use Rattle.spec_rule.specs.declared.Judgement.{Judgement}
-use Rattle.spec_rule.specs.declared.Judgement.the-variants.{Permitted, UnknownCritical, NotGranted, Refused}
+use Rattle.spec_rule.specs.declared.Judgement.the-variants.{Permitted, UnknownCritical, NotGranted, TooManyAliases, Refused}
 use Rattle.spec_rule.specs.declared.PermittedIssuers.the-variants.{Anyone, Listed, Refused as ListRefused}
 use Rattle.spec_applicant.specs.Applicant.{Applicant}
 use Rattle.spec_applicant.specs.ApplicantEdges.{withAccount, withMethod}
 use Rattle.spec_applicant.specs.AdmissionEdges.{someone}
 use Rattle.spec_rule.specs.Verdicts.{denial}
 use Rattle.spec_rule.specs.Calls.{judge, Listing, listIssuers}
-use Rattle.spec_rule.specs.Edges.{dotted, caa, ca1, ca2, wholeBook}
+use Rattle.spec_rule.specs.Edges.{dotted, caa, cname, ca1, ca2, wholeBook}
 
 -- A request for these names; and these records as a book.
 abbrev pub asking : List String → List ℕ
@@ -45,6 +45,10 @@ limited =
     (caa "example.com" 0 "issue" "ca2.example.org; accounturi=https://a/2"
     ∷ caa "example.com" 0 "issue" "ca1.example.net; validationmethods=dns-01"
     ∷ [])
+
+-- A record that grants, and an alias of a name to itself.
+abbrev pub circular : List ℕ
+circular = bookOf (caa "example.com" 0 "issue" "ca1.example.net" ∷ cname "pay.example.com" "pay.example.com" ∷ [])
 
 -- A refused applicant: its account is empty.
 abbrev pub nobody : Applicant
@@ -96,6 +100,10 @@ callEdges =
     ∷ callEdge www ca1 (elsewhere "tb_s") (Refused (BadRecord (record { 0 = 1 })))
     ∷ callEdge www ca1 (elsewhere "tbs") Permitted
     ∷ callEdge www ca1 (bookOf (caa "example.com" 0 "tb_s" "x" ∷ caa "example.com" 0 "issue" "ca1.example.net" ∷ [])) (Refused (BadRecord (record { 0 = 0 })))
+    -- Aliases that don't end deny their name, to everyone. The lowest name that is not permitted decides.
+    ∷ callEdge both ca1 circular (TooManyAliases (denial 1 1))
+    ∷ callEdge both ca2 circular (NotGranted (denial 0 0))
+    ∷ callEdge (asking ("pay.example.com" ∷ "www.example.com" ∷ [])) ca2 circular (TooManyAliases (denial 0 1))
     ∷ []
 
 abbrev pub Calls-agree : Type 0
@@ -149,3 +157,6 @@ Lists-agree =
     × (listingFor (withAccount (text "https://a/2")) ("www.example.com" ∷ []) limited 33
     ≡ record { answer = Listed 2 32; buffer = (15 ∷ ca2) ++ ((15 ∷ ca1) ++ replicate 1 95) })
     × (listingFor (withMethod (text "http-01")) ("www.example.com" ∷ []) limited 3 ≡ record { answer = Listed 0 0; buffer = replicate 3 95 })
+    -- Aliases that don't end leave nobody, whether the name comes after another or alone.
+    × (listing ("www.example.com" ∷ "pay.example.com" ∷ []) circular 3 ≡ record { answer = Listed 0 0; buffer = replicate 3 95 })
+    × (listing ("pay.example.com" ∷ []) circular 3 ≡ record { answer = Listed 0 0; buffer = replicate 3 95 })
