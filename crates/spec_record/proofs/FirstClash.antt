@@ -1,23 +1,17 @@
 -- The first record that clashes, by any test that is right for a record where none before it clashes: for code that goes by record numbers.
-use Prim.Native.Nat.{ℕ, zero, suc}
+use Prim.Native.Nat.{ℕ, suc}
 use native.Mathlib.Omega.{arith}
 use mathlib.Core.Path.{_≡_, refl, sym, ap, ap₂, _∙_}
 use mathlib.Core.Logic.{_⊎_, inl, inr, ⊎-elim}
 use mathlib.Core.Bool.{Bool, true, false, cond, _&&_, _||_, false≢true}
-use mathlib.Core.List.{List, [], _∷_, _++_, append-assoc, nil≢cons, cons≢nil, head-eq-of-cons-eq, tail-eq-of-cons-eq}
+use mathlib.Core.List.{List, [], _∷_, _++_, append-assoc, nil≢cons, head-eq-of-cons-eq, tail-eq-of-cons-eq}
 use mathlib.Core.Option.{Option, none, some}
 use lib.ListN.{length, length-append}
-use Rattle.spec_octets.specs.Lists.{any, Any}
+use Rattle.spec_octets.specs.Lists.{any}
 use Rattle.spec_octets.proofs.SelectTests.{any-behind}
 use Rattle.spec_record.specs.Records.{Record, counts, clash, clashes, clashFrom}
-use Rattle.spec_record.specs.Theorems.{Clash, ClashAt}
 use Rattle.spec_record.proofs.ClashLaws.{clashes-exactly}
 use Rattle.spec_record.proofs.FirstOfOwner.{ClashFree}
-
--- the first of n numbers from k on that passes a test
-abbrev pub firstPassing : (ℕ → Bool) → ℕ → ℕ → Option ℕ
-firstPassing test k zero = none
-firstPassing test k (suc n) = cond (test k) (some k) (firstPassing test (suc k) n)
 
 -- an element of a list to which one more is added: the new one, or one that was there
 last-or-before :
@@ -46,13 +40,15 @@ free-more front r free none-of-them k (before, q, after, e, l, h) = ⊎-elim new
     old : (mid : List Record) × (front ≡ before ++ (q ∷ mid)) → ⊥
     old (mid, f) = free k (before, q, mid, f, l, h)
 
-module _ (rs : List Record) (test : ℕ → Bool)
+-- `find k n` is the first of n numbers from k on that passes the test
+module _ (rs : List Record) (test : ℕ → Bool) (find : ℕ → ℕ → Option ℕ) (at-end : (k : ℕ) → find k 0 ≡ none)
+    (at-next : (k n : ℕ) → find k (suc n) ≡ cond (test k) (some k) (find (suc k) n))
     (right : (before : List Record) (r : Record) (after : List Record) → rs ≡ before ++ (r ∷ after) → ClashFree before → test (length before) ≡ clashes r before) where
   from : (rest front before : List Record) (k : ℕ) → rs ≡ front ++ rest → length front ≡ k → ((t : Record → Bool) → any t before ≡ any t front) →
-      ClashFree front → clashFrom k before rest ≡ firstPassing test k (length rest)
+      ClashFree front → clashFrom k before rest ≡ find k (length rest)
   unfolding clashes
-  from [] front before k e l same free = refl
-  from (r ∷ rest) front before k e l same free = go (clashes r front) refl (from rest (front ++ (r ∷ [])) (r ∷ before) (suc k))
+  from [] front before k e l same free = sym (at-end k)
+  from (r ∷ rest) front before k e l same free = go (clashes r front) refl (from rest (front ++ (r ∷ [])) (r ∷ before) (suc k)) ∙ sym (at-next k (length rest))
     where
       asked : test k ≡ clashes r front
       asked = rw (← l) (right front r rest e free)
@@ -63,15 +59,15 @@ module _ (rs : List Record) (test : ℕ → Bool)
       go :
           (t : Bool) → clashes r front ≡ t →
           (rs ≡ (front ++ (r ∷ [])) ++ rest → length (front ++ (r ∷ [])) ≡ suc k → ((t : Record → Bool) → any t (r ∷ before) ≡ any t (front ++ (r ∷ []))) →
-          ClashFree (front ++ (r ∷ [])) → clashFrom (suc k) (r ∷ before) rest ≡ firstPassing test (suc k) (length rest)) →
-          cond (clashes r before) (some k) (clashFrom (suc k) (r ∷ before) rest) ≡ cond (test k) (some k) (firstPassing test (suc k) (length rest))
+          ClashFree (front ++ (r ∷ [])) → clashFrom (suc k) (r ∷ before) rest ≡ find (suc k) (length rest)) →
+          cond (clashes r before) (some k) (clashFrom (suc k) (r ∷ before) rest) ≡ cond (test k) (some k) (find (suc k) (length rest))
       go true f later = rw (seen, asked, f)
       go false f later =
           rw (seen, asked, f)
           (later (e ∙ sym (append-assoc front (r ∷ []) rest)) (length-append front (r ∷ []) ∙ omega arith)
           (λ u. ap (_||_ (u r)) (same u) ∙ sym (any-behind u front r)) (free-more front r free f))
 
-  pub first-clash : clashFrom 0 [] rs ≡ firstPassing test 0 (length rs)
+  pub first-clash : clashFrom 0 [] rs ≡ find 0 (length rs)
   first-clash = from rs [] [] 0 refl refl (λ t. refl) (λ k (before, r, after, e, l, h). absurd (nothing before r after e))
     where
       nothing : (before : List Record) (r : Record) (after : List Record) → [] ≡ before ++ (r ∷ after) → ⊥
