@@ -27,8 +27,8 @@ use Rattle.read_record.specs.declared.BookLayout.the-variants.{Refused as NotLa
 use Rattle.read_record.specs.Places.{fieldsAt}
 use Rattle.read_record.specs.Layouts.{isAliasRecord, layoutTold, layoutOf}
 use Rattle.read_record.proofs.RecordPlaces.{fields-there}
-use Rattle.book_check.specs.Places.{excludes, clashesAmong, clashesBefore, conflictFrom, firstConflict}
-use Rattle.book_check.proofs.Conflicts.{none-before, conflict-by-offset}
+use Rattle.read_book.specs.Places.{excludes, clashesAmong, clashesBefore, conflictFrom, firstConflict}
+use Rattle.read_book.proofs.Conflicts.{none-before, conflict-by-offset}
 
 -- can_exclude
 module _ (type class : ℕ) (alias a : Bool) (e : a ≡ isAlias type class) where

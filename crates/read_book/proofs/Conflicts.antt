@@ -21,9 +21,9 @@ use Rattle.spec_record.specs.Records.{Record, isCaa, isAlias, resourceRecord, r
 use Rattle.read_record.specs.declared.RecordAt.{RecordAt}
 use Rattle.read_record.specs.Layouts.{isAliasRecord}
 use Rattle.read_record.proofs.RecordPlaces.{RecordTo}
-use Rattle.book_check.specs.Places.{ownerOf, excludes, clashesAmong, clashesBefore, conflictFrom, firstConflict}
-use Rattle.book_check.specs.Theorems.{Conflict-by-offset}
-use Rattle.book_check.proofs.Standing.{Stand, stand-nil, stand-cons, stand-more, owner-good, nothing-at-end, standing}
+use Rattle.read_book.specs.Places.{ownerOf, excludes, clashesAmong, clashesBefore, conflictFrom, firstConflict}
+use Rattle.read_book.specs.Theorems.{Conflict-by-offset}
+use Rattle.read_book.proofs.Standing.{Stand, stand-nil, stand-cons, stand-more, owner-good, nothing-at-end, standing}
 
 -- what r is asked of a record before it
 abbrev test : Record → Record → Bool
