@@ -7,6 +7,7 @@ pub mod ChainedRecords
 pub mod SetLaws
 pub mod ConflictLaws
 pub mod OwnedWalk
+pub mod OnwardLaws
 pub mod LookLaws
 pub mod ClimbLaws
 pub mod AuthorizationLaws

@@ -58,7 +58,7 @@ layout-faults b r e = one-of-three rows maxBookOctets b (recordItems b) r e
 
 -- row 12: the lowest record that clashes
 module _ (rs : List Record) where
-  conflict-none : (conflictRefusal rs ≡ none) ↔ ((k : ℕ) → ClashAt rs k → ⊥)
+  pub conflict-none : (conflictRefusal rs ≡ none) ↔ ((k : ℕ) → ClashAt rs k → ⊥)
   unfolding conflictRefusal
   conflict-none = Iff·trans (is-none (clashFrom 0 [] rs)) (clash-none rs)
     where
@@ -106,7 +106,7 @@ conflict-exactly b o k = (go (recordItems b) refl, found)
     found (rs, a, g, l, c, lowest) = rw (items-read maxRecords b o .0 rs .1 (a, g, l)) (conflict-some rs k .1 (c, lowest))
 
 -- the first of two checks
-or-none : (c d : Option Refusal) → (orRefusal c d ≡ none) ↔ ((c ≡ none) × (d ≡ none))
+pub or-none : (c d : Option Refusal) → (orRefusal c d ≡ none) ↔ ((c ≡ none) × (d ≡ none))
 or-none none d = (λ e. (refl, e), λ h. h .1)
 or-none (some q) d = (λ e. absurd (Option·none-ne-some _ (sym e)), λ h. absurd (Option·none-ne-some _ (sym (h .0))))
 

@@ -20,10 +20,10 @@ ClashFree rs = (k : ℕ) → ClashAt rs k → ⊥
 
 -- a record before all others
 module _ (x : Record) (xs : List Record) (free : ClashFree (x ∷ xs)) where
-  free-behind : ClashFree xs
+  pub free-behind : ClashFree xs
   free-behind k (before, r, after, e, l, h) = free (suc k) (x ∷ before, r, after, ap (_∷_ x) e, ap suc l, any-there h)
 
-  free-first : (mid rest : List Record) → xs ≡ mid ++ rest → All (λ p. Clash p x → ⊥) rest
+  pub free-first : (mid rest : List Record) → xs ≡ mid ++ rest → All (λ p. Clash p x → ⊥) rest
   free-first mid [] e = all-nil
   free-first mid (p ∷ rest) e =
       all-cons (λ c. free (suc (length mid)) (x ∷ mid, p, rest, ap (_∷_ x) e, refl, any-here c))
