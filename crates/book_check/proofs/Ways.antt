@@ -13,7 +13,7 @@ use Rattle.spec_refusal.specs.declared.Check.{Check}
 use Rattle.spec_refusal.specs.declared.Check.the-variants.{Accepted, Refused}
 use Rattle.spec_octets.specs.Lists.{any}
 use Rattle.spec_octets.proofs.ListLaws.{or-eq-false, any-false, All-imp}
-use Rattle.spec_record.specs.Records.{Record, records, layoutRefusal, counts, clash, clashes, clashFrom, conflictAt, conflictRefusal, orRefusal, bookRefusal}
+use Rattle.spec_record.specs.Records.{Record, records, layoutRefusal, counts, clashes, clashFrom, conflictAt, conflictRefusal, orRefusal, bookRefusal}
 use Rattle.read_record.specs.declared.BookLayout.{BookLayout}
 use Rattle.read_record.specs.declared.BookLayout.the-variants.{Refused as NotLaidOut, WithoutAliases, WithAliases}
 use Rattle.read_record.specs.Layouts.{isAliasRecord, layoutTold, layoutOf}
