@@ -30,7 +30,14 @@ fn clashes_at(book: &[u8], table: &[u16], links: &[u16], heads: &[u16], i: usize
         return false;
     }
     let owner = book_table::owner_at(book, table, i);
-    let FirstRecord::At(r) = book_look::first_owned(book, table, links, heads, owner, Kind::CaaOrAlias) else {
+    let FirstRecord::At(r) = book_look::first_owned(
+        book,
+        table,
+        links,
+        heads,
+        owner,
+        Kind::CaaOrAlias,
+    ) else {
         return false;
     };
     let j = r.0;
