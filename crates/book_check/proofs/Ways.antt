@@ -18,25 +18,26 @@ use Rattle.read_record.specs.declared.BookLayout.{BookLayout}
 use Rattle.read_record.specs.declared.BookLayout.the-variants.{Refused as NotLaidOut, WithoutAliases, WithAliases}
 use Rattle.read_record.specs.Layouts.{isAliasRecord, layoutTold, layoutOf}
 use Rattle.book_places.specs.Table.{fewRecords, shortBook}
-use Rattle.book_places.specs.Chains.{noRecord}
+use Rattle.book_places.specs.Chains.{Chains, atMost, linkedBelow, noRecord}
 use Rattle.book_places.specs.Conflicts.{conflictFrom, firstConflict}
 use Rattle.book_places.proofs.ConflictLaws.{conflict-by-table}
-use Rattle.book_fill.specs.Filled.{filledTable}
-use Rattle.book_index.specs.Indexes.{indexedChains, Blank}
-use Rattle.book_index.proofs.Indexed.{table-of-book, links-of-book, heads-of-book, blank-short, blank-long}
+use Rattle.book_fill.specs.Filled.{filledRows, filledTable}
+use Rattle.book_index.specs.Indexes.{Blank}
+use Rattle.book_index.proofs.Indexed.{links-made, heads-made, table-of-book, links-of-book, heads-of-book, blank-short, blank-long}
 
 -- check_in
 pub by-index :
-    (book table₀ links₀ heads₀ : List ℕ) → Blank book table₀ links₀ heads₀ → (table links heads : List ℕ) → table ≡ filledTable book table₀ →
-    links ≡ indexedChains book table₀ (record { links = links₀; heads = heads₀ }) .links →
-    heads ≡ indexedChains book table₀ (record { links = links₀; heads = heads₀ }) .heads → (r : Check) →
+    (book table₀ links₀ heads₀ : List ℕ) → Blank book table₀ links₀ heads₀ links₀ → (table links heads : List ℕ) (n : ℕ) → table ≡ filledTable book table₀ →
+    n ≡ filledRows book table₀ → links ≡ linkedBelow book table (atMost maxRecords n) (record { links = links₀; heads = heads₀ }) .links →
+    heads ≡ linkedBelow book table (atMost maxRecords n) (record { links = links₀; heads = heads₀ }) .heads → (r : Check) →
     r ≡ checked (conflictAt (conflictFrom book table links heads 0 (length links))) → r ≡ checked (conflictAt (firstConflict book))
 unfolding firstConflict
-by-index book table₀ links₀ heads₀ blank table links heads rows l h r e =
+by-index book table₀ links₀ heads₀ blank table links heads n rows count l h r e =
+    let c : Chains = record { links = links₀; heads = heads₀ } in
     e ∙ rw (
-      table-of-book book table₀ links₀ heads₀ blank table rows,
-      links-of-book book table₀ links₀ heads₀ blank links l,
-      heads-of-book book table₀ links₀ heads₀ blank heads h,
+      links-of-book book table₀ links₀ heads₀ links₀ blank links (links-made book table₀ table n c rows count links l),
+      heads-of-book book table₀ links₀ heads₀ links₀ blank heads (heads-made book table₀ table n c rows count heads h),
+      table-of-book book table₀ links₀ heads₀ links₀ blank table rows,
     )
 
 -- check_book: without an alias there is no conflict
@@ -86,8 +87,12 @@ module _ (b : List ℕ) (o : BookLayout) (f : o ≡ layoutOf b) where
       go (some q) l t e = let z : _≡_ {A = ℕ} 0 1 = cc in absurd (omega arith)
 
 -- the arrays of a short book, and of any other
-pub lent-short : (book : List ℕ) → length book ≤ shortBook → (m k : ℕ) → m ≡ 6 * fewRecords → k ≡ fewRecords → Blank book (replicate m 0) (replicate k noRecord) (replicate maxRecords noRecord)
+pub lent-short :
+    (book : List ℕ) → length book ≤ shortBook → (m k : ℕ) → m ≡ 6 * fewRecords → k ≡ fewRecords →
+    Blank book (replicate m 0) (replicate k noRecord) (replicate maxRecords noRecord) (replicate k noRecord)
 lent-short book h m k e f = blank-short book m k (replicate maxRecords noRecord) refl h e f
 
-pub lent-long : (book : List ℕ) → shortBook < length book → (m k : ℕ) → m ≡ 6 * maxRecords → k ≡ maxRecords → Blank book (replicate m 0) (replicate k noRecord) (replicate maxRecords noRecord)
+pub lent-long :
+    (book : List ℕ) → shortBook < length book → (m k : ℕ) → m ≡ 6 * maxRecords → k ≡ maxRecords →
+    Blank book (replicate m 0) (replicate k noRecord) (replicate maxRecords noRecord) (replicate k noRecord)
 lent-long book h m k e f = blank-long book m k (replicate maxRecords noRecord) refl h e f

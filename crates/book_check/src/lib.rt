@@ -16,12 +16,13 @@ ghost use Rattle.book_places.specs.Table.{shortBook};
 ghost use Rattle.book_places.specs.Conflicts.{firstConflict};
 ghost use Rattle.book_index.specs.Indexes.{Blank};
 
-// Refusal 12, by the table and the chains that are made in the lent arrays.
+// Refusal 12, by the table and the chains that are made in the lent arrays. These are empty, with room for the records of the book.
 fn check_in(book: &[u8], table: &mut [u16], links: &mut [u16], heads: &mut [u16]) -> Check
-    requires { ⌜ Blank (now book) (now table) (now links) (now heads) ⌝ }
+    requires { ⌜ Blank (now book) (now table) (now links) (now heads) (now links) ⌝ }
     ensures { λ r. ⌜ r ≡ checked (conflictAt (firstConflict (now (book .entry)))) ⌝ }
 {
-    book_index::index_book(book, table, links, heads);
+    let n = book_fill::fill_table(book, table);
+    book_chains::link(book, table, n, links, heads);
     book_conflicts::check_conflicts(book, table, links, heads)
 }
 
