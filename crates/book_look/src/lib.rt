@@ -7,7 +7,7 @@ ghost use Rattle.book_places.specs.Table.{ownerAt};
 ghost use Rattle.book_places.specs.Sets.{isOfKind, isOwnedOf, ownedOf, ownedFrom, firstOf, firstOwned};
 
 // Whether record i is of this kind.
-fn is_of_kind(table: &[u16], i: usize, kind: Kind) -> bool
+pub fn is_of_kind(table: &[u16], i: usize, kind: Kind) -> bool
     ensures { λ r. ⌜ r ≡ isOfKind kind (now (table .entry)) i ⌝ }
 {
     if book_table::is_caa_at(table, i) {

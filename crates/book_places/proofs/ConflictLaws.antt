@@ -1,5 +1,5 @@
 -- The first conflict by table and chains is the first conflict of the records.
-use Prim.Native.Nat.{ℕ, suc, _+_}
+use Prim.Native.Nat.{ℕ, zero, suc, _+_, _-_, _*_, _≤_}
 use native.Mathlib.Nat.{zero-add}
 use native.Mathlib.Omega.{arith}
 use mathlib.Core.Path.{_≡_, refl, sym, ap, ap₂, _∙_}
@@ -8,7 +8,8 @@ use mathlib.Core.Bool.{Bool, true, false, cond, _&&_, _||_}
 use mathlib.Core.List.{List, [], _∷_, _++_}
 use mathlib.Core.Option.{Option, none, some, Option·none-ne-some}
 use lib.Dec.{ltb}
-use lib.ListN.{length}
+use lib.ListN.{length, getD, replicate}
+use lib.Seq.{getD-append-add}
 use borrow.Author.Tests.{lt-ltb, le-ltb, ltb-false, le-leb}
 use Rattle.spec_limits.specs.Limits.{maxBookOctets, maxRecords}
 use Rattle.spec_refusal.specs.declared.Refusal.{Refusal}
@@ -17,18 +18,19 @@ use Rattle.spec_octets.specs.Lists.{consIf, select, begins, All}
 use Rattle.spec_octets.proofs.ListLaws.{true-or-false, alike, All-head, All-tail}
 use Rattle.spec_name.specs.Names.{Name, wire, sameName, GoodName}
 use Rattle.spec_name.proofs.WholeNames.{whole-names}
-use Rattle.spec_record.specs.Records.{Record, isAlias, recordItems, recordRefusal, records, layoutRefusal, counts, clashes}
+use Rattle.spec_record.specs.Records.{Record, isCaa, isAlias, recordItems, recordRefusal, records, layoutRefusal, counts, clashes}
 use Rattle.spec_record.proofs.FirstOfOwner.{ClashFree, isRival, withAlias, clashes-by-first}
 use Rattle.spec_record.proofs.FirstClash.{first-clash}
 use Rattle.book_places.specs.declared.Kind.the-variants.{CaaOrAlias}
-use Rattle.book_places.specs.Table.{tabled, tableOf, ownerAt, isAliasAt}
+use Rattle.book_places.specs.Table.{rowsFrom, tabled, roomFor, tableOf, cell, ownerAt, isCaaAt, isAliasAt}
 use Rattle.book_places.specs.Chains.{chainsOf}
 use Rattle.book_places.specs.Sets.{isOfKind, isOwnedOf, firstOf, firstOwned}
-use Rattle.book_places.specs.Conflicts.{clashesWith, clashesAt, conflictFrom, Conflict-by-table}
+use Rattle.book_places.specs.Conflicts.{clashesWith, clashesAt, conflictFrom, firstConflict, Conflict-by-table}
 use Rattle.book_places.specs.Theorems.{RowTells, numbersFrom}
 use Rattle.book_places.proofs.AcceptedBook.{unrefused}
-use Rattle.book_places.proofs.TableLaws.{TellsFrom, rows-tell, good-owners}
-use Rattle.book_places.proofs.ChainedRecords.{chains-skip-nothing}
+use Rattle.book_places.proofs.TableLaws.{TellsFrom, rows-tell, rows-long, good-owners}
+use Rattle.book_places.proofs.ChainedRecords.{chains-fit, chains-skip-nothing}
+use Rattle.book_places.proofs.StandingRecords.{room-enough}
 
 -- the records of a book that is well laid out have rows, all of them
 pub laid-out-tabled : (book : List ℕ) → layoutRefusal book ≡ none → tabled book ≡ records book
@@ -132,10 +134,50 @@ right book before r after split free = go (true-or-false (counts r))
         neither : (s t u v : Bool) → s ≡ false → u ≡ false → s && t ≡ u && v
         neither s t u v e f = rw (e, f)
 
+-- rows after the last record are empty, and no record there is in conflict
+zeros : (m k : ℕ) → getD {A = ℕ} (replicate m 0) k 0 ≡ 0
+zeros zero k = refl
+zeros (suc m) zero = refl
+zeros (suc m) (suc k) = zeros m k
+
+module _ (book : List ℕ) where
+  empty-cell : (i column : ℕ) → length (tabled book) ≤ i → cell (tableOf book) i column ≡ 0
+  unfolding cell tableOf
+  empty-cell i column h = go (ltb i maxRecords)
+    where
+      rows : List ℕ
+      rows = rowsFrom 0 (tabled book)
+
+      m : ℕ
+      m = 6 * (roomFor book - length (tabled book))
+
+      behind : 6 * i + column ≡ length rows + (6 * (i - length (tabled book)) + column)
+      behind = omega (arith, rows-long 0 (tabled book))
+
+      go : (t : Bool) → cond t (getD (rows ++ replicate m 0) (6 * i + column) 0) 0 ≡ 0
+      go true = rw behind (getD-append-add rows (replicate m 0) (6 * (i - length (tabled book)) + column) 0 ∙ zeros m _)
+      go false = refl
+
+  abbrev find : ℕ → ℕ → Option ℕ
+  find = conflictFrom book (tableOf book) (chainsOf book .links) (chainsOf book .heads)
+
+  none-behind : (m k : ℕ) → length (tabled book) ≤ k → find k m ≡ none
+  unfolding clashesAt isCaaAt isAliasAt isCaa isAlias
+  none-behind zero k h = refl
+  none-behind (suc m) k h = rw (empty-cell k 1 h) (none-behind m (suc k) (omega arith))
+
+  no-more : (n m k : ℕ) → n ≤ m → k + n ≡ length (tabled book) → find k m ≡ find k n
+  no-more zero m k h e = none-behind m k (omega arith)
+  no-more (suc n) zero k h e = absurd (omega arith)
+  no-more (suc n) (suc m) k h e =
+      ap (cond (clashesAt book (tableOf book) (chainsOf book .links) (chainsOf book .heads) k) (some k)) (no-more n m (suc k) (omega arith) (omega arith))
+
 pub conflict-by-table : Conflict-by-table
+unfolding firstConflict
 conflict-by-table book e =
     let same = laid-out-tabled book e in
-    rw same
+    no-more book (length (tabled book)) (length (chainsOf book .links)) 0 (omega (arith, chains-fit book .0, room-enough book .0)) (zero-add (length (tabled book)))
+    ∙ rw same
     (sym (first-clash (records book) (clashesAt book (tableOf book) (chainsOf book .links) (chainsOf book .heads))
     (conflictFrom book (tableOf book) (chainsOf book .links) (chainsOf book .heads)) (λ k. refl) (λ k n. refl)
     (λ before r after split free. right book before r after (same ∙ split) free)))

@@ -78,7 +78,7 @@ rows-tell book =
 pub table-tells : Table-tells
 table-tells book i r e = let there : 0 + i ≡ i = omega arith in rw there at (row-of book (tableOf book) (tabled book) 0 i r (rows-tell book) e)
 
-rows-long : (at : ℕ) (rs : List Record) → length (rowsFrom at rs) ≡ 6 * length rs
+pub rows-long : (at : ℕ) (rs : List Record) → length (rowsFrom at rs) ≡ 6 * length rs
 rows-long at [] = omega arith
 rows-long at (r ∷ rs) = omega (arith, rows-long (at + length (wireRecord r)) rs)
 

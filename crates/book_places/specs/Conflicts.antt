@@ -10,7 +10,7 @@ use Rattle.spec_record.specs.Records.{records, layoutRefusal, clashFrom}
 use Rattle.book_places.specs.declared.Kind.the-variants.{CaaOrAlias}
 use Rattle.book_places.specs.declared.FirstRecord.{FirstRecord}
 use Rattle.book_places.specs.declared.FirstRecord.the-variants.{At, Nothing}
-use Rattle.book_places.specs.Table.{tabled, tableOf, ownerAt, isAliasAt}
+use Rattle.book_places.specs.Table.{tableOf, ownerAt, isAliasAt}
 use Rattle.book_places.specs.Chains.{chainsOf}
 use Rattle.book_places.specs.Sets.{isOfKind, firstOwned}
 
@@ -28,9 +28,11 @@ abbrev pub conflictFrom : List ℕ → List ℕ → List ℕ → List ℕ → �
 conflictFrom book table links heads k zero = none
 conflictFrom book table links heads k (suc n) = cond (clashesAt book table links heads k) (some k) (conflictFrom book table links heads (suc k) n)
 
+-- The first record of a book that is in conflict.
+unfoldable pub firstConflict : List ℕ → Option ℕ
+firstConflict book = conflictFrom book (tableOf book) (chainsOf book .links) (chainsOf book .heads) 0 (length (chainsOf book .links))
+
 -- If a book is not refused by rows 5 to 7, its first conflict by table and chains is the first conflict of its records. It is enough to compare each
 -- record with the first one of its owner.
 abbrev pub Conflict-by-table : Type 0
-Conflict-by-table =
-    (book : List ℕ) → layoutRefusal book ≡ none →
-    conflictFrom book (tableOf book) (chainsOf book .links) (chainsOf book .heads) 0 (length (tabled book)) ≡ clashFrom 0 [] (records book)
+Conflict-by-table = (book : List ℕ) → layoutRefusal book ≡ none → firstConflict book ≡ clashFrom 0 [] (records book)

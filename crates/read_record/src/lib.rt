@@ -131,7 +131,7 @@ pub enum BookLayout {
 }
 
 // Whether one of two tests passes.
-pub fn either(a: bool, b: bool) -> bool
+fn either(a: bool, b: bool) -> bool
     ensures { λ r. ⌜ r ≡ a || b ⌝ }
 {
     if a {

@@ -162,8 +162,7 @@ book-is-its-records b o rs =
 pub book-refusals : Book-refusals
 unfolding bookRefusal number
 book-refusals b o =
-    let law = layout-refusals b o in
-    (
+    let law = layout-refusals b o in (
       Iff·trans (by-layout b o BookTooLong (omega arith)) (law .0),
       λ k. Iff·trans (by-layout b o (BadRecord (record { 0 = k })) (omega arith)) (law .1 k),
       Iff·trans (by-layout b o TooManyRecords (omega arith)) (law .2),

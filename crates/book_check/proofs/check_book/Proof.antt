@@ -1,8 +1,8 @@
 -- `check_book` meets its contract.
 use borrow.Author.Needs.{needs}
-use Rattle.read_book.proofs.Ways.{not-laid-out, plain-book, book-by-conflicts}
-use Rattle.read_book.proofs.check_book.Statement.{statement}
-use Rattle.read_book.proofs.check_book.Tie as tie
+use Rattle.book_check.proofs.Ways.{not-laid-out, plain-book, book-by-conflicts}
+use Rattle.book_check.proofs.check_book.Statement.{statement}
+use Rattle.book_check.proofs.check_book.Tie as tie
 
 check-records-requires : tie.Need-check-records-requires
 check-records-requires c κs = search needs
@@ -16,8 +16,8 @@ enum-told c = search needs
 enum-told-2 : tie.Need-enum-told-2
 enum-told-2 c = search needs
 
-check-conflicts-requires : tie.Need-check-conflicts-requires
-check-conflicts-requires c κs = search needs
+check-aliases-requires : tie.Need-check-aliases-requires
+check-aliases-requires c κs = search needs
 
 returns : tie.Need-returns
 returns c = search (needs, not-laid-out)
@@ -36,7 +36,7 @@ check-book-spec =
     enum-known-r
     enum-told
     enum-told-2
-    check-conflicts-requires
+    check-aliases-requires
     returns
     returns-2
     returns-3)
