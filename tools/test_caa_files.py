@@ -698,13 +698,13 @@ class Lookups(unittest.TestCase):
         self.assertEqual(caa.book_of("f", one + self.answer("d CNAME c", name="d")).items.count, 4)
 
     def test_aliases_beside_other_records(self):
-        both, two = "a has a CNAME record and a CAA record", "a has two CNAME records"
+        both, two = "[aA] has a CNAME record and a CAA record", "[aA] has two CNAME records"
         alias, other, record = "a CNAME b\n", "A CNAME c\n", "A CAA 0 t x\n"
-        between = "b CAA 0 t x\n# mine\n\nc CNAME d\n"
+        before, between = "b CAA 0 t x\n# mine\n\nc CNAME d\n", "e CAA 0 t x\n# mine\n\nf CNAME d\n"
         for first, second, reason in [(alias, record, both), (record, alias, both), (alias, other, two), (alias, alias, two)]:
-            self.check(between + first + between.upper().replace("B CAA", "e CAA").replace("C CNAME", "f CNAME") + second,
-                       f"{reason}: this one, and the one of line 5. A name with a CNAME record has no other", 10)
-            self.check(first.replace("a ", ". ").replace("A ", ". ") + second.replace("a ", ". ").replace("A ", ". "), "[.] has", 2)
+            reason += ": this one, and the one of line 5. A name with a CNAME record has no other"
+            self.check(before + first + between + second, reason, 10)
+            self.check(re.sub("(?m)^[aA] ", ". ", first + second), "[.] has", 2)
         # Records of other types and classes, and CAA records beside each other, are none.
         for text in [
             alias + "a TYPE1 \\# 0\n" + "a CLASS3 TYPE257 \\# 0\n" + "a CLASS3 TYPE5 \\# 0\n",
@@ -939,7 +939,7 @@ class Climbs(unittest.TestCase):
         for bad in not_said:
             with self.subTest(bad):
                 self.check("a", bad, "t.z.example")
-                self.assertRegex(self.notes("a", bad + "t.z.example CAA none\n")[0], "no CAA record restricts these names")
+                self.assertRegex(self.notes("a", bad + "\nt.z.example CAA none\n")[0], "no CAA record restricts these names")
 
     def test_a_lookup_of_another_type_through_an_alias(self):
         # Its alias counts, and it says nothing of the CAA records of the target.
