@@ -1012,7 +1012,8 @@ def check_climbs(file, request, reader):
             else ""
         )
         targets = [
-            f"{name_text(target)} is the final target of {name_text(at)}, and no answer says whether it has CAA records. "
+            f"{name_text(target)} is the final target of {name_text(at)}{answered_at(reader, at)}, and no answer says whether it has "
+            "CAA records. "
             for target, at in unknown.items()
             if target != at
         ]
@@ -1031,6 +1032,11 @@ def check_climbs(file, request, reader):
     if owners - climbed:
         notes.append(f"{file}: these CAA records count for no requested name: {listed(sorted(owners - climbed))}")
     return notes
+
+
+def answered_at(reader, name):
+    """Where the answer for a name stands, if there is one."""
+    return f" (line {reader.answers[name].line})" if name in reader.answers else ""
 
 
 def names_in(request):

@@ -892,7 +892,8 @@ class Climbs(unittest.TestCase):
         for form in FOUR:
             text = captured(form.format("alias")) + example
             self.check("alias.example.com", text, "target.example.org")
-            with self.assertRaisesRegex(caa.Fault, "target.example.org is the final target of alias.example.com, and no answer says"):
+            reason = r"target.example.org is the final target of alias.example.com \(line \d+\), and no answer says whether"
+            with self.assertRaisesRegex(caa.Fault, reason):
                 self.notes("alias.example.com", text)
             # Nobody asks for that name.
             self.assertEqual(self.notes("example.com", text), [])
@@ -1238,7 +1239,8 @@ class Commands(unittest.TestCase):
         self.write("records.txt", captured("dig-alias") + captured("kdig-found"))
         status, out, error = self.make()
         self.assertEqual((status, out), (1, ""))
-        self.assertIn("records.txt: not looked up: target.example.org. target.example.org is the final target of alias.example.com", error)
+        reason = "target.example.org is the final target of alias.example.com (line 6), and no answer says whether it has CAA records. "
+        self.assertIn("records.txt: not looked up: target.example.org. " + reason, error)
         self.write("records.txt", captured("dig-alias") + captured("kdig-found") + "target.example.org CAA none\n")
         self.assertEqual(self.make()[:2], (0, f"{self.folder}: names 1, records 4, {TOLD}\n"))
 
