@@ -103,7 +103,13 @@ fn letter_case_does_not_count() {
 
 #[test]
 fn targets_of_every_kind() {
-    for target in ["com", "a.www.example.com", "_web._tcp.example", "*.example", ""] {
+    for target in [
+        "com",
+        "a.www.example.com",
+        "_web._tcp.example",
+        "*.example",
+        "",
+    ] {
         let book = [cname("www.example.com", target), ca1(target)].concat();
         granted_to_ca1(&["www.example.com"], &book, 1);
     }
@@ -266,7 +272,12 @@ fn malformed_targets() {
     refused_data(&[&[64][..], &[b'a'; 64], &[0]].concat());
     // A name of 255 octets, and one of 256.
     let longest = |last: usize| {
-        let labels = ["a".repeat(63), "a".repeat(63), "a".repeat(63), "a".repeat(last)];
+        let labels = [
+            "a".repeat(63),
+            "a".repeat(63),
+            "a".repeat(63),
+            "a".repeat(last),
+        ];
         name(&labels.join("."))
     };
     assert_eq!((longest(61).len(), longest(62).len()), (255, 256));
