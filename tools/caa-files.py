@@ -611,7 +611,7 @@ class Answer:
         if not self.aliases or self.status == "NXDOMAIN":
             return True
         if self.records["AUTHORITY"]:
-            return any(name[len(name) - len(zone) :] == zone for zone in self.zones if len(zone) <= len(name))
+            return any(name[max(0, len(name) - len(zone)) :] == zone for zone in self.zones)
         return {"rd", "ra"} <= self.flags and self.counts["AUTHORITY"] > 0
 
 

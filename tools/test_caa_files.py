@@ -648,10 +648,13 @@ class Lookups(unittest.TestCase):
         self.check(self.answer(first, second, "a.example CAA 0 issue x"), "a.example has a CNAME record and a CAA record", 9)
         self.check(self.answer(first, second, r"b.example TYPE1 \# 0"), "this record is for b.example|none is a CAA record", "[19]")
         self.check(self.answer(first, r"b.example TYPE1 \# 0"), "none is a CAA record", 1)
+        self.assertEqual(caa.book_of("f", self.answer(first, second, third, r"c TYPE1 \# 0")).items.count, 4)
+        self.check(self.answer(first, second, third, r"b.example TYPE1 \# 0"), "this record is for b.example, and", 10)
         # A loop has no end.
         reader = caa.book_of("f", self.answer(first, "b.example CNAME a.example"))
         self.assertEqual(aliases_of(reader.items.octets), [("A.example", "b.example"), ("b.example", "a.example")])
         self.assertEqual(caa.book_of("f", self.answer("a.example CNAME a.example")).items.count, 1)
+        self.assertEqual(caa.book_of("f", self.answer(first, "b.example CNAME a.example", counts=flags(2, 1))).items.count, 2)
         self.check(self.answer(first, "b.example CNAME a.example", "b.example CAA 0 t x"), "b.example has a CNAME record and a CAA", 9)
 
     def test_signatures_over_aliases(self):
@@ -974,6 +977,7 @@ class Climbs(unittest.TestCase):
         self.check("a", pasted, "[.]")
         root = HEADER + flags(0) + ";; QUESTION SECTION:\n;. IN CAA\n\n"
         self.assertRegex(self.notes("a", pasted + root)[0], "no CAA record restricts")
+        self.assertEqual(list(caa.book_of("r", root).answers), [()])
 
     def test_lines_by_hand(self):
         text = "example.com CAA 0 t x\n"
