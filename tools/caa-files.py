@@ -52,8 +52,8 @@ every name must have an answer or a line of its own: a name that was not looked 
 an empty line between pasted output and lines of your own.
 
 The desk program follows aliases: it looks for the CAA records of shop.example.com at web.example.org, and
-goes on with example.com if there are none. A resolver does the same, so an answer that came through aliases
-counts as it stands. If an answer ends with a CNAME record and says nothing about the target, look up the
+goes on with example.com if there are none. A resolver follows them too, so an answer that came through
+aliases counts as it stands. If it ends with a CNAME record and says nothing about the target, look up the
 target too. A name with a CNAME record has no other CNAME record and no CAA record: the desk program refuses
 such a book, and so does make. DNAME records are refused: write the CNAME record that dig prints with them.
 
