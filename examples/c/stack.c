@@ -200,8 +200,8 @@ static void make_book(int count, const char *first, const char *second, const ch
 }
 
 /*
- * `count` chains of `aliases` aliases each, the first at `owner`. The last target of each has a CAA record that
- * grants ca1.e.
+ * `count` chains of `aliases` aliases each; the first chain begins at `owner`. The last target of each chain has
+ * a CAA record that grants ca1.e.
  */
 static void make_chains(int count, int aliases, const char *owner)
 {
@@ -377,7 +377,7 @@ static void books(void)
         ask_book();
         method.at[254] = 'm';
     }
-    /* aliases: chains of 8, as many as fit, and one of 9 */
+    /* chains of 8 and of 9 aliases, as many as fit a book */
     make_chains(113, 8, "d.example");
     expect(call_judge, CAA_PERMITTED);
     expect(call_list, CAA_LIST);
