@@ -947,10 +947,11 @@ def aliases_in(octets):
 
 def chain_of(aliases, name):
     """A name, its target, the target of that, and so on. The last has no alias, or its target came before."""
-    names = [name]
-    while names[-1] in aliases and aliases[names[-1]] not in names:
-        names.append(aliases[names[-1]])
-    return names
+    names = {name: None}  # a dict, which finds a name faster than a list
+    while name in aliases and aliases[name] not in names:
+        name = aliases[name]
+        names[name] = None
+    return list(names)
 
 
 def counts(rr_type, rr_class):
