@@ -7,7 +7,7 @@
 
 use crate::answer::{Answer, Permitted, Refusal};
 use crate::limits::{
-    APPLICANT_OCTETS, BOOK_OCTETS, BOOK_RECORDS, ISSUER_OCTETS, LABEL_OCTETS, NAME_OCTETS,
+    ALIASES, APPLICANT_OCTETS, BOOK_OCTETS, BOOK_RECORDS, ISSUER_OCTETS, LABEL_OCTETS, NAME_OCTETS,
     REQUEST_NAMES, REQUEST_OCTETS,
 };
 
@@ -24,22 +24,31 @@ fn verdict(request: &[u8], issuer: &[u8], asker: Asker, book: &[u8]) -> Result<A
     let records = parse_book(book)?;
     let mut previous = None;
     for (number, name) in names.iter().enumerate() {
-        let set = relevant_set(&records, name.fqdn);
+        let set = match climb(&records, name.fqdn) {
+            Ok(set) => set,
+            Err(TooManyAliases { first }) => {
+                return Ok(Answer::TooManyAliases {
+                    name: number,
+                    record: first,
+                })
+            }
+        };
         if is_repeated(&set, name, &mut previous) {
             continue;
         }
-        if let Some(record) = set.iter().find(|record| record.is_unknown_critical()) {
+        if let Some(property) = set.iter().find(|property| property.is_unknown_critical()) {
             return Ok(Answer::UnknownCritical {
                 name: number,
-                record: record.number,
+                record: property.number,
             });
         }
         let mut governing = governing(&set, name.wildcard).peekable();
-        let Some(first) = governing.peek().map(|record| record.number) else {
+        let Some(first) = governing.peek().map(|property| property.number) else {
             continue;
         };
-        let grants = |record: &Record| {
-            grantee(record.value, asker).is_some_and(|grantee| grantee.eq_ignore_ascii_case(issuer))
+        let grants = |property: &Property| {
+            grantee(property.value, asker)
+                .is_some_and(|grantee| grantee.eq_ignore_ascii_case(issuer))
         };
         if !governing.any(grants) {
             return Ok(Answer::NotGranted {
@@ -73,7 +82,11 @@ fn list(
     let mut previous = None;
     let mut listed: Option<Vec<&[u8]>> = None;
     for name in &names {
-        let set = relevant_set(&records, name.fqdn);
+        // Too many aliases grant nobody, whatever the other names say.
+        let Ok(set) = climb(&records, name.fqdn) else {
+            listed = Some(Vec::new());
+            break;
+        };
         if is_repeated(&set, name, &mut previous) {
             continue;
         }
@@ -92,13 +105,13 @@ fn list(
 }
 
 /// Whom the set grants, repeats included; `None` where it doesn't restrict.
-fn grantees<'a>(set: &[&Record<'a>], wildcard: bool, asker: Asker) -> Option<Vec<&'a [u8]>> {
-    if set.iter().any(|record| record.is_unknown_critical()) {
+fn grantees<'a>(set: &[&Property<'a>], wildcard: bool, asker: Asker) -> Option<Vec<&'a [u8]>> {
+    if set.iter().any(|property| property.is_unknown_critical()) {
         return Some(Vec::new());
     }
     let mut governing = governing(set, wildcard).peekable();
     governing.peek()?;
-    Some(governing.filter_map(|r| grantee(r.value, asker)).collect())
+    Some(governing.filter_map(|p| grantee(p.value, asker)).collect())
 }
 
 fn without_repeats(grantees: Vec<&[u8]>) -> Vec<&[u8]> {
@@ -161,16 +174,34 @@ struct Name<'a> {
     fqdn: &'a [u8],
 }
 
-/// A CAA record, under the number that it has among all records of the book.
+/// A CAA record or an alias, under the number that it has among all records of the book.
 struct Record<'a> {
-    number: usize,
     owner: &'a [u8],
+    data: Data<'a>,
+}
+
+enum Data<'a> {
+    Caa(Property<'a>),
+    Alias { number: usize, target: &'a [u8] },
+}
+
+impl Record<'_> {
+    fn number(&self) -> usize {
+        match self.data {
+            Data::Caa(Property { number, .. }) | Data::Alias { number, .. } => number,
+        }
+    }
+}
+
+/// What a CAA record says, with the number of the record.
+struct Property<'a> {
+    number: usize,
     flags: u8,
     tag: &'a [u8],
     value: &'a [u8],
 }
 
-impl Record<'_> {
+impl Property<'_> {
     fn has_tag(&self, tag: &str) -> bool {
         self.tag.eq_ignore_ascii_case(tag.as_bytes())
     }
@@ -181,39 +212,75 @@ impl Record<'_> {
     }
 }
 
-/// The records of the nearest name that owns any. The root is not looked at.
-fn relevant_set<'r, 'a>(records: &'r [Record<'a>], fqdn: &[u8]) -> Vec<&'r Record<'a>> {
+/// A look that would follow more aliases than may be; `first` is the first one's number.
+struct TooManyAliases {
+    first: usize,
+}
+
+/// The set of the nearest name that has one, itself or by aliases. The root is not looked at.
+fn climb<'r, 'a>(
+    records: &'r [Record<'a>],
+    fqdn: &[u8],
+) -> Result<Vec<&'r Property<'a>>, TooManyAliases> {
     let mut name = fqdn;
     while name != [0] {
-        let set: Vec<_> = records
-            .iter()
-            .filter(|record| record.owner.eq_ignore_ascii_case(name))
-            .collect();
+        let set = look(records, name)?;
         if !set.is_empty() {
-            return set;
+            return Ok(set);
         }
         name = &name[1 + usize::from(name[0])..];
     }
-    Vec::new()
+    Ok(Vec::new())
+}
+
+/// The CAA records of the name that the aliases lead to from this one. An owner of an alias has no
+/// CAA records and no other alias, so its first record says which it is.
+fn look<'r, 'a>(
+    records: &'r [Record<'a>],
+    name: &[u8],
+) -> Result<Vec<&'r Property<'a>>, TooManyAliases> {
+    let mut owner = name;
+    let mut first = None;
+    let mut followed = 0;
+    loop {
+        let mut owned = records
+            .iter()
+            .filter(|record| record.owner.eq_ignore_ascii_case(owner))
+            .map(|record| &record.data)
+            .peekable();
+        let Some(&&Data::Alias { number, target }) = owned.peek() else {
+            let properties = owned.filter_map(|data| match data {
+                Data::Caa(property) => Some(property),
+                Data::Alias { .. } => None,
+            });
+            return Ok(properties.collect());
+        };
+        let first = *first.get_or_insert(number);
+        if followed == ALIASES {
+            return Err(TooManyAliases { first });
+        }
+        followed += 1;
+        owner = target;
+    }
 }
 
 /// Whether the name before was of the same kind and led to the same set, known by its first record:
 /// then all that the set says is done with.
-fn is_repeated(set: &[&Record], name: &Name, previous: &mut Option<(usize, bool)>) -> bool {
-    let this = set.first().map(|record| (record.number, name.wildcard));
+fn is_repeated(set: &[&Property], name: &Name, previous: &mut Option<(usize, bool)>) -> bool {
+    let this = set.first().map(|first| (first.number, name.wildcard));
     this.is_some() && std::mem::replace(previous, this) == this
 }
 
 fn governing<'r, 'a>(
-    set: &'r [&'r Record<'a>],
+    set: &'r [&'r Property<'a>],
     wildcard: bool,
-) -> impl Iterator<Item = &'r Record<'a>> {
-    let tag = if wildcard && set.iter().any(|record| record.has_tag("issuewild")) {
+) -> impl Iterator<Item = &'r Property<'a>> {
+    let tag = if wildcard && set.iter().any(|property| property.has_tag("issuewild")) {
         "issuewild"
     } else {
         "issue"
     };
-    set.iter().copied().filter(move |r| r.has_tag(tag))
+    set.iter().copied().filter(move |p| p.has_tag(tag))
 }
 
 /// The issuer name that a value grants. `None` where the value doesn't fit the grammar, holds no
@@ -345,31 +412,64 @@ fn parse_book(book: &[u8]) -> Result<Vec<Record<'_>>, Refusal> {
         records.extend(record.ok_or(Refusal::BadRecord { record: number })?);
         number += 1;
     }
-    Ok(records)
+    match find_conflict(&records) {
+        Some(record) => Err(Refusal::AliasConflict { record }),
+        None => Ok(records),
+    }
 }
 
-/// One record: `None` where it is laid out wrongly, `Some(None)` where it is no CAA record.
+/// The first record whose owner has an alias before it, or that is an alias and whose owner has any
+/// record before it.
+fn find_conflict(records: &[Record]) -> Option<usize> {
+    let mut aliased: Vec<&[u8]> = Vec::new();
+    for (place, record) in records.iter().enumerate() {
+        let is_same = |owner: &[u8]| owner.eq_ignore_ascii_case(record.owner);
+        let conflicts = match record.data {
+            Data::Caa(_) => aliased.iter().any(|owner| is_same(owner)),
+            Data::Alias { .. } => {
+                aliased.push(record.owner);
+                let mut before = records[..place].iter();
+                before.any(|earlier| is_same(earlier.owner))
+            }
+        };
+        if conflicts {
+            return Some(record.number());
+        }
+    }
+    None
+}
+
+/// One record: `None` where it is laid out wrongly, `Some(None)` where it is neither a CAA record nor
+/// an alias.
 fn take_record<'a>(rest: &mut &'a [u8], number: usize) -> Option<Option<Record<'a>>> {
     let owner = take_name(rest)?;
     let fields = take(rest, 10)?;
     let (type_and_class, length) = (&fields[..4], [fields[8], fields[9]]);
     let data = take(rest, usize::from(u16::from_be_bytes(length)))?;
-    // Type 257, class 1.
-    if type_and_class != [1, 1, 0, 1] {
-        return Some(None);
-    }
+    let data = match type_and_class {
+        // Type 257, class 1.
+        [1, 1, 0, 1] => Data::Caa(parse_property(data, number)?),
+        // Type 5, class 1.
+        [0, 5, 0, 1] => {
+            let mut rest = data;
+            let target = take_name(&mut rest).filter(|_| rest.is_empty())?;
+            Data::Alias { number, target }
+        }
+        _ => return Some(None),
+    };
+    Some(Some(Record { owner, data }))
+}
+
+fn parse_property(data: &[u8], number: usize) -> Option<Property<'_>> {
     let (&[flags, tag_length], tag_and_value) = data.split_first_chunk()?;
     let (tag, value) = tag_and_value.split_at_checked(usize::from(tag_length))?;
-    if tag.is_empty() || !tag.iter().all(u8::is_ascii_alphanumeric) {
-        return None;
-    }
-    Some(Some(Record {
+    let is_good = !tag.is_empty() && tag.iter().all(u8::is_ascii_alphanumeric);
+    is_good.then_some(Property {
         number,
-        owner,
         flags,
         tag,
         value,
-    }))
+    })
 }
 
 /// A name in wire form, its closing zero included.
