@@ -107,7 +107,7 @@ impl Generator {
 }
 
 /// The name with so many labels taken off, the root where it has no more.
-fn tail(name: &[u8], taken_off: usize) -> &[u8] {
+pub(super) fn tail(name: &[u8], taken_off: usize) -> &[u8] {
     let mut rest = name;
     for _ in 0..taken_off {
         rest = &rest[1 + usize::from(rest[0])..];

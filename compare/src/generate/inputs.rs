@@ -20,7 +20,7 @@ impl Generator {
     /// Inputs of any kind: mostly good, else damaged, too long or too many.
     pub fn inputs(&mut self) -> Inputs {
         let (mut account, mut method) = (self.any_account(), self.any_method());
-        let (request, book, issuer) = match self.below(24) {
+        let (request, book, issuer) = match self.below(28) {
             0..=3 => {
                 let (request, book) = self.deep_request_and_book();
                 (request, book, self.any_issuer())
@@ -42,6 +42,10 @@ impl Generator {
                 let issuer = self.issuer();
                 let book = self.book_of_limits(&issuer, &account, &method);
                 (self.request(), book, issuer)
+            }
+            9..=12 => {
+                let (request, book) = self.request_and_book_of_aliases();
+                (request, book, self.any_issuer())
             }
             _ => (self.any_request(), self.any_book(), self.any_issuer()),
         };
