@@ -180,7 +180,7 @@ impl Generator {
         let label = format!("m{number:02}");
         let label = [&[label.len() as u8], label.as_bytes()].concat();
         match self.below(8) {
-            0 if from.len() + label.len() <= NAME_OCTETS => [&label, from].concat(),
+            0 if from.len() + label.len() <= NAME_OCTETS => [&label[..], from].concat(),
             // As long as may be, and the same as others but for the last octets.
             1 => {
                 let front = name_of_octets(NAME_OCTETS - label.len(), LABEL_OCTETS);
