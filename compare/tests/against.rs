@@ -76,6 +76,16 @@ fn a_record_may_be_read_with_or_without_its_caa_data() {
         .to_string()
         .contains("a wrong tag is one, and is one of the data"));
 
+    let other = Other {
+        readers: Some(Readers::OWN_WITH_ALL_DATA),
+        ..Other::NOTHING
+    };
+    let comparison = compared(other, 1_000);
+    assert!(comparison.is_good(), "{comparison}");
+    assert!(comparison
+        .to_string()
+        .contains("a wrong target is one of the record"));
+
     let now_and_then = |octets: &[u8], at| match octets.len() {
         ..=20 => (Readers::OWN_WITH_CAA_DATA.record)(octets, at),
         _ => (OWN.record)(octets, at),
