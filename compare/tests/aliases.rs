@@ -39,7 +39,7 @@ fn records(book: &[u8]) -> Vec<Record<'_>> {
 }
 
 /// Where the aliases from this owner end: at the last target, or nowhere within eight.
-fn end_of<'a>(records: &'a [Record], owner: &[u8]) -> Option<Vec<u8>> {
+fn end_of(records: &[Record], owner: &[u8]) -> Option<Vec<u8>> {
     let mut at = owner.to_vec();
     for _ in 0..=8 {
         match records.iter().find(|r| r.is_alias && r.owner == at) {

@@ -70,7 +70,7 @@ impl Generator {
             self.put_in(&mut records, record);
         }
         if self.once_in(12) {
-            let unasked = self.unasked_records(BOOK_RECORDS - records.len());
+            let unasked = self.unasked_records(BOOK_RECORDS.saturating_sub(records.len()));
             records.insert(0, unasked);
         }
         let mut book = records.concat();
@@ -152,7 +152,8 @@ impl Generator {
     /// As many aliases as may be, one leading to the next, or to one of a few sets.
     fn many_aliases(&mut self, looked_at: &[&[u8]]) -> Planned {
         let mut planned = Planned::default();
-        let aliases = BOOK_RECORDS - 8 - looked_at.len();
+        // With room for three sets of two records each, and three records beside them.
+        let aliases = BOOK_RECORDS - 10 - looked_at.len();
         let numbered = |number: usize| {
             let label = format!("m{:03}", number % aliases);
             [&[4], label.as_bytes(), &[0]].concat()
