@@ -50,29 +50,25 @@ fn book_with(octets: usize) -> Vec<u8> {
         wire(&format!("{}{number:04}", "k".repeat(octets)))
     };
     let set = wire("s");
-    let mut records = vec![full_record(&set, ISSUER)];
-    let mut chain = 0;
-    for top in 0..TOPS {
-        for labels in 1..=DEEPEST_OF_ALL {
-            for place in (0..ALIASES).rev() {
-                let owner = match place {
-                    0 => name_of(top, labels),
-                    _ => between(chain, place),
-                };
-                let target = match (place + 1 == ALIASES, labels) {
-                    (true, 1) => set.clone(),
-                    _ => between(chain, place + 1),
-                };
-                records.push(cname(&owner, &target));
-            }
-            chain += 1;
+    let mut book = full_record(&set, ISSUER);
+    for chain in 0..TOPS * DEEPEST_OF_ALL {
+        let (top, labels) = (chain % TOPS, 1 + chain / TOPS);
+        // The set takes the place of an alias: the last chain is one shorter.
+        let is_last = chain + 1 == TOPS * DEEPEST_OF_ALL;
+        let aliases = ALIASES - usize::from(is_last);
+        for place in (0..aliases).rev() {
+            let owner = match place {
+                0 => name_of(top, labels),
+                _ => between(chain, place),
+            };
+            let target = match (place + 1 == aliases, labels) {
+                (true, 1) => set.clone(),
+                _ => between(chain, place + 1),
+            };
+            book.extend(cname(&owner, &target));
         }
     }
-    // The set takes the place of an alias: that of the first chain to nothing is one shorter.
-    while records.len() > BOOK_RECORDS {
-        records.pop();
-    }
-    records.concat()
+    book
 }
 
 #[cfg(test)]
