@@ -23,8 +23,7 @@ pub enum Refusal {
     TooManyRecords {
         read: usize,
     },
-    /// An alias that an earlier record of its owner can't stand beside, or the other way round:
-    /// `record` is the later one.
+    /// An owner has an alias and a CAA record, or two aliases; `record` is the later of the two.
     AliasConflict {
         record: usize,
     },
