@@ -285,7 +285,11 @@ mod tests {
             let refusal = Refusal::BadRecord { record: 0 };
             assert_eq!(read_book(&record(5, 1, &behind)).unwrap_err(), refusal);
         }
-        for target in [b"\xC0\x00".to_vec(), b"\x01b\xC0\x00".to_vec(), name_of(256)] {
+        for target in [
+            b"\xC0\x00".to_vec(),
+            b"\x01b\xC0\x00".to_vec(),
+            name_of(256),
+        ] {
             let refusal = Refusal::BadRecord { record: 0 };
             assert_eq!(read_book(&record(5, 1, &target)).unwrap_err(), refusal);
         }

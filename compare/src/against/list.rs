@@ -1,7 +1,7 @@
 //! Who may issue against ours: the answer and every octet of the buffer.
 
-use super::buffer::{sizes_to_try, TwoBuffers};
 use super::aliases::{self, count_aliases};
+use super::buffer::{sizes_to_try, TwoBuffers};
 use super::heights::{self, count_in_vain, count_of_restricted};
 use super::limits::{self, count_limits};
 use super::log::{Call, Differences, Tally};

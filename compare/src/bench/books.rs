@@ -156,13 +156,7 @@ pub fn caa(owner: &[u8], data: &[u8]) -> Vec<u8> {
 /// An alias of the target.
 pub fn cname(owner: &[u8], target: &[u8]) -> Vec<u8> {
     let length = (target.len() as u16).to_be_bytes();
-    [
-        owner,
-        b"\x00\x05\x00\x01\x00\x00\x00\x00",
-        &length,
-        target,
-    ]
-    .concat()
+    [owner, b"\x00\x05\x00\x01\x00\x00\x00\x00", &length, target].concat()
 }
 
 /// So many labels, each of this letter alone.

@@ -103,7 +103,10 @@ impl Generator {
         for _ in 0..1 + self.near_front(&[0, 1, 2]) {
             let from = match self.below(16) {
                 0 => vec![0],
-                1 => [b"\x01*", self.one_of(looked_at)].concat(),
+                1 => {
+                    let name = self.one_of(looked_at);
+                    with_label(b"*", name)
+                }
                 _ => self.near_front(looked_at).to_vec(),
             };
             self.add_chain(&from, looked_at, &mut planned);
@@ -128,7 +131,10 @@ impl Generator {
         let end = match self.below(16) {
             0 | 1 => vec![0],
             2 | 3 => self.one_of(looked_at).to_vec(),
-            4 => self.below_name(from),
+            4 => {
+                let letter = self.near_front(b"ab");
+                with_label(&[letter], from)
+            }
             5..=7 => names[self.below(names.len())].clone(),
             8 => self.owner(),
             _ => self.name_between(from, planned.aliases.len() + names.len()),
@@ -155,8 +161,8 @@ impl Generator {
         // With room for three sets of two records each, and three records beside them.
         let aliases = BOOK_RECORDS - 10 - looked_at.len();
         let numbered = |number: usize| {
-            let label = format!("m{:03}", number % aliases);
-            [&[4], label.as_bytes(), &[0]].concat()
+            let label = format!("m{:04}", number % aliases);
+            with_label(label.as_bytes(), &[0])
         };
         // No two of these have one owner.
         for number in 0..aliases {
@@ -179,24 +185,16 @@ impl Generator {
     /// A name that no request asks for: another one for each number.
     fn name_between(&mut self, from: &[u8], number: usize) -> Vec<u8> {
         let label = format!("m{number:02}");
-        let label = [&[label.len() as u8], label.as_bytes()].concat();
+        let alone = with_label(label.as_bytes(), &[0]);
         match self.below(8) {
-            0 if from.len() + label.len() <= NAME_OCTETS => [&label[..], from].concat(),
+            0 if from.len() + alone.len() <= NAME_OCTETS => with_label(label.as_bytes(), from),
             // As long as may be, and the same as others but for the last octets.
             1 => {
-                let front = name_of_octets(NAME_OCTETS - label.len(), LABEL_OCTETS);
-                [&front[..front.len() - 1], &label, &[0]].concat()
+                let front = name_of_octets(NAME_OCTETS + 1 - alone.len(), LABEL_OCTETS);
+                [&front[..front.len() - 1], &alone].concat()
             }
-            2 | 3 => [label, self.short_owner()].concat(),
-            _ => [label, vec![0]].concat(),
-        }
-    }
-
-    /// A name below this one, where it has room.
-    fn below_name(&mut self, name: &[u8]) -> Vec<u8> {
-        match name.len() + 2 <= NAME_OCTETS {
-            true => [&[1, self.near_front(b"ab")], name].concat(),
-            false => name.to_vec(),
+            2 | 3 => with_label(label.as_bytes(), &self.short_owner()),
+            _ => alone,
         }
     }
 
@@ -274,6 +272,14 @@ impl Generator {
             _ => self.owner(),
         };
         self.record_of(owner, 5, 1, &target)
+    }
+}
+
+/// The name with one label more, where that has room.
+fn with_label(label: &[u8], name: &[u8]) -> Vec<u8> {
+    match 1 + label.len() + name.len() <= NAME_OCTETS {
+        true => [&[label.len() as u8], label, name].concat(),
+        false => name.to_vec(),
     }
 }
 

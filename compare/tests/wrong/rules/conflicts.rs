@@ -33,11 +33,9 @@ pub fn refused(right: Option<Refusal>, request: &[u8], book: &[u8]) -> Option<Re
     };
     match right {
         None | Some(Refusal::AliasConflict { .. }) => conflict(usize::MAX),
-        Some(Refusal::BadRecord { record: records } | Refusal::TooManyRecords { read: records })
-            if Mistake::ConflictsAreToldInReadingOrder.is_made() =>
-        {
-            conflict(records).or(right)
-        }
+        Some(
+            Refusal::BadRecord { record: records } | Refusal::TooManyRecords { read: records },
+        ) if Mistake::ConflictsAreToldInReadingOrder.is_made() => conflict(records).or(right),
         other => other,
     }
 }
