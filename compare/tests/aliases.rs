@@ -3,6 +3,7 @@
 
 use compare::book::{read_raw_record, read_target};
 use compare::generate::Generator;
+use compare::limits::{BOOK_OCTETS, BOOK_RECORDS};
 use compare::request::read_requested_name;
 use compare::{judge, Answer};
 
@@ -88,7 +89,7 @@ fn aliases_stand_for_the_records_that_they_lead_to() {
             (generator.issuer(), generator.account(), generator.method());
         let records = records(&book);
         let (resolved, numbers) = without_aliases(&records);
-        if numbers.len() > 1_024 {
+        if numbers.len() > BOOK_RECORDS || resolved.len() > BOOK_OCTETS {
             continue;
         }
         let mut rest = &request[..];
