@@ -8,7 +8,7 @@ use crate::limits::{BOOK_RECORDS, LABEL_OCTETS, NAME_OCTETS};
 use crate::request::read_requested_name;
 
 /// Aliases of one chain.
-const LENGTHS: [usize; 12] = [1, 1, 1, 2, 3, 7, 8, 8, 8, 9, 9, 10];
+const LENGTHS: [usize; 14] = [1, 1, 1, 2, 3, 4, 7, 8, 8, 8, 8, 9, 9, 10];
 /// Targets that are no name, or not the whole data.
 const WRONG_TARGETS: [&[u8]; 9] = [
     b"",
@@ -107,6 +107,7 @@ impl Generator {
                     let name = self.one_of(looked_at);
                     with_label(b"*", name)
                 }
+                2..=8 => self.one_of(looked_at).to_vec(),
                 _ => self.near_front(looked_at).to_vec(),
             };
             self.add_chain(&from, looked_at, &mut planned);
@@ -128,15 +129,16 @@ impl Generator {
         for number in 1..self.one_of(&LENGTHS) {
             names.push(self.name_between(from, planned.aliases.len() + number));
         }
-        let end = match self.below(16) {
+        let end = match self.below(20) {
             0 | 1 => vec![0],
-            2 | 3 => self.one_of(looked_at).to_vec(),
-            4 => {
+            2 => self.one_of(looked_at).to_vec(),
+            3..=6 if from != [0] => tail(from, 1).to_vec(),
+            7 => {
                 let letter = self.near_front(b"ab");
                 with_label(&[letter], from)
             }
-            5..=7 => names[self.below(names.len())].clone(),
-            8 => self.owner(),
+            8..=10 => names[self.below(names.len())].clone(),
+            11 => self.owner(),
             _ => self.name_between(from, planned.aliases.len() + names.len()),
         };
         names.push(end);
