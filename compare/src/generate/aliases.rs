@@ -123,7 +123,7 @@ impl Generator {
         planned
     }
 
-    /// A chain of aliases, and mostly a set at its end, or around that.
+    /// A chain of aliases, and often a set at its end, or around that, or above its first name.
     fn add_chain(&mut self, from: &[u8], looked_at: &[&[u8]], planned: &mut Planned) {
         let mut names = vec![from.to_vec()];
         for number in 1..self.one_of(&LENGTHS) {
@@ -133,12 +133,12 @@ impl Generator {
             0 | 1 => vec![0],
             2 => self.one_of(looked_at).to_vec(),
             3..=6 if from != [0] => tail(from, 1).to_vec(),
-            7 => {
+            7 | 8 => {
                 let letter = self.near_front(b"ab");
                 with_label(&[letter], from)
             }
-            8..=10 => names[self.below(names.len())].clone(),
-            11 => self.owner(),
+            9..=11 => names[self.below(names.len())].clone(),
+            12 => self.owner(),
             _ => self.name_between(from, planned.aliases.len() + names.len()),
         };
         names.push(end);
@@ -146,13 +146,13 @@ impl Generator {
         for pair in names.windows(2) {
             planned.add_alias(&pair[0], &pair[1]);
         }
-        if !self.once_in(3) {
+        if self.once_in(2) {
             planned.add_set(&end);
         }
         if self.once_in(3) && end != [0] {
             planned.add_set(tail(&end, 1));
         }
-        if self.once_in(4) && from != [0] {
+        if self.once_in(2) && from != [0] {
             planned.add_set(tail(from, 1));
         }
     }

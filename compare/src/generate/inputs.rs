@@ -90,9 +90,9 @@ impl Generator {
                 let rdata = self.caa_data();
                 [self.book(), self.record_of(owner, 257, 1, &rdata)].concat()
             }
-            10..=12 => self.crowded_book(),
-            13 => self.book_of_long_list(),
-            14 | 15 => self.book_with_wrong_tag(),
+            10..=13 => self.crowded_book(),
+            14 => self.book_of_long_list(),
+            15 | 16 => self.book_with_wrong_tag(),
             _ => self.book(),
         }
     }
