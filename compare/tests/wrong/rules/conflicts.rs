@@ -111,8 +111,8 @@ fn conflicts(earlier: &Record, later: &Record) -> bool {
         _ if Mistake::ConflictsAreLetPass.is_made() => false,
         (Kind::Alias, Kind::Alias) => {
             let are_equal = earlier.data.eq_ignore_ascii_case(later.data);
-            !Mistake::TwoAliasesAreLetPass.is_made()
-                && !(Mistake::EqualAliasesAreLetPass.is_made() && are_equal)
+            !(Mistake::TwoAliasesAreLetPass.is_made()
+                || Mistake::EqualAliasesAreLetPass.is_made() && are_equal)
         }
         (Kind::Caa, Kind::Alias) => !Mistake::AliasBehindCaaIsLetPass.is_made(),
         (Kind::Alias, Kind::Caa) => !Mistake::CaaBehindAliasIsLetPass.is_made(),
