@@ -251,7 +251,7 @@ impl Generator {
         }
     }
 
-    fn put_in(&mut self, records: &mut Vec<Vec<u8>>, record: Vec<u8>) {
+    pub(super) fn put_in(&mut self, records: &mut Vec<Vec<u8>>, record: Vec<u8>) {
         let place = self.below(records.len() + 1);
         records.insert(place, record);
     }
@@ -308,7 +308,7 @@ fn looked_at(request: &[u8]) -> Vec<&[u8]> {
 }
 
 /// The owner of a record, in wire form.
-fn owner_of(record: &[u8]) -> &[u8] {
+pub(super) fn owner_of(record: &[u8]) -> &[u8] {
     let mut end = 0;
     while record[end] != 0 {
         end += 1 + usize::from(record[end]);

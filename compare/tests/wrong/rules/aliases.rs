@@ -62,17 +62,20 @@ pub fn alias_of<'r, 'a>(aliases: &'r [Alias<'a>], name: &[u8]) -> Option<&'r Ali
         .find(|alias| alias.owner.eq_ignore_ascii_case(name))
 }
 
-/// Follows the aliases from a name that is looked at, the requested one or one above it. `counted` is
-/// how many were followed before.
+/// Follows the aliases from a name that is looked at, behind so many others. `counted` is how many
+/// aliases were followed before.
 pub fn follow<'a>(
     aliases: &[Alias<'a>],
     name: &'a [u8],
-    is_requested: bool,
+    looked_at: usize,
     counted: &mut usize,
 ) -> Led<'a> {
     if Mistake::AliasesAreNotFollowed.is_made()
-        || Mistake::AliasesOfXAloneAreFollowed.is_made() && !is_requested
-        || Mistake::AliasesAboveXAloneAreFollowed.is_made() && is_requested
+        || Mistake::AliasesOfXAloneAreFollowed.is_made() && looked_at > 0
+        || Mistake::AliasesAboveXAloneAreFollowed.is_made() && looked_at == 0
+        || Mistake::AliasesOf3NamesAreFollowed.is_made() && looked_at >= 3
+        || Mistake::AliasesOf40NamesAreFollowed.is_made() && looked_at >= 40
+        || Mistake::AliasesOf100NamesAreFollowed.is_made() && looked_at >= 100
     {
         return Led::To(name);
     }

@@ -101,7 +101,7 @@ fn relevant_set<'r, 'a>(
         if at_root && !root_counts || is_given_up(looked_at) {
             return Ok(set);
         }
-        let target = match follow(aliases, place, looked_at == 0, &mut counted) {
+        let target = match follow(aliases, place, looked_at, &mut counted) {
             Led::To(target) => Some(target),
             Led::Nowhere => None,
             Led::ToOpen => return Ok(Vec::new()),
