@@ -36,19 +36,18 @@ fn verdict(request: &[u8], issuer: &[u8], asker: Asker, book: &[u8]) -> Result<A
         if is_repeated(&set, name, &mut previous) {
             continue;
         }
-        if let Some(property) = set.iter().find(|property| property.is_unknown_critical()) {
+        if let Some(record) = set.iter().find(|record| record.is_unknown_critical()) {
             return Ok(Answer::UnknownCritical {
                 name: number,
-                record: property.number,
+                record: record.number,
             });
         }
         let mut governing = governing(&set, name.wildcard).peekable();
-        let Some(first) = governing.peek().map(|property| property.number) else {
+        let Some(first) = governing.peek().map(|record| record.number) else {
             continue;
         };
-        let grants = |property: &Property| {
-            grantee(property.value, asker)
-                .is_some_and(|grantee| grantee.eq_ignore_ascii_case(issuer))
+        let grants = |record: &Record| {
+            grantee(record, asker).is_some_and(|grantee| grantee.eq_ignore_ascii_case(issuer))
         };
         if !governing.any(grants) {
             return Ok(Answer::NotGranted {
@@ -105,13 +104,13 @@ fn list(
 }
 
 /// Whom the set grants, repeats included; `None` where it doesn't restrict.
-fn grantees<'a>(set: &[&Property<'a>], wildcard: bool, asker: Asker) -> Option<Vec<&'a [u8]>> {
-    if set.iter().any(|property| property.is_unknown_critical()) {
+fn grantees<'a>(set: &[&Record<'a>], wildcard: bool, asker: Asker) -> Option<Vec<&'a [u8]>> {
+    if set.iter().any(|record| record.is_unknown_critical()) {
         return Some(Vec::new());
     }
     let mut governing = governing(set, wildcard).peekable();
     governing.peek()?;
-    Some(governing.filter_map(|p| grantee(p.value, asker)).collect())
+    Some(governing.filter_map(|r| grantee(r, asker)).collect())
 }
 
 fn without_repeats(grantees: Vec<&[u8]>) -> Vec<&[u8]> {
@@ -176,39 +175,34 @@ struct Name<'a> {
 
 /// A CAA record or an alias, under the number that it has among all records of the book.
 struct Record<'a> {
+    number: usize,
     owner: &'a [u8],
     data: Data<'a>,
 }
 
 enum Data<'a> {
-    Caa(Property<'a>),
-    Alias { number: usize, target: &'a [u8] },
+    Caa {
+        flags: u8,
+        tag: &'a [u8],
+        value: &'a [u8],
+    },
+    Alias {
+        target: &'a [u8],
+    },
 }
 
 impl Record<'_> {
-    fn number(&self) -> usize {
+    fn has_tag(&self, wanted: &str) -> bool {
         match self.data {
-            Data::Caa(Property { number, .. }) | Data::Alias { number, .. } => number,
+            Data::Caa { tag, .. } => tag.eq_ignore_ascii_case(wanted.as_bytes()),
+            Data::Alias { .. } => false,
         }
-    }
-}
-
-/// What a CAA record says, with the number of the record.
-struct Property<'a> {
-    number: usize,
-    flags: u8,
-    tag: &'a [u8],
-    value: &'a [u8],
-}
-
-impl Property<'_> {
-    fn has_tag(&self, tag: &str) -> bool {
-        self.tag.eq_ignore_ascii_case(tag.as_bytes())
     }
 
     fn is_unknown_critical(&self) -> bool {
         let known = ["issue", "issuewild", "iodef"];
-        self.flags & 128 != 0 && !known.iter().any(|tag| self.has_tag(tag))
+        matches!(self.data, Data::Caa { flags, .. } if flags & 128 != 0)
+            && !known.iter().any(|tag| self.has_tag(tag))
     }
 }
 
@@ -221,7 +215,7 @@ struct TooManyAliases {
 fn climb<'r, 'a>(
     records: &'r [Record<'a>],
     fqdn: &[u8],
-) -> Result<Vec<&'r Property<'a>>, TooManyAliases> {
+) -> Result<Vec<&'r Record<'a>>, TooManyAliases> {
     let mut name = fqdn;
     while name != [0] {
         let set = look(records, name)?;
@@ -234,58 +228,64 @@ fn climb<'r, 'a>(
 }
 
 /// The CAA records of the name that the aliases lead to from this one. An owner of an alias has no
-/// CAA records and no other alias, so its first record says which it is.
+/// other record here.
 fn look<'r, 'a>(
     records: &'r [Record<'a>],
     name: &[u8],
-) -> Result<Vec<&'r Property<'a>>, TooManyAliases> {
-    let mut owner = name;
-    let mut first = None;
+) -> Result<Vec<&'r Record<'a>>, TooManyAliases> {
+    let mut set = owned_by(records, name);
     let mut followed = 0;
-    loop {
-        let mut owned = records
-            .iter()
-            .filter(|record| record.owner.eq_ignore_ascii_case(owner))
-            .map(|record| &record.data)
-            .peekable();
-        let Some(&&Data::Alias { number, target }) = owned.peek() else {
-            let properties = owned.filter_map(|data| match data {
-                Data::Caa(property) => Some(property),
-                Data::Alias { .. } => None,
-            });
-            return Ok(properties.collect());
-        };
-        let first = *first.get_or_insert(number);
+    let mut first = 0;
+    while let [Record {
+        number,
+        data: Data::Alias { target },
+        ..
+    }] = set[..]
+    {
+        if followed == 0 {
+            first = *number;
+        }
         if followed == ALIASES {
             return Err(TooManyAliases { first });
         }
         followed += 1;
-        owner = target;
+        set = owned_by(records, target);
     }
+    Ok(set)
+}
+
+fn owned_by<'r, 'a>(records: &'r [Record<'a>], owner: &[u8]) -> Vec<&'r Record<'a>> {
+    records
+        .iter()
+        .filter(|record| record.owner.eq_ignore_ascii_case(owner))
+        .collect()
 }
 
 /// Whether the name before was of the same kind and led to the same set, known by its first record:
 /// then all that the set says is done with.
-fn is_repeated(set: &[&Property], name: &Name, previous: &mut Option<(usize, bool)>) -> bool {
-    let this = set.first().map(|first| (first.number, name.wildcard));
+fn is_repeated(set: &[&Record], name: &Name, previous: &mut Option<(usize, bool)>) -> bool {
+    let this = set.first().map(|record| (record.number, name.wildcard));
     this.is_some() && std::mem::replace(previous, this) == this
 }
 
 fn governing<'r, 'a>(
-    set: &'r [&'r Property<'a>],
+    set: &'r [&'r Record<'a>],
     wildcard: bool,
-) -> impl Iterator<Item = &'r Property<'a>> {
-    let tag = if wildcard && set.iter().any(|property| property.has_tag("issuewild")) {
+) -> impl Iterator<Item = &'r Record<'a>> {
+    let tag = if wildcard && set.iter().any(|record| record.has_tag("issuewild")) {
         "issuewild"
     } else {
         "issue"
     };
-    set.iter().copied().filter(move |p| p.has_tag(tag))
+    set.iter().copied().filter(move |r| r.has_tag(tag))
 }
 
-/// The issuer name that a value grants. `None` where the value doesn't fit the grammar, holds no
+/// The issuer name that a record grants. `None` where its value doesn't fit the grammar, holds no
 /// name, or one beyond the limits of issuer names, or a limit that isn't met.
-fn grantee<'a>(value: &'a [u8], asker: Asker) -> Option<&'a [u8]> {
+fn grantee<'a>(record: &Record<'a>, asker: Asker) -> Option<&'a [u8]> {
+    let Data::Caa { value, .. } = record.data else {
+        return None;
+    };
     let (name, parameters) = match value.iter().position(|&octet| octet == b';') {
         Some(place) => (&value[..place], trim(&value[place + 1..])),
         None => (value, &[][..]),
@@ -425,7 +425,7 @@ fn find_conflict(records: &[Record]) -> Option<usize> {
     for (place, record) in records.iter().enumerate() {
         let is_same = |owner: &[u8]| owner.eq_ignore_ascii_case(record.owner);
         let conflicts = match record.data {
-            Data::Caa(_) => aliased.iter().any(|owner| is_same(owner)),
+            Data::Caa { .. } => aliased.iter().any(|owner| is_same(owner)),
             Data::Alias { .. } => {
                 aliased.push(record.owner);
                 let mut before = records[..place].iter();
@@ -433,7 +433,7 @@ fn find_conflict(records: &[Record]) -> Option<usize> {
             }
         };
         if conflicts {
-            return Some(record.number());
+            return Some(record.number);
         }
     }
     None
@@ -448,28 +448,27 @@ fn take_record<'a>(rest: &mut &'a [u8], number: usize) -> Option<Option<Record<'
     let data = take(rest, usize::from(u16::from_be_bytes(length)))?;
     let data = match type_and_class {
         // Type 257, class 1.
-        [1, 1, 0, 1] => Data::Caa(parse_property(data, number)?),
+        [1, 1, 0, 1] => parse_property(data)?,
         // Type 5, class 1.
         [0, 5, 0, 1] => {
             let mut rest = data;
             let target = take_name(&mut rest).filter(|_| rest.is_empty())?;
-            Data::Alias { number, target }
+            Data::Alias { target }
         }
         _ => return Some(None),
     };
-    Some(Some(Record { owner, data }))
+    Some(Some(Record {
+        number,
+        owner,
+        data,
+    }))
 }
 
-fn parse_property(data: &[u8], number: usize) -> Option<Property<'_>> {
+fn parse_property(data: &[u8]) -> Option<Data<'_>> {
     let (&[flags, tag_length], tag_and_value) = data.split_first_chunk()?;
     let (tag, value) = tag_and_value.split_at_checked(usize::from(tag_length))?;
     let is_good = !tag.is_empty() && tag.iter().all(u8::is_ascii_alphanumeric);
-    is_good.then_some(Property {
-        number,
-        flags,
-        tag,
-        value,
-    })
+    is_good.then_some(Data::Caa { flags, tag, value })
 }
 
 /// A name in wire form, its closing zero included.
