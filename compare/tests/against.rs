@@ -99,6 +99,20 @@ fn a_record_may_be_read_with_or_without_its_caa_data() {
     };
     assert!(!compared(other, 1_000).differences.is_empty());
 
+    // Looks into the targets of the root's aliases alone.
+    let of_the_root = |octets: &[u8], at| match octets.get(at) {
+        Some(0) => (Readers::OWN_WITH_ALL_DATA.record)(octets, at),
+        _ => (Readers::OWN_WITH_TAGS.record)(octets, at),
+    };
+    let other = Other {
+        readers: Some(Readers {
+            record: of_the_root,
+            ..Readers::OWN_WITH_TAGS
+        }),
+        ..Other::NOTHING
+    };
+    assert!(!compared(other, 1_000).differences.is_empty());
+
     // Takes a hyphen for a letter.
     let property = |octets: &[u8]| {
         let without: Vec<u8> = octets
