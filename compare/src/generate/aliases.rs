@@ -133,11 +133,11 @@ impl Generator {
             0 | 1 => vec![0],
             2 => self.one_of(looked_at).to_vec(),
             3..=6 if from != [0] => tail(from, 1).to_vec(),
-            7 | 8 => {
+            7..=9 => {
                 let letter = self.near_front(b"ab");
                 with_label(&[letter], from)
             }
-            9..=11 => names[self.below(names.len())].clone(),
+            10 | 11 => names[self.below(names.len())].clone(),
             12 => self.owner(),
             _ => self.name_between(from, planned.aliases.len() + names.len()),
         };
