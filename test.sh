@@ -45,7 +45,6 @@ independent() {
 }
 
 note "the documents"
-python3 tools/test_check_docs.py
 python3 tools/check-docs.py
 python3 tools/figures.py --check
 python3 tools/yardstick.py --check
@@ -57,6 +56,7 @@ beside() {
     cargo test --quiet --offline --locked --manifest-path compare/Cargo.toml
     independent -- cases
     note "the tools and the stored runs"
+    python3 tools/test_check_docs.py
     python3 tools/test_caa_files.py
     python3 crates/test_runs/make.py --check
 }

@@ -20,9 +20,10 @@ fn we_agree_with_ourselves_and_every_answer_comes() {
     assert!(told.ends_with("\ncompare: 20000 cases, 0 differ"), "{told}");
 }
 
+/// `compare library` compares it on more cases.
 #[test]
 fn the_yardstick_agrees_with_us() {
-    let comparison = compared(YARDSTICK, 20_000);
+    let comparison = compared(YARDSTICK, 2_000);
     assert!(comparison.is_good(), "{comparison}");
     let told = comparison.to_string();
     assert!(told.starts_with("judge "), "{told}");
