@@ -14,21 +14,15 @@ ghost use Rattle.book_places.specs.Onward.{numberFound, pointed, pointedBelow};
 fn first_number(book: &[u8], table: &[u16], links: &[u16], heads: &[u16], x: &[u8]) -> u16
     ensures { λ r. ⌜ r ≡ numberFound (firstOwned CaaOrAlias (now (book .entry)) (now (table .entry)) (now (links .entry)) (now (heads .entry)) (now (x .entry))) % 65536 ⌝ }
 {
-    let FirstRecord::At(r) = book_look::first_owned(book, table, links, heads, x, Kind::CaaOrAlias) else {
+    let FirstRecord::At(r) = book_look::first_owned(book, table, links, heads, x, Kind::CaaOrAlias)
+    else {
         return END;
     };
     (r.0 % 65536) as u16
 }
 
 // Writes down where record i leads, if it is an alias.
-fn point(
-    book: &[u8],
-    table: &[u16],
-    links: &[u16],
-    heads: &[u16],
-    i: usize,
-    onward: &mut [u16],
-)
+fn point(book: &[u8], table: &[u16], links: &[u16], heads: &[u16], i: usize, onward: &mut [u16])
     ensures { λ _. ⌜ now (onward .exit) ≡ pointed (now (book .entry)) (now (table .entry)) (now (links .entry)) (now (heads .entry)) i (now (onward .entry)) ⌝ }
 {
     if !book_table::is_alias_at(table, i) {
@@ -100,7 +94,8 @@ pub fn look_up(
 ) -> FirstRecord
     ensures { λ r. ⌜ r ≡ lookedUpAt (now (book .entry)) (now (table .entry)) (now (links .entry)) (now (heads .entry)) (now (onward .entry)) (now (x .entry)) ⌝ }
 {
-    let FirstRecord::At(r) = book_look::first_owned(book, table, links, heads, x, Kind::CaaOrAlias) else {
+    let FirstRecord::At(r) = book_look::first_owned(book, table, links, heads, x, Kind::CaaOrAlias)
+    else {
         return FirstRecord::Nothing;
     };
     follow(table, links, onward, r)

@@ -324,12 +324,16 @@ module _ (book : List ℕ) (accepted : bookRefusal book ≡ none) where
 
   -- the name y has CAA records, and r is the first
   by-caa : (n : ℕ) (y : Name) (good : GoodName y) (first r : RecordNo) → ByCaa book table y good 0 (records book) (r .0) → Resolves n y first (At r)
-  by-caa n y good first r h = inl (y, ended n al y (h .none-aliased), rw (h .stands) (record {
-    first = ap (λ k. At (record { 0 = k })) (sym (h .numbered));
-    alias = λ q e. let same : r .0 ≡ q .0 = cc in rw (← same) (h .no-alias);
-    whole = λ q e f. let same : r .0 ≡ q .0 = cc in
-        rw (← same, ← h .numbered) (set-named book table links (wire y) _ (h .caa) (h .others) (caa-numbers y good ∙ rw (h .stands)));
-  }))
+  by-caa n y good first r h = inl (
+    y,
+    ended n al y (h .none-aliased),
+    rw (h .stands) (record {
+      first = ap (λ k. At (record { 0 = k })) (sym (h .numbered));
+      alias = λ q e. let same : r .0 ≡ q .0 = cc in rw (← same) (h .no-alias);
+      whole = λ q e f. let same : r .0 ≡ q .0 = cc in
+          rw (← same, ← h .numbered) (set-named book table links (wire y) _ (h .caa) (h .others) (caa-numbers y good ∙ rw (h .stands)));
+    }),
+  )
 
   abbrev Resolved : ℕ → Type 0
   Resolved n = (y : Name) (good : GoodName y) (first r : RecordNo) → headOf y good ≡ At r → Resolves n y first (resolved n table links (onwardOf book) first r)

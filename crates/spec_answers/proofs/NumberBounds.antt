@@ -63,8 +63,7 @@ Numbered m book = All (λ c. c .number < m) (book .caa) × All (λ a. a .number 
 book-numbered : (b : List ℕ) → Numbered maxRecords (asBook (records b))
 unfolding records recordItems
 book-numbered b =
-    let few = whole-within maxRecords (recordItems b) (items-within resourceRecord maxRecords b) in
-    (
+    let few = whole-within maxRecords (recordItems b) (items-within resourceRecord maxRecords b) in (
       kind-numbered isCaa property asCaa (λ c. c .number) (λ k x p. refl) maxRecords 0 (records b) (omega arith),
       kind-numbered isAlias target asAlias (λ a. a .number) (λ k x t. refl) maxRecords 0 (records b) (omega arith),
     )

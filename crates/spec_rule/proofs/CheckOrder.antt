@@ -179,15 +179,15 @@ pub four-rows :
     Keeps (c ∷ []) (λ r. ((r ≡ long) × (limit < size)) ⊎ PlacedRow bad B r ⊎ Row many O r ⊎ PlacedRow clash C r) (i ∷ j ∷ k ∷ l ∷ [])
 four-rows over broken beyond clashing faults is-i is-j is-k is-l sorted = limited-rows over
     (λ r e. ⊎-elim inl
-        (λ f. inr (⊎-elim
-            (λ g. inl (placed-due broken e g))
-            (λ g. inr (⊎-elim (λ h. inl (row-due beyond e h)) (λ h. inr (placed-due clashing e h)) g))
-            f))
-        (faults r e))
+    (λ f. inr (⊎-elim
+    (λ g. inl (placed-due broken e g))
+    (λ g. inr (⊎-elim (λ h. inl (row-due beyond e h)) (λ h. inr (placed-due clashing e h)) g))
+    f))
+    (faults r e))
     (λ r. ⊎-elim (placed-fits broken) (⊎-elim (row-fits beyond) (placed-fits clashing)))
     (λ r. ⊎-elim
-        (λ h. List·Memᴰ·head (ap number (h .1) ∙ is-j (h .0)))
-        (⊎-elim
-            (λ h. List·Memᴰ·tail (List·Memᴰ·head (ap number (h .0) ∙ is-k)))
-            (λ h. List·Memᴰ·tail (List·Memᴰ·tail (List·Memᴰ·head (ap number (h .1) ∙ is-l (h .0)))))))
+    (λ h. List·Memᴰ·head (ap number (h .1) ∙ is-j (h .0)))
+    (⊎-elim
+    (λ h. List·Memᴰ·tail (List·Memᴰ·head (ap number (h .0) ∙ is-k)))
+    (λ h. List·Memᴰ·tail (List·Memᴰ·tail (List·Memᴰ·head (ap number (h .1) ∙ is-l (h .0)))))))
     is-i sorted

@@ -128,8 +128,7 @@ a-lookup book x = go (followed maxAliases (book .aliases) x) refl
         is : lookup book x ≡ asLookup (caaAt (book .caa) y)
         is = at-end-lookup book x y e
     go none e =
-        let (a, bs, i, is) = endless-lookup book x e in
-        (
+        let (a, bs, i, is) = endless-lookup book x e in (
           (λ h. absurd (empty≢endless (sym h ∙ is)), λ (z, end, h). absurd (never-ends book x e z end)),
           λ rs. (λ h. absurd (found≢endless (sym h ∙ is)), λ (z, end, h, some-set). absurd (never-ends book x e z end)),
           λ r. (
