@@ -47,10 +47,10 @@ nothing-left = go (recordFields []) refl
         absurd (wire-full (x .0 .owner) (append-eq-nil-iff .0 (sym front) .0))
 
 -- where no record is refused, those whose fields can be read are the items
-abbrev Unrefused : ℕ → List ℕ → Type 0
+abbrev pub Unrefused : ℕ → List ℕ → Type 0
 Unrefused room s = recordRefusal (items resourceRecord room s) ≡ none → readable room s ≡ wholeItems (items resourceRecord room s)
 
-unrefused : (room : ℕ) (s : List ℕ) → Unrefused room s
+pub unrefused : (room : ℕ) (s : List ℕ) → Unrefused room s
 unrefused zero [] e = refl
 unrefused zero (x ∷ s) e = absurd (Option·none-ne-some _ (sym e))
 unrefused (suc room) [] e = rw nothing-left

@@ -5,6 +5,7 @@ pub mod StandingRecords
 pub mod TableLaws
 pub mod ChainedRecords
 pub mod SetLaws
+pub mod ConflictLaws
 pub mod OwnedWalk
 pub mod OnwardLaws
 pub mod LookLaws

@@ -4,5 +4,6 @@ pub mod Keys
 pub mod Chains
 pub mod Sets
 pub mod Onward
+pub mod Conflicts
 pub mod NameAuthorizations
 pub mod Theorems

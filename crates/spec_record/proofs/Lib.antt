@@ -3,6 +3,7 @@ pub mod AliasLaws
 pub mod KindLaws
 pub mod ClashLaws
 pub mod FirstOfOwner
+pub mod FirstClash
 pub mod RecordLaws
 pub mod Book
 pub mod Table

@@ -70,7 +70,7 @@ Kind-records =
     (k : ℕ) (rs : List Record) → All (λ r. r .type ≡ type → r .class ≡ class → (a : A) × Holds (r .rdata) a) rs →
     OfKind type class Holds made k rs (ofKindFrom isOf read made k rs)
 
--- Records of type 1, CAA, alias, type 257 of class 3, CAA, alias: the numbers of the CAA records, and of the aliases with their targets.
+-- Records of type 1, CAA, alias, type 257 of class 3, CAA, alias: the numbers of the CAA records, and of the aliases with their owners and targets.
 abbrev pub plain : ℕ → ℕ → List ℕ → Record
 plain type class d = record { owner = text "a" ∷ []; type = type; class = class; ttl = 0; rdata = d }
 
@@ -87,7 +87,7 @@ mixed =
 abbrev pub Kind-example : Type 0
 Kind-example =
     (ofKindFrom isCaa property (λ k owner p. k) 0 mixed ≡ 1 ∷ 4 ∷ [])
-    × (ofKindFrom {B = ℕ × Name} isAlias target (λ k owner t. (k, t)) 0 mixed ≡ (2, text "b" ∷ []) ∷ (5, []) ∷ [])
+    × (ofKindFrom {B = ℕ × Name × Name} isAlias target (λ k owner t. (k, owner, t)) 0 mixed ≡ (2, text "a" ∷ [], text "b" ∷ []) ∷ (5, text "a" ∷ [], []) ∷ [])
 
 -- A CAA record, and an alias.
 abbrev pub IsCaa : Record → Type 0

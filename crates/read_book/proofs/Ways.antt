@@ -3,10 +3,10 @@ use Prim.Native.Nat.{ℕ, suc, _≤_, _<_, _+_, _-_}
 use native.Mathlib.Nat.{sub-zero}
 use native.Mathlib.Numerals.{add-one}
 use native.Mathlib.Omega.{arith}
-use mathlib.Core.Path.{_≡_, refl, sym, ap, _∙_}
-use mathlib.Core.Bool.{Bool, true, false, cond, not, _&&_, _||_, and-false}
+use mathlib.Core.Path.{_≡_, refl, sym, _∙_}
+use mathlib.Core.Bool.{Bool, true, false, not, _&&_, _||_, and-false}
 use mathlib.Core.List.{List, [], _∷_}
-use mathlib.Core.Option.{Option, none, some, Option·none-ne-some}
+use mathlib.Core.Option.{Option, none, some}
 use lib.ListN.{length, take, drop}
 use borrow.Author.Tests.{not-true, not-false}
 use Rattle.spec_limits.specs.Limits.{maxRecords}
@@ -18,7 +18,7 @@ use Rattle.spec_refusal.specs.declared.Check.the-variants.{Accepted, Refused}
 use Rattle.spec_octets.specs.Lists.{any}
 use Rattle.spec_octets.specs.Octets.{equalIgnoringCase}
 use Rattle.spec_octets.proofs.ListLaws.{or-eq-false}
-use Rattle.spec_record.specs.Records.{Record, isCaa, isAlias, records, layoutRefusal, counts, clash, clashes, clashFrom, conflictAt, conflictRefusal, orRefusal, bookRefusal}
+use Rattle.spec_record.specs.Records.{Record, isCaa, isAlias, records, layoutRefusal, counts, clashes, clashFrom, conflictAt, conflictRefusal, orRefusal, bookRefusal}
 use Rattle.read_record.specs.declared.RecordAt.{RecordAt}
 use Rattle.read_record.specs.declared.RecordRead.{RecordRead}
 use Rattle.read_record.specs.declared.RecordRead.the-variants.{Good, Fault}
@@ -27,8 +27,8 @@ use Rattle.read_record.specs.declared.BookLayout.the-variants.{Refused as NotLa
 use Rattle.read_record.specs.Places.{fieldsAt}
 use Rattle.read_record.specs.Layouts.{isAliasRecord, layoutTold, layoutOf}
 use Rattle.read_record.proofs.RecordPlaces.{fields-there}
-use Rattle.book_check.specs.Places.{excludes, clashesAmong, clashesBefore, conflictFrom, firstConflict}
-use Rattle.book_check.proofs.Conflicts.{none-before, conflict-by-offset}
+use Rattle.read_book.specs.Places.{excludes, clashesAmong, clashesBefore, conflictFrom, firstConflict}
+use Rattle.read_book.proofs.Conflicts.{none-before, conflict-by-offset}
 
 -- can_exclude
 module _ (type class : ℕ) (alias a : Bool) (e : a ≡ isAlias type class) where

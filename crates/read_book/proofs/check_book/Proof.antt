@@ -1,8 +1,8 @@
 -- `check_book` meets its contract.
 use borrow.Author.Needs.{needs}
-use Rattle.book_check.proofs.Ways.{not-laid-out, plain-book, book-by-conflicts}
-use Rattle.book_check.proofs.check_book.Statement.{statement}
-use Rattle.book_check.proofs.check_book.Tie as tie
+use Rattle.read_book.proofs.Ways.{not-laid-out, plain-book, book-by-conflicts}
+use Rattle.read_book.proofs.check_book.Statement.{statement}
+use Rattle.read_book.proofs.check_book.Tie as tie
 
 check-records-requires : tie.Need-check-records-requires
 check-records-requires c κs = search needs

@@ -2,9 +2,9 @@
 use Prim.Native.Nat.{_-_}
 use borrow.Author.Needs.{needs}
 use Rattle.spec_limits.specs.Limits.{maxRecords}
-use Rattle.book_check.proofs.Ways.{owner-before, owner-inside, Checked, check-start, all-checked, at-the-end, conflict-there, check-on}
-use Rattle.book_check.proofs.check_conflicts.Statement.{statement}
-use Rattle.book_check.proofs.check_conflicts.Tie as tie
+use Rattle.read_book.proofs.Ways.{owner-before, owner-inside, Checked, check-start, all-checked, at-the-end, conflict-there, check-on}
+use Rattle.read_book.proofs.check_conflicts.Statement.{statement}
+use Rattle.read_book.proofs.check_conflicts.Tie as tie
 
 abbrev Inv-loop : tie.InvT-loop
 Inv-loop b at₀ k₀ aliased₀ at k aliased = Checked b k at aliased

@@ -1,8 +1,8 @@
 -- `can_exclude` meets its contract.
 use borrow.Author.Needs.{needs}
-use Rattle.book_check.proofs.Ways.{as-alias, as-caa, as-nothing}
-use Rattle.book_check.proofs.can_exclude.Statement.{statement}
-use Rattle.book_check.proofs.can_exclude.Tie as tie
+use Rattle.read_book.proofs.Ways.{as-alias, as-caa, as-nothing}
+use Rattle.read_book.proofs.can_exclude.Statement.{statement}
+use Rattle.read_book.proofs.can_exclude.Tie as tie
 
 is-alias-requires : tie.Need-is-alias-requires
 is-alias-requires c κs = search needs

@@ -1,9 +1,9 @@
 -- `clashes_among` meets its contract. The loop's invariant: j records are compared, and the next begins at `at`.
 use Prim.Native.Nat.{_-_}
 use borrow.Author.Needs.{needs}
-use Rattle.book_check.proofs.Ways.{owner-before, owner-inside, Compared, compare-start, all-compared, none-there, clash-there, compare-on}
-use Rattle.book_check.proofs.clashes_among.Statement.{statement}
-use Rattle.book_check.proofs.clashes_among.Tie as tie
+use Rattle.read_book.proofs.Ways.{owner-before, owner-inside, Compared, compare-start, all-compared, none-there, clash-there, compare-on}
+use Rattle.read_book.proofs.clashes_among.Statement.{statement}
+use Rattle.read_book.proofs.clashes_among.Tie as tie
 
 abbrev Inv-loop : tie.InvT-loop
 Inv-loop b n x alias at₀ j₀ at j = Compared b x alias n j at

@@ -1,8 +1,8 @@
 -- `clashes_before` meets its contract.
 use borrow.Author.Needs.{needs}
-use Rattle.book_check.proofs.Ways.{not-compared, compared}
-use Rattle.book_check.proofs.clashes_before.Statement.{statement}
-use Rattle.book_check.proofs.clashes_before.Tie as tie
+use Rattle.read_book.proofs.Ways.{not-compared, compared}
+use Rattle.read_book.proofs.clashes_before.Statement.{statement}
+use Rattle.read_book.proofs.clashes_before.Tie as tie
 
 can-exclude-requires : tie.Need-can-exclude-requires
 can-exclude-requires c κs = search needs

@@ -1,8 +1,8 @@
 -- `excludes_owner` meets its contract.
 use borrow.Author.Needs.{needs}
-use Rattle.book_check.proofs.Ways.{not-excluded, by-owner}
-use Rattle.book_check.proofs.excludes_owner.Statement.{statement}
-use Rattle.book_check.proofs.excludes_owner.Tie as tie
+use Rattle.read_book.proofs.Ways.{not-excluded, by-owner}
+use Rattle.read_book.proofs.excludes_owner.Statement.{statement}
+use Rattle.read_book.proofs.excludes_owner.Tie as tie
 
 can-exclude-requires : tie.Need-can-exclude-requires
 can-exclude-requires c κs = search needs

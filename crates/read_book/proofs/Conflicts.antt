@@ -2,17 +2,16 @@
 use Prim.Native.Nat.{ℕ, zero, suc, _≤_}
 use native.Mathlib.Omega.{arith}
 use mathlib.Core.Path.{_≡_, refl, sym, ap, ap₂, _∙_}
-use mathlib.Core.Bool.{Bool, true, false, cond, _&&_, _||_, and-false, or-true, or-comm}
+use mathlib.Core.Bool.{Bool, true, false, cond, _&&_, _||_, and-false, or-comm}
 use mathlib.Core.List.{List, [], _∷_, _++_}
-use mathlib.Core.Option.{Option, none, some, Option·none-ne-some}
+use mathlib.Core.Option.{none, some, Option·none-ne-some}
 use lib.Dec.{ltb}
-use lib.ListN.{length, drop, length-append}
+use lib.ListN.{length, length-append}
 use Rattle.spec_limits.specs.Limits.{maxBookOctets, maxRecords}
-use Rattle.spec_refusal.specs.declared.Refusal.{Refusal}
 use Rattle.spec_refusal.specs.declared.Refusal.the-variants.{BookTooLong}
-use Rattle.spec_octets.specs.Lists.{any, All}
+use Rattle.spec_octets.specs.Lists.{any}
 use Rattle.spec_octets.specs.Octets.{equalIgnoringCase}
-use Rattle.spec_octets.specs.Items.{Items, whole, broken, over, wholeItems, items}
+use Rattle.spec_octets.specs.Items.{Items, whole, broken, over, wholeItems}
 use Rattle.spec_octets.proofs.ListLaws.{any-false, All-imp}
 use Rattle.spec_octets.proofs.SelectTests.{any-behind}
 use Rattle.spec_octets.proofs.ItemRoom.{items-within, whole-within}
@@ -20,13 +19,11 @@ use Rattle.spec_name.specs.Names.{wire, sameName, GoodName}
 use Rattle.spec_name.proofs.WholeNames.{whole-names}
 use Rattle.spec_record.specs.Records.{Record, isCaa, isAlias, resourceRecord, recordItems, recordRefusal, records, layoutRefusal, counts, clash, clashes, clashFrom}
 use Rattle.read_record.specs.declared.RecordAt.{RecordAt}
-use Rattle.read_record.specs.declared.RecordRead.the-variants.{Good}
-use Rattle.read_record.specs.Places.{fieldsAt}
 use Rattle.read_record.specs.Layouts.{isAliasRecord}
 use Rattle.read_record.proofs.RecordPlaces.{RecordTo}
-use Rattle.book_check.specs.Places.{ownerOf, excludes, clashesAmong, clashesBefore, conflictFrom, firstConflict}
-use Rattle.book_check.specs.Theorems.{Conflict-by-offset}
-use Rattle.book_check.proofs.Standing.{Stand, stand-nil, stand-cons, stand-more, owner-good, nothing-at-end, standing}
+use Rattle.read_book.specs.Places.{ownerOf, excludes, clashesAmong, clashesBefore, conflictFrom, firstConflict}
+use Rattle.read_book.specs.Theorems.{Conflict-by-offset}
+use Rattle.read_book.proofs.Standing.{Stand, stand-nil, stand-cons, stand-more, owner-good, nothing-at-end, standing}
 
 -- what r is asked of a record before it
 abbrev test : Record → Record → Bool

@@ -5,14 +5,14 @@ use mathlib.Core.Path.{_≡_, refl, sym, ap, subst, _∙_}
 use mathlib.Core.Logic.{_≢_, _⊎_, inl, inr}
 use mathlib.Core.Bool.{true, false}
 use mathlib.Core.List.{List, [], _∷_, _++_, nil≢cons, head-eq-of-cons-eq, tail-eq-of-cons-eq}
-use mathlib.Core.Option.{Option, none, some, Option·none-ne-some}
+use mathlib.Core.Option.{some, Option·none-ne-some}
 use lib.Dec.{ltb}
 use lib.ListN.{length, drop, length-drop, drop-of-length-le}
 use borrow.Author.Tests.{ltb-true, ltb-false}
-use Rattle.spec_octets.specs.Items.{Items, whole, wholeItems, items}
+use Rattle.spec_octets.specs.Items.{whole, wholeItems, items}
 use Rattle.spec_octets.proofs.ListLaws.{true-or-false}
 use Rattle.spec_octets.proofs.ReaderLaws.{pure-some}
-use Rattle.spec_octets.proofs.ItemLaws.{OneMore, one-more, items-end}
+use Rattle.spec_octets.proofs.ItemLaws.{one-more, items-end}
 use Rattle.spec_name.specs.Names.{GoodName}
 use Rattle.spec_name.proofs.NameLaws.{name-is-its-labels, fewer-labels}
 use Rattle.spec_record.specs.Records.{Record, resourceRecord}

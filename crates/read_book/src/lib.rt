@@ -10,7 +10,7 @@ ghost use mathlib.Core.Bool.{_&&_};
 ghost use Rattle.spec_refusal.specs.Checks.{checked};
 ghost use Rattle.spec_octets.specs.Octets.{equalIgnoringCase};
 ghost use Rattle.spec_record.specs.Records.{bookRefusal, conflictAt};
-ghost use Rattle.book_check.specs.Places.{excludes, clashesAmong, clashesBefore, firstConflict};
+ghost use Rattle.read_book.specs.Places.{excludes, clashesAmong, clashesBefore, firstConflict};
 
 // Whether a record of this type and class can be in conflict with an alias (true), or with a CAA record (false).
 fn can_exclude(rtype: usize, class: usize, alias: bool) -> bool
