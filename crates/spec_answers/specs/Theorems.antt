@@ -2,7 +2,7 @@
 use Prim.Native.Nat.{ℕ}
 use mathlib.Core.Path.{_≡_}
 use mathlib.Core.List.{List}
-use Rattle.spec_refusal.specs.declared.Refusal.the-variants.{RequestTooLong, BadName, TooManyNames, BadIssuer, BookTooLong, BadRecord, TooManyRecords, NoRoom, BadLine, LineTooLong, BadData}
+use Rattle.spec_refusal.specs.declared.Refusal.the-variants.{RequestTooLong, BadName, TooManyNames, BadIssuer, BookTooLong, BadRecord, TooManyRecords, NoRoom, BadLine, LineTooLong, BadData, AliasConflict}
 use Rattle.spec_refusal.specs.Refusal.{number}
 use Rattle.spec_packed.specs.Packed.{numberIn, fieldA, fieldB, fieldC}
 use Rattle.spec_line.specs.declared.LineAnswer.the-variants.{Length, Refused as LineRefused}
@@ -42,7 +42,7 @@ abbrev pub Read-line-unpacks : Type 0
 Read-line-unpacks = (s buffer : List ℕ) → Unpacked (packedLine (parseLine s buffer .answer)) (lineCode (parseLine s buffer .answer))
 
 -- Packed answers, worked out by hand: the number, plus the place or the first value times 256, plus the second value times 4294967296.
--- Names 7, 2, 1 and 3, records 4, 5, 3 and 1, 32 octets, a list of 2 names in 32 octets, a line of 36 octets.
+-- Names 7, 2, 1 and 3, records 4, 6, 5, 3 and 1, 32 octets, a list of 2 names in 32 octets, a line of 36 octets.
 abbrev pub Packed-answers : Type 0
 Packed-answers =
     (packedJudgement Permitted ≡ 0)
@@ -53,10 +53,12 @@ Packed-answers =
     × (packedJudgement (Refused BookTooLong) ≡ 5)
     × (packedJudgement (Refused (BadRecord (record { 0 = 4 }))) ≡ 1030)
     × (packedJudgement (Refused TooManyRecords) ≡ 262151)
+    × (packedJudgement (Refused (AliasConflict (record { 0 = 6 }))) ≡ 1548)
     × (packedJudgement (UnknownCritical (denial 2 5)) ≡ 21474837012)
     × (packedJudgement (NotGranted (denial 1 3)) ≡ 12884902165)
     × (packedJudgement (TooManyAliases (denial 3 1)) ≡ 4294968086)
     × (packedIssuers (ListRefused (BadName (record { 0 = 7 }))) ≡ 1794)
+    × (packedIssuers (ListRefused (AliasConflict (record { 0 = 6 }))) ≡ 1548)
     × (packedIssuers (ListRefused (NoRoom 32)) ≡ 8200)
     × (packedIssuers Anyone ≡ 30)
     × (packedIssuers (Listed 2 32) ≡ 8589942815)
@@ -81,6 +83,7 @@ Largest-answers =
     × PackedAs (packedJudgement (Refused TooManyNames)) 64003 3 250 0
     × PackedAs (packedJudgement (Refused (BadRecord (record { 0 = 1023 })))) 261894 6 1023 0
     × PackedAs (packedJudgement (Refused TooManyRecords)) 262151 7 1024 0
+    × PackedAs (packedJudgement (Refused (AliasConflict (record { 0 = 1023 })))) 261900 12 1023 0
     × PackedAs (packedIssuers (Listed 1024 49152)) 4398059094047 31 49152 1024
     × PackedAs (packedIssuers (ListRefused (NoRoom 49152))) 12582920 8 49152 0
     × PackedAs (packedLine (Length 16384)) 4194304 0 16384 0

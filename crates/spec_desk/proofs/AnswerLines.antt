@@ -14,7 +14,7 @@ line-words = (λ k r. simp append-assoc, λ k r. simp append-assoc, λ k r. simp
 
 pub line-examples : Line-examples
 unfolding answerText decimal number place deskLine maxNames maxRecords
-line-examples = (refl, refl, refl, refl, refl, refl, refl, refl, refl, refl, refl, λ request issuer who book. refl)
+line-examples = (refl, refl, refl, refl, refl, refl, refl, refl, refl, refl, refl, refl, λ request issuer who book. refl)
 
 pub judged : Judged
 unfolding deskLine

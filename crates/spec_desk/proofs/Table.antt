@@ -29,4 +29,4 @@ unfolding maxLabelOctets maxIssuerOctets maxNameOctets maxRequestOctets maxNames
     isUnknownCritical governing grantee authorization verdict name isRequestable requestedName nameItems requestedNames requestRefusal
     issuerRefusal maxAccountOctets isAccount isMethod isApplicant applicantRefusal isLaidOut resourceRecord recordItems records layoutRefusal clashes conflictRefusal bookRefusal number authorizations judge
     decimal refusalNumber place answerText deskLine
-desk-lines = (refl, refl, refl, refl, refl, refl, refl, refl, refl)
+desk-lines = (refl, refl, refl, refl, refl, refl, refl, refl, refl, refl, refl)

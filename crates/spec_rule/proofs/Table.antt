@@ -50,7 +50,7 @@ unfolding maxLabelOctets maxIssuerOctets maxAliases maxNameOctets maxRequestOcte
     isCritical tagOf isCaa isAlias target isDomainName isParameterOctet isParameterTag isParameter areParameters issueValue parameterIn parametersIn admits lookup relevantSet
     isUnknownCritical governing grantee authorization verdict name isRequestable requestedName nameItems requestedNames requestRefusal
     issuerRefusal maxAccountOctets isAccount isMethod isApplicant applicantRefusal isLaidOut resourceRecord recordItems records layoutRefusal clashes conflictRefusal bookRefusal number authorizations listIssuers
-lists-agree = (refl, refl, refl, refl, refl, refl, refl, refl, refl, refl, refl, refl, refl, refl, refl, refl, refl, refl)
+lists-agree = (refl, refl, refl, refl, refl, refl, refl, refl, refl, refl, refl, refl, refl, refl, refl, refl, refl, refl, refl, refl, refl, refl)
 
 pub answer-codes : Answer-codes
 unfolding judgementCode permittedIssuersCode

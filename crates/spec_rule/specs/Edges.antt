@@ -267,6 +267,9 @@ edges =
     ∷ nameEdge (chain "x" 97 8 ++ (issuingAt (letters 97 9) "ca1.example.net" ∷ [])) "x" (unresolved 0)
     ∷ nameEdge (chain "x" 97 8 ++ (issuingAt (letters 97 9) "ca1.example.net" ∷ [])) "a" (granted 9 (ca1 ∷ []))
     ∷ nameEdge (chain "x" 97 8) "*.x" (unresolved 0)
+    -- Eight that lead to no CAA record: the search goes on at the parent. With a ninth it does not.
+    ∷ nameEdge (chain "x.y" 97 7 ++ (caa "y" 0 "issue" "ca1.example.net" ∷ [])) "x.y" (granted 8 (ca1 ∷ []))
+    ∷ nameEdge (chain "x.y" 97 8 ++ (caa "y" 0 "issue" "ca1.example.net" ∷ [])) "x.y" (unresolved 0)
     -- They are counted anew at each name: five from X lead to no CAA record, and five from its parent to one.
     ∷ nameEdge (chain "x.y" 97 4 ++ (chain "y" 98 4 ++ (issuingAt (letters 98 5) "ca1.example.net" ∷ []))) "x.y" (granted 10 (ca1 ∷ []))
     -- Aliases that lead back.
