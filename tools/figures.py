@@ -116,7 +116,7 @@ def figures(tree, run=None):
         total = [a + b for a, b in zip(total, row)]
         out.append(f"| `{crate}` | " + " | ".join(map(str, row)) + " |")
     out.append("| all | " + " | ".join(map(str, total)) + " |")
-    out += ["", "By room, which is the front of a crate's name:", "",
+    out += ["", "By room. The room is the prefix of a crate's name.", "",
             "| Room | Crates | Code | Specs | Proofs | Edits |", "|---|---|---|---|---|---|"]
     rooms = {}
     for crate, row in table.items():

@@ -1,7 +1,9 @@
 -- Values, each with whether their parameters admit the account https://a/1 with the method dns-01. Worked out by hand.
 use Prim.Native.Nat.{ℕ}
 use mathlib.Core.Bool.{Bool, true, false}
-use mathlib.Core.List.{List, [], _∷_}
+use Prim.Native.Char.{code}
+use mathlib.Core.List.{List, [], _∷_, _++_}
+use lib.ListN.{replicate}
 use Rattle.spec_octets.specs.Octets.{text}
 use Rattle.spec_applicant.specs.Applicant.{Applicant}
 
@@ -80,4 +82,25 @@ admissionEdges =
     ∷ (text "n; methods=http-01", true)
     ∷ (text "n; b=; accounturi=https://a/1; b=2", true)
     ∷ (text "n; b=; accounturi=https://a/2; b=2", false)
+    ∷ []
+
+-- The longest texts: an account of 255 octets `a`, and a method of 255 octets `m`.
+abbrev pub longest : Applicant
+longest = record { account = replicate 255 (code "a"); method = replicate 255 (code "m") }
+
+-- Values, each with whether their parameters admit these: every octet counts, the first, one inside and the last.
+abbrev pub longEdges : List (List ℕ × Bool)
+longEdges =
+    (text "n; accounturi=" ++ replicate 255 (code "a"), true)
+    ∷ (text "n; accounturi=" ++ replicate 254 (code "a"), false)
+    ∷ (text "n; accounturi=" ++ replicate 256 (code "a"), false)
+    ∷ (text "n; accounturi=" ++ (replicate 254 (code "a") ++ text "b"), false)
+    ∷ (text "n; accounturi=" ++ (replicate 200 (code "a") ++ (text "b" ++ replicate 54 (code "a"))), false)
+    ∷ (text "n; accounturi=b" ++ replicate 254 (code "a"), false)
+    ∷ (text "n; validationmethods=x," ++ replicate 255 (code "m"), true)
+    ∷ (text "n; validationmethods=x," ++ replicate 254 (code "m"), false)
+    ∷ (text "n; validationmethods=x," ++ replicate 256 (code "m"), false)
+    ∷ (text "n; validationmethods=x," ++ (replicate 254 (code "m") ++ text "n"), false)
+    ∷ (text "n; validationmethods=x," ++ (replicate 200 (code "m") ++ (text "n" ++ replicate 54 (code "m"))), false)
+    ∷ (text "n; validationmethods=x,n" ++ replicate 254 (code "m"), false)
     ∷ []

@@ -13,7 +13,7 @@ use Rattle.spec_applicant.specs.Applicant.{Applicant, isApplicant, appli
 use Rattle.spec_applicant.specs.Admission.{admits}
 use Rattle.spec_applicant.specs.Meaning.{GoodApplicant, Tagged, Admits}
 use Rattle.spec_applicant.specs.ApplicantEdges.{applicantEdges}
-use Rattle.spec_applicant.specs.AdmissionEdges.{someone, admissionEdges}
+use Rattle.spec_applicant.specs.AdmissionEdges.{someone, admissionEdges, longest, longEdges}
 
 abbrev pub Applicant-texts : Type 0
 Applicant-texts = (who : Applicant) → (isApplicant who ≡ true) ↔ GoodApplicant who
@@ -48,3 +48,7 @@ Applicant-edges = map (λ e. isApplicant (e .0)) applicantEdges ≡ map (λ e. e
 -- The table AdmissionEdges.antt.
 abbrev pub Admission-edges : Type 0
 Admission-edges = map (λ e. admits someone (parametersIn (e .0))) admissionEdges ≡ map (λ e. e .1) admissionEdges
+
+-- The same with the longest texts.
+abbrev pub Long-text-edges : Type 0
+Long-text-edges = map (λ e. admits longest (parametersIn (e .0))) longEdges ≡ map (λ e. e .1) longEdges
