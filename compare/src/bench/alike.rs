@@ -4,10 +4,10 @@
 
 use std::iter;
 
-use super::books::{book_of, filled_up, full_record, wire, LEAST_CAA};
+use super::books::{book_of, cname, filled_up, full_record, wire, LEAST_CAA};
 use super::shapes::GRANTED;
 use super::NIGHT_RUN_NAMES;
-use crate::limits::{BOOK_OCTETS, BOOK_RECORDS, REQUEST_NAMES, REQUEST_OCTETS};
+use crate::limits::{ALIASES, BOOK_OCTETS, BOOK_RECORDS, REQUEST_NAMES, REQUEST_OCTETS};
 
 /// The issuer of the crowded loads, as short as may be, so that owners have room.
 const SHORT: &str = "a";
@@ -104,6 +104,7 @@ pub fn loads() -> Vec<Alike> {
         climbs_to_all(),
         many_sets(34),
         many_sets(20),
+        chains_of_aliases(),
     ]
 }
 
@@ -215,6 +216,45 @@ fn many_sets(octets: usize) -> Alike {
             .collect(),
         issuer: SHORT,
         book: [front, end].concat(),
+    }
+}
+
+/// Deep names whose every ancestor has one key and goes along as many aliases as are followed. That of
+/// the top leads to the one set. All owners have the key; the aliases that no look comes to fill the
+/// book.
+fn chains_of_aliases() -> Alike {
+    let name = deepest(&wire("kk"), REQUEST_OCTETS / REQUEST_NAMES);
+    let other = longer(&[0], 17, key(&name))
+        .next()
+        .expect("an owner has the key");
+    let other = |number| numbered(&other, unread(&other), number);
+    let starts: Vec<&[u8]> = ancestors(&name).collect();
+    let labels = starts.len();
+    let set = other(0);
+    let mut records = vec![full_record(&set, SHORT)];
+    for (chain, start) in starts.iter().enumerate() {
+        for number in ALIASES * chain..ALIASES * (chain + 1) {
+            let owner = match number % ALIASES {
+                0 => start.to_vec(),
+                _ => other(number),
+            };
+            let target = match number + 1 == ALIASES * labels {
+                true => set.clone(),
+                false => other(number + 1),
+            };
+            records.push(cname(&owner, &target));
+        }
+    }
+    for number in records.len()..BOOK_RECORDS {
+        records.push(cname(&other(number), &other(number + 1)));
+    }
+    Alike {
+        title: format!(
+            "keys alike, {REQUEST_NAMES} names of {labels} labels, aliases in chains of {ALIASES}"
+        ),
+        request: name.repeat(REQUEST_NAMES),
+        issuer: SHORT,
+        book: book_of(|record| records[record].clone()),
     }
 }
 
