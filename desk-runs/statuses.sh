@@ -31,6 +31,10 @@ begin 'run.sh: unknown critical'
 caa example.com 128 tbs Unknown > book.bin
 expect_run 1 'verdict 20 name 0 record 0' "$PWD"
 
+begin 'run.sh: too many aliases'
+cname www.example.com www.example.com > book.bin
+expect_run 1 'verdict 22 name 0 record 0' .
+
 begin 'run.sh: the stored example, in an empty folder'
 rm request.bin issuer.txt account.txt method.txt book.bin
 expect_run 1 'verdict 21 name 1 record 3'
@@ -42,6 +46,10 @@ expect_run 2 'refused 4 at 0' .
 begin 'run.sh: refused for a method'
 echo >> method.txt
 expect_run 2 'refused 15 at 0' .
+
+begin 'run.sh: refused for aliases'
+{ cname a b; cname a b; } > book.bin
+expect_run 2 'refused 12 at 1' .
 
 begin 'run.sh: no book'
 rm book.bin

@@ -113,11 +113,27 @@ fields() { two "$1"; two 1; two 0; two 3600; two "$2"; }
 # caa OWNER FLAGS TAG VALUE: a CAA record
 caa() { name "$1"; fields 257 $((2 + ${#3} + ${#4})); octets "$2" ${#3}; printf %s "$3$4"; }
 
+# cname OWNER TARGET: a CNAME record. In wire form a name has two octets more than its text, and the root has one
+cname() {
+    local length=1
+    [ -z "$2" ] || length=$((${#2} + 2))
+    name "$1"
+    fields 5 $length
+    name "$2"
+}
+
+# chain N: N aliases, from www.example.com to t1, from t1 to t2, and so on
+chain() {
+    local k=1 owner=www.example.com
+    while [ "$k" -le "$1" ]; do cname "$owner" "t$k"; owner=t$k; k=$((k + 1)); done
+}
+
 # other: a record of 11 octets that is no CAA record: owner the root, type 1, no data
 other() { octets 0; fields 1 0; }
 
 . "$here/files.sh"
 . "$here/edges.sh"
+. "$here/aliases.sh"
 . "$here/statuses.sh"
 
 echo "desk: $runs runs, $failures failed"

@@ -78,6 +78,16 @@ printf '\7example\3com\0\1\1\0\1\0\0\0\0\0\106\0\5issueca1.example.net; accountu
 folder other-account # the same record, for another account
 cp "$work/limited/book.bin" "$work/other-account/book.bin"
 printf '%s' https://ca1.example.net/acct/230124 > "$work/other-account/account.txt"
+folder alias # www.example.com CNAME pay.example.com, before the whole case
+cp "$work/www/request.bin" "$work/alias/request.bin"
+{
+    printf '\3www\7example\3com\0\0\5\0\1\0\0\0\0\0\21\3pay\7example\3com\0'
+    cat "$whole/book.bin"
+} > "$work/alias/book.bin"
+folder alias-of-itself # example.com CNAME example.com: an alias without an end
+printf '\7example\3com\0\0\5\0\1\0\0\0\0\0\15\7example\3com\0' > "$work/alias-of-itself/book.bin"
+folder alias-conflict # the same, behind the whole case
+cat "$work/alias-of-itself/book.bin" >> "$work/alias-conflict/book.bin"
 folder line-end
 echo >> "$work/line-end/issuer.txt"
 folder account-line-end
@@ -109,7 +119,7 @@ cat > "$work/later.c" <<'end'
 uint64_t caa_judge_for(const uint8_t *a, size_t b, const uint8_t *c, size_t d, const uint8_t *e, size_t f,
                        const uint8_t *g, size_t h, const uint8_t *i, size_t j)
 {
-    return UNUSED, 22 | 1 << 8;
+    return UNUSED, 29 | 1 << 8;
 }
 uint64_t caa_permitted_issuers_for(const uint8_t *a, size_t b, const uint8_t *c, size_t d, const uint8_t *e, size_t f,
                                    const uint8_t *g, size_t h, uint8_t *i, size_t j)
@@ -144,6 +154,13 @@ list of 1 in 16 octets
 ca1.example.net [0]' "$work/judge" "$work/limited"
 expect 'verdict 21 name 0 record 0
 list of 0 in 0 octets [1]' "$work/judge" "$work/other-account"
+expect 'verdict 21 name 0 record 4
+list of 1 in 16 octets
+ca2.example.org [1]' "$work/judge" "$work/alias"
+expect 'verdict 22 name 0 record 0
+list of 0 in 0 octets [1]' "$work/judge" "$work/alias-of-itself"
+expect 'refused 12 at 4
+refused 12 at 4 [2]' "$work/judge" "$work/alias-conflict"
 expect 'refused 4 at 0
 list of 1 in 16 octets
 ca2.example.org [2]' "$work/judge" "$work/line-end"
@@ -167,7 +184,7 @@ expect_status 2 "$work/judge"
 expect_status 2 "$work/judge" "$work/anyone" "$work/anyone"
 expect_status 2 "$work/judge" --not-known
 build examples/c/judge.c "$work/later" "$work/judge-later"
-expect 'unknown answer 22
+expect 'unknown answer 29
 unknown answer 32 [2]' "$work/judge-later" "$work/anyone"
 
 # Which numbers the header takes for refusals.
@@ -187,7 +204,7 @@ int main(void)
 }
 end
 build "$work/refusals.c" "$libs" "$work/refusals"
-expect '1 2 3 4 5 6 7 8 9 10 11 15  [0]' "$work/refusals"
+expect '1 2 3 4 5 6 7 8 9 10 11 12 15  [0]' "$work/refusals"
 
 build tools/caa-lines.c "$libs" "$work/caa-lines"
 expect '128 tbs "Unk\"\\\000n"
@@ -222,6 +239,9 @@ expect 'verdict 0 [0]' desk "$work/anyone"
 expect 'verdict 20 name 0 record 0 [1]' desk "$work/critical"
 expect 'verdict 0 [0]' desk "$work/limited"
 expect 'verdict 21 name 0 record 0 [1]' desk "$work/other-account"
+expect 'verdict 21 name 0 record 4 [1]' desk "$work/alias"
+expect 'verdict 22 name 0 record 0 [1]' desk "$work/alias-of-itself"
+expect 'refused 12 at 4 [2]' desk "$work/alias-conflict"
 expect 'refused 4 at 0 [2]' desk "$work/line-end"
 for folder in account-line-end method-comma no-account no-method; do
     expect 'refused 15 at 0 [2]' desk "$work/$folder"
@@ -239,6 +259,6 @@ expect_status 2 desk
 expect_status 2 desk "$work/anyone" "$work/anyone"
 expect_status 2 desk --not-known
 later_desk() { CARGO_TARGET_DIR="$work/cargo" rust "$work/later" run --example desk -- "$@"; }
-expect 'refused 22 at 1 [2]' later_desk "$work/anyone"
+expect 'refused 29 at 1 [2]' later_desk "$work/anyone"
 
 echo "link: C and Rust give the expected lines and exit statuses"

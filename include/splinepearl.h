@@ -46,19 +46,22 @@ enum caa_answer {
     CAA_TOO_MANY_NAMES = 3,    /* octets are left after 250 valid names; a = 250 */
     CAA_BAD_ISSUER = 4,        /* issuer domain name breaks a rule */
     CAA_BOOK_TOO_LONG = 5,     /* book over 49,152 octets */
-    CAA_BAD_RECORD = 6,        /* a record or its CAA data is malformed, or a tag isn't letters and digits only;
-                                  a = number of the record */
+    CAA_BAD_RECORD = 6,        /* a record or its CAA or CNAME data is malformed, or a tag isn't letters and
+                                  digits only; a = number of the record */
     CAA_TOO_MANY_RECORDS = 7,  /* octets are left after 1,024 valid records; a = 1,024 */
     CAA_NO_ROOM = 8,           /* buffer shorter than the output; a = octets needed */
     CAA_BAD_LINE = 9,          /* line breaks a rule */
     CAA_LINE_TOO_LONG = 10,    /* line over 16,384 octets, or data over 4,096 */
     CAA_BAD_DATA = 11,         /* CAA data is malformed, or its tag isn't letters and digits only */
+    CAA_ALIAS_CONFLICT = 12,   /* an alias (CNAME record) and a CAA record, or two aliases, have the same owner;
+                                  a = number of the later record */
     CAA_BAD_ACCOUNT_OR_METHOD = 15, /* account or method breaks a rule: see caa_judge_for */
 
     /* judge_for: this issuer may not issue. a = number of the first name not permitted, b = number of a record */
     CAA_UNKNOWN_CRITICAL = 20, /* its tag is unknown and critical; b = the first such record */
     CAA_NOT_GRANTED = 21,      /* restricted, and not granted to this issuer for this account and method;
                                   b = the first governing record */
+    CAA_TOO_MANY_ALIASES = 22, /* more than 8 aliases follow one another; b = the first of them */
 
     /* permitted_issuers_for */
     CAA_ANYONE = 30,           /* no requested name is restricted; nothing is written */
@@ -80,12 +83,16 @@ enum caa_answer {
  *   method    the validation method used, as text (RFC 8657, section 4), such as dns-01: the same rule, and
  *             no `,`
  *   book      0 to 1,024 resource records in wire form without compression, one after the other.
- *             Their CAA records are the answers to the lookups; a failed lookup is not an empty answer
+ *             Their CAA and CNAME records are the answers to the lookups; a failed lookup is not an empty
+ *             answer
+ *
+ * Where a name, or a name above it, is an alias (has a CNAME record), the CAA records of its final target
+ * count for it. Up to 8 aliases are followed. A DNAME record is not read.
  *
  * A record may limit its grant to one account (accounturi) and to some methods (validationmethods). Both
  * are compared octet for octet, so give both texts as your CA publishes them.
  *
- * Answers 0, 20, 21, or a refusal 1 to 7 or 15.
+ * Answers 0, 20 to 22, or a refusal 1 to 7, 12 or 15.
  */
 uint64_t caa_judge_for(const uint8_t *request, size_t request_len, const uint8_t *issuer, size_t issuer_len,
                        const uint8_t *account, size_t account_len, const uint8_t *method, size_t method_len,
@@ -96,7 +103,7 @@ uint64_t caa_judge_for(const uint8_t *request, size_t request_len, const uint8_t
  * caa_judge_for, without an issuer. A list is written to the start of `buffer`: each issuer domain name
  * once, as a length octet and the name in lower case. A buffer as long as the book is always enough.
  *
- * Answers 30, 31, or a refusal 1 to 3, 5 to 8 or 15.
+ * Answers 30, 31, or a refusal 1 to 3, 5 to 8, 12 or 15.
  */
 uint64_t caa_permitted_issuers_for(const uint8_t *request, size_t request_len, const uint8_t *account,
                                    size_t account_len, const uint8_t *method, size_t method_len,
@@ -124,27 +131,27 @@ static inline unsigned caa_number(uint64_t answer)
     return (unsigned)(answer & 0xFF);
 }
 
-/* Is it one of the refusals 1 to 11 and 15? */
+/* Is it one of the refusals 1 to 12 and 15? */
 static inline int caa_is_refusal(uint64_t answer)
 {
     const unsigned number = caa_number(answer);
 
-    return (number >= CAA_REQUEST_TOO_LONG && number <= CAA_BAD_DATA) || number == CAA_BAD_ACCOUNT_OR_METHOD;
+    return (number >= CAA_REQUEST_TOO_LONG && number <= CAA_ALIAS_CONFLICT) || number == CAA_BAD_ACCOUNT_OR_METHOD;
 }
 
-/* 1 to 11 and 15: field a, the number that the refusal comes with: of a name, of a record, of octets needed. */
+/* 1 to 12 and 15: field a, the number that the refusal comes with: of a name, of a record, of octets needed. */
 static inline size_t caa_place(uint64_t answer)
 {
     return (size_t)(answer >> 8 & 0xFFFFFF);
 }
 
-/* 20 and 21: the number of the name in the request, from 0. */
+/* 20 to 22: the number of the name in the request, from 0. */
 static inline size_t caa_name_number(uint64_t answer)
 {
     return (size_t)(answer >> 8 & 0xFFFFFF);
 }
 
-/* 20 and 21: the number of the record in the book, from 0. All records count, not only CAA. */
+/* 20 to 22: the number of the record in the book, from 0. All records count, not only CAA. */
 static inline size_t caa_record_number(uint64_t answer)
 {
     return (size_t)(answer >> 32 & 0xFFFF);

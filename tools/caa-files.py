@@ -29,15 +29,17 @@ names.txt: one requested name to a line, a wildcard name as *.example.com.
     www.example.com
     *.pay.example.com
 
-records.txt: one record to a line, CAA records as in a zone file. TTL and class may be left out (3600, IN).
+records.txt: one record to a line, CAA and CNAME records as in a zone file. TTL and class may be left out
+(3600, IN).
 
     example.com CAA 0 issue "ca1.example.net; account=230123"
     example.com. 300 IN CAA 128 tbs "Unknown"
+    shop.example.com. 300 IN CNAME web.example.org.
     www.example.com CAA none
 
-The last line says that www.example.com was looked up and has no CAA record. A tag is letters and digits:
-the desk program refuses a book with any other, and so does make. A record of another type is written in
-the form of RFC 3597, such as: example.com TYPE1 \# 4 C0000201
+The last line says that www.example.com was looked up and has neither a CAA nor a CNAME record. A tag is
+letters and digits: the desk program refuses a book with any other, and so does make. A record of another
+type is written in the form of RFC 3597, such as: example.com TYPE1 \# 4 C0000201
 
 The output of dig, drill and kdig can be pasted into records.txt as it is. Look up every requested name and
 every name above it, up to the top-level domain:
@@ -49,9 +51,11 @@ are a failed lookup, a truncated answer, and an answer with records missing. Onc
 every name must have an answer or a line of its own: a name that was not looked up is refused too. Leave
 an empty line between pasted output and lines of your own.
 
-CNAME and DNAME records are refused: the desk program does not follow aliases. If www.example.com is an
-alias, look up the final target of the alias, and write each CAA record of the target into records.txt with
-the owner www.example.com. If the target has none, write: www.example.com CAA none
+The desk program follows aliases: it looks for the CAA records of shop.example.com at web.example.org, and
+goes on with example.com if there are none. A resolver follows them too, so an answer that came through
+aliases counts as it stands. If it ends with a CNAME record and says nothing about the target, look up the
+target too. A name with a CNAME record has no other CNAME record and no CAA record: the desk program refuses
+such a book, and so does make. DNAME records are refused: write the CNAME record that dig prints with them.
 
 Write names in full, with or without the final dot: $ORIGIN, @ and an omitted owner are not understood.
 In a name, \. is a dot inside a label, \DDD is an octet in decimal, and \ before any other character is that
@@ -73,13 +77,21 @@ MAX_NAMES = 250
 MAX_REQUEST = 16_384
 MAX_RECORDS = 1_024
 MAX_BOOK = 49_152
+MAX_ALIASES = 8
 
+TYPE_CNAME = 5
+TYPE_DNAME = 39
 TYPE_CAA = 257
 CLASS_IN = 1
 DEFAULT_TTL = 3600
 
 LETTERS_DIGITS = frozenset((string.ascii_letters + string.digits).encode())
 RECORD_FORM = 'a record is: owner [TTL] [IN] CAA flags tag "value"'
+ALIAS_FORM = "an alias is: owner [TTL] [IN] CNAME target"
+CONFLICT_ADVICE = (
+    "A name with a CNAME record has no other CNAME record and no CAA record (RFC 1034, section 3.6.2), and a book in which it has one "
+    "is refused. Look the name up again, and take the old record out. If both are there, the owner of the domain has to correct it"
+)
 TAG_ADVICE = "A book with any other tag is refused. Don't leave the record out: its owner has to correct it"
 LOOKUP = "dig +noall +comments +question +answer NAME CAA"
 
@@ -233,28 +245,24 @@ def check_limited_text(what, text, advice):
 
 Head = collections.namedtuple("Head", "labels ttl rr_class type_word rest")
 
-ALIASES = {"CNAME": 5, "DNAME": 39}
-KNOWN_TYPES = {"CAA": TYPE_CAA, "RRSIG": 46, **ALIASES}
+TYPES = {"CAA": TYPE_CAA, "CNAME": TYPE_CNAME}  # those that are read by name
+KNOWN_TYPES = {**TYPES, "DNAME": TYPE_DNAME, "RRSIG": 46}
 
 
-class Alias(Fault):
-    """A CNAME or DNAME record."""
+class Dname(Fault):
+    """A DNAME record, or a signature over one."""
 
-    def __init__(self, word, owner, looked_up=None):
-        self.word, self.owner = word, owner
-        word = {"TYPE5": "TYPE5 (CNAME)", "TYPE39": "TYPE39 (DNAME)"}.get(word.upper(), word)
-        name = looked_up or "the name that was looked up"
-        example = looked_up or "www.example.com"
+    def __init__(self, word, owner):
+        word = {"TYPE39": "TYPE39 (DNAME)"}.get(word.upper(), word)
         super().__init__(
-            f"{owner} has a {word} record, and the desk program does not follow aliases. Take this whole answer out, with "
-            f"its header. Look up the final target of the alias, and write each CAA record of the target with {name} as "
-            f'its owner, for example: {example} CAA 0 issue "ca1.example.net". If the target has no CAA record, write: '
-            f"{example} CAA none"
+            f"{owner} has a {word} record, and the desk program reads CNAME records but no DNAME. Take this whole answer out, "
+            "with its header, and write its CNAME and CAA records as lines of your own, without the DNAME record. If the final "
+            "target of the aliases has no CAA record, write: TARGET CAA none"
         )
 
 
 def head_of(line):
-    """What stands before the data of a record. An alias is a fault, whatever its class."""
+    """What stands before the data of a record. A DNAME record is a fault, whatever its class."""
     if line[0] in " \t":
         raise Fault("the line begins with white space: write the owner on each line, at its front")
     if line[0] == "$":
@@ -273,11 +281,11 @@ def head_of(line):
         else:
             break
     if word.upper() in ("CH", "HS", "CS"):
-        if numbered("TYPE", field(rest)[0], ALIASES) not in ALIASES.values():
-            raise Fault(f"class {word}: write IN, the only class whose CAA records count, or another as CLASSn")
+        if numbered("TYPE", field(rest)[0], KNOWN_TYPES) != TYPE_DNAME:
+            raise Fault(f"class {word}: write IN, the only class whose records count, or another as CLASSn")
         word, rest = field(rest)
-    if numbered("TYPE", word, ALIASES) in ALIASES.values():
-        raise Alias(word, name_text(labels))
+    if numbered("TYPE", word, KNOWN_TYPES) == TYPE_DNAME:
+        raise Dname(word, name_text(labels))
     ttl = DEFAULT_TTL if ttl is None else ttl
     rr_class = CLASS_IN if rr_class is None else rr_class
     return Head(labels, ttl, rr_class, word, rest)
@@ -286,10 +294,10 @@ def head_of(line):
 def record(line):
     """One record in wire form."""
     labels, ttl, rr_class, word, rest = head_of(line)
-    rr_type = numbered("TYPE", word, {"CAA": TYPE_CAA})
+    rr_type = numbered("TYPE", word, TYPES)
     if rr_type is None:
         raise Fault(
-            rf"type {word} is not read by name, only CAA is (others as TYPEn \# length hex); {RECORD_FORM}"
+            rf"type {word} is not read by name, only CAA and CNAME are (others as TYPEn \# length hex); {RECORD_FORM}"
             if word
             else f"the record ends before its type; {RECORD_FORM}"
         )
@@ -297,14 +305,23 @@ def record(line):
         data = generic_data(rest[2:])
     elif word.upper() == "CAA":
         data = caa_data(rest)
+    elif word.upper() == "CNAME":
+        data = alias_data(rest)
     else:
         raise Fault(rf"the data of {word} must be written as \# length hex")
     if len(data) > 65_535:
         raise Fault(f"{len(data)} octets of data; 65535 fit a record")
-    if (rr_type, rr_class) == (TYPE_CAA, CLASS_IN):
-        property_of(data)
+    check_data(rr_type, rr_class, data)
     numbers = [(rr_type, 2), (rr_class, 2), (ttl, 4), (len(data), 2)]
     return wire_name(labels) + b"".join(n.to_bytes(size, "big") for n, size in numbers) + data
+
+
+def check_data(rr_type, rr_class, data):
+    """The data of a record that counts: the desk program refuses a book in which it is malformed."""
+    if (rr_type, rr_class) == (TYPE_CAA, CLASS_IN):
+        property_of(data)
+    if (rr_type, rr_class) == (TYPE_CNAME, CLASS_IN):
+        target_of(data)
 
 
 def field(text):
@@ -353,6 +370,16 @@ def caa_data(text):
     return bytes([int(flags), len(tag)]) + tag.encode() + value_of(value)
 
 
+def alias_data(text):
+    """The data of a CNAME record from its target."""
+    target, rest = field(text)
+    if not target:
+        raise Fault(f"the target of the alias is missing; {ALIAS_FORM}")
+    if rest:
+        raise Fault(f"{rest} stands behind the target; write a comment on a line of its own")
+    return wire_name(labels_of(target))
+
+
 def value_of(text):
     """The octets of a value, quoted or bare."""
     if text.startswith('"'):
@@ -381,6 +408,18 @@ def property_of(data):
         shown_tag = "".join(octet_text(octet, "\\") for octet in tag)
         raise Fault(f"the tag of the CAA data is {shown_tag}, and a tag is letters and digits. {TAG_ADVICE}")
     return data[0], tag, data[2 + length :]
+
+
+def target_of(data):
+    """The labels of the target in the data of a CNAME record."""
+    reader = Reader(data)
+    try:
+        labels = reader.name()
+    except Fault:
+        labels = None
+    if labels is None or reader.at != len(data):
+        raise Fault("the data of the CNAME record is not one name in wire form without compression, and nothing else")
+    return labels
 
 
 # ---- The lines of a text file
@@ -513,9 +552,13 @@ class Answer:
         self.section = None
         self.sections = []
         self.records = collections.Counter()  # by section
-        self.owners = set()
+        self.owners = []  # of each record of the answer section: the name, the line, and whether it tells of an alias
+        self.aliases = {}  # name to its target
         self.properties = []  # the CAA data
+        self.others = 0  # records of other types
+        self.taken = set()  # the aliases and CAA records, to know them again
         self.authority = set()  # the types in the authority section
+        self.zones = []  # the owners of the SOA records there
 
     def check(self):
         """At the end of the answer: all of it is there, and it is an answer."""
@@ -525,7 +568,8 @@ class Answer:
         if announced != found:
             hint = f". {OWN_LINES}" if found > announced else ""
             raise LookupFault(f"the header says ANSWER: {announced}, and {found} answer records follow", self.line, hint)
-        if found and self.status == "NXDOMAIN":
+        # Of a name that came through aliases, the status is that of the last target (RFC 6604).
+        if found and self.status == "NXDOMAIN" and (self.properties or self.others or not self.aliases):
             raise LookupFault("the status is NXDOMAIN (no such name), and records follow", self.line)
         if not found and "aa" not in self.flags and (self.is_referral() or not {"rd", "ra"} <= self.flags):
             raise LookupFault(
@@ -536,6 +580,39 @@ class Answer:
 
     def is_referral(self):
         return self.authority & {"NS", "TYPE2"} and not self.authority & {"SOA", "TYPE6"}
+
+    def name(self):
+        """The name that was looked up; None where the answer does not show it."""
+        if self.question is not None:
+            return self.question
+        return next((owner for owner, *_ in self.owners), None)
+
+    def is_of_another_type(self):
+        """Whether the records are those of a lookup for another type. It tells nothing about CAA records."""
+        return bool(self.records["ANSWER"] and not self.properties and (self.others or not self.aliases))
+
+    def chain(self):
+        """The names from the one that was looked up to the last target. Each record of the answer must be for one of them."""
+        names = chain_of(self.aliases, self.name())
+        for owner, line, of_alias in self.owners:
+            if owner not in names if of_alias else owner != names[-1]:
+                raise Fault(
+                    f"this record is for {name_text(owner)}, and the answer is for another name: leave pasted answers as they "
+                    f"are, and write records of your own outside of them. {OWN_LINES}",
+                    line,
+                )
+        return names
+
+    def tells_none(self, name):
+        """Of an answer without CAA records whose aliases end at `name`: whether it says that this name has none. A server
+        follows aliases as far as it can (RFC 1034, section 3.6.2). One that is not in charge of the target, and asks nobody,
+        stops there with NOERROR. One that knows that there is no record adds the SOA record of the target's zone (RFC 2308,
+        section 3). Where only the count of that section is shown, the server must be a resolver."""
+        if not self.aliases or self.status == "NXDOMAIN":
+            return True
+        if self.records["AUTHORITY"]:
+            return any(name[max(0, len(name) - len(zone)) :] == zone for zone in self.zones)
+        return {"rd", "ra"} <= self.flags and self.counts["AUTHORITY"] > 0
 
 
 class RecordsReader:
@@ -549,9 +626,12 @@ class RecordsReader:
         self.begun = None  # of a lookup that has no header yet: line number and place in BEFORE_HEADER
         self.pasted = 0  # answers
         self.answers = {}  # name to its answer
+        self.told = {}  # name to what answers say of it (its alias, or its CAA data), and the line
+        self.taken = set()  # the aliases and CAA records of answers, to know them again
         self.unnamed = []  # answers without records that do not show the name that was looked up
         self.without = {}  # names with "CAA none", and the line
-        self.signatures = {}  # owners of an RRSIG record over CAA records, and the line
+        self.owners = Owners()
+        self.signatures = {}  # owner and type of the records that an RRSIG record is over, and the line
 
     def read(self, number, line):
         self.number = number
@@ -566,13 +646,19 @@ class RecordsReader:
     def end(self):
         """The text is at its end."""
         self.close()
-        owners = {lower(labels) for labels, *_ in caa_records(self.items.octets)}
-        for name, line in self.signatures.items():
-            if name not in owners:
-                raise LookupFault(f"this signs the CAA records of {name_text(name)}, and none is here", line)
+        for (name, rr_type), line in self.signatures.items():
+            if (name, rr_type) not in self.owners.first:
+                word = next(word for word, number in TYPES.items() if number == rr_type)
+                raise LookupFault(f"this signs the {word} records of {name_text(name)}, and none is here", line)
         for name, line in self.without.items():
-            if name in owners:
+            if (name, TYPE_CAA) in self.owners.first:
                 raise Fault(f"this says none, and the file has CAA records of {name_text(name)}: take one of the two out", line)
+            if (name, TYPE_CNAME) in self.owners.first:
+                raise Fault(
+                    f"this says none, and the file has a CNAME record of {name_text(name)}: take one of the two out. If the final "
+                    "target of the alias has no CAA record, say none of the target",
+                    line,
+                )
 
     def close(self):
         """The answer that was read is at its end."""
@@ -582,19 +668,28 @@ class RecordsReader:
             return
         answer.check()
         self.pasted += 1
-        if answer.records["ANSWER"] and not answer.properties:
-            if answer.question:
-                raise LookupFault("the answer has records, and none is a CAA record", answer.line)
-            return  # a lookup of another type
-        name = answer.question or next(iter(answer.owners), None)
-        if name is None:
+        if answer.question is not None and answer.is_of_another_type():
+            raise LookupFault("the answer has records, and none is a CAA record", answer.line)
+        if answer.name() is None:
             self.unnamed.append(answer)
             return
-        other = self.answers.setdefault(name, answer)
-        if sorted(other.properties) != sorted(answer.properties):
+        names = answer.chain()
+        self.taken |= answer.taken
+        for name, target in answer.aliases.items():
+            self.tell(name, target, answer)
+        if answer.is_of_another_type():
+            return
+        self.answers.setdefault(answer.name(), answer)
+        if names[-1] not in answer.aliases and (answer.properties or answer.tells_none(names[-1])):
+            self.tell(names[-1], sorted(answer.properties), answer)
+
+    def tell(self, name, what, answer):
+        """Two answers say the same of a name: its target, or its CAA data."""
+        before, line = self.told.setdefault(name, (what, answer.line))
+        if before != what:
             raise Fault(
-                f"{name_text(name)} is looked up a second time here, and the CAA records are not those of the answer at line "
-                f"{other.line}: take the old answer out",
+                f"{name_text(name)} is looked up a second time here, and its records are not those of the answer at line {line}: "
+                "take the old answer out",
                 answer.line,
             )
 
@@ -722,8 +817,8 @@ class RecordsReader:
                 # kdig +noall +header +answer prints no section titles.
                 answer.section = "ANSWER"
                 self.answer_record(line)
-        except Alias as alias:
-            raise Alias(alias.word, alias.owner, answer and answer.question and name_text(answer.question)) from None
+        except Dname:
+            raise
         except Fault as fault:
             raise Fault(no_record(line) or str(fault), fault.line) from None
 
@@ -732,39 +827,57 @@ class RecordsReader:
         if (head.rr_class, head.type_word.upper(), head.rest.lower()) == (CLASS_IN, "CAA", "none"):
             self.without[lower(head.labels)] = self.number
         elif not self.is_signature(head):
-            self.items.add(record(line))
+            self.add(record(line))
+
+    def add(self, octets):
+        """A record for the book. An alias beside a CAA record or another alias of the same owner is a fault."""
+        labels, rr_type, rr_class, *_ = Reader(octets).record()
+        if conflict := self.owners.conflict(labels, rr_type, rr_class, f"line {self.number}"):
+            raise Fault(conflict)
+        self.items.add(octets)
 
     def answer_record(self, line):
         answer = self.answer
         head = head_of(line)
         owner = lower(head.labels)
-        answer.owners.add(owner)
-        if answer.question not in (None, owner) or len(answer.owners) > 1:
-            raise Fault(
-                f"this record is for {name_text(owner)}, and the answer is for another name: leave pasted answers as they are, "
-                f"and write records of your own outside of them. {OWN_LINES}"
-            )
         answer.records["ANSWER"] += 1
-        if not self.is_signature(head):
-            octets = record(line)
-            self.items.add(octets)
-            for *_, data in caa_records(octets):
-                if data in answer.properties:
-                    raise LookupFault("an answer has no record twice, and this one is the same as one before it")
-                answer.properties.append(data)
+        is_signature = self.is_signature(head)
+        word = field(head.rest)[0] if is_signature else head.type_word
+        answer.owners.append((owner, self.number, numbered("TYPE", word, TYPES) == TYPE_CNAME))
+        if not is_signature:
+            self.take(answer, owner, record(line))
+
+    def take(self, answer, owner, octets):
+        """A record of an answer. Of those that aliases lead to, each is taken once, however many answers have it."""
+        _, rr_type, rr_class, _, data = Reader(octets).record()
+        if not counts(rr_type, rr_class):
+            answer.others += 1
+            self.add(octets)
+            return
+        what = lower(target_of(data)) if rr_type == TYPE_CNAME else data
+        this = (owner, rr_type, what)
+        if this in answer.taken:
+            raise LookupFault("an answer has no record twice, and this one is the same as one before it")
+        answer.taken.add(this)
+        if this not in self.taken or (rr_type == TYPE_CAA and owner == answer.name()):
+            self.add(octets)
+        if rr_type == TYPE_CNAME:
+            answer.aliases[owner] = what
+        else:
+            answer.properties.append(data)
 
     def is_signature(self, head):
-        """An RRSIG record over CAA records says nothing more than they do."""
+        """An RRSIG record over CAA or CNAME records says nothing more than they do."""
         if head.type_word.upper() != "RRSIG":
             return False
         covered, rest = field(head.rest)
         check_one_line(rest)
         number = numbered("TYPE", covered, KNOWN_TYPES)
-        if number in ALIASES.values():
-            raise Alias(f"RRSIG {covered}", name_text(head.labels))
-        if number != TYPE_CAA:
-            raise Fault(f"a signature over {covered} records is not expected here; only CAA records and their signatures are")
-        self.signatures[lower(head.labels)] = self.number
+        if number == TYPE_DNAME:
+            raise Dname(f"RRSIG {covered}", name_text(head.labels))
+        if number not in TYPES.values():
+            raise Fault(f"a signature over {covered} records is not expected here; only CAA and CNAME records and their signatures are")
+        self.signatures[lower(head.labels), number] = self.number
         return True
 
     def record_beside(self, line):
@@ -774,13 +887,15 @@ class RecordsReader:
         word = head.type_word.upper()
         number = numbered("TYPE", word, KNOWN_TYPES)
         check_one_line(head.rest)
-        if number == TYPE_CAA or (word not in BESIDE and number is None):
+        if number in TYPES.values() or (word not in BESIDE and number is None):
             raise Fault(f"a record of type {word or 'nothing'} is not expected in the {section} section. {OWN_LINES}")
         self.answer.records[section] += 1
         if self.answer.counts and self.answer.records[section] > self.answer.counts[section]:
             raise LookupFault(f"the header says {section}: {self.answer.counts[section]}, and more records follow")
         if section == "AUTHORITY":
             self.answer.authority.add(word)
+            if word in ("SOA", "TYPE6"):
+                self.answer.zones.append(lower(head.labels))
 
 
 def check_one_line(data):
@@ -807,30 +922,86 @@ def lower(labels):
     return tuple(label.lower() for label in labels)
 
 
-def caa_records(octets):
-    """The CAA records among records in wire form."""
+def records_in(octets):
+    """The records in wire form, each as its fields."""
     reader = Reader(octets)
     while reader.at < len(octets):
-        labels, rr_type, rr_class, ttl, data = reader.record()
+        yield reader.record()
+
+
+def caa_records(octets):
+    """The CAA records among records in wire form."""
+    for labels, rr_type, rr_class, ttl, data in records_in(octets):
         if (rr_type, rr_class) == (TYPE_CAA, CLASS_IN):
             yield labels, ttl, data
+
+
+def aliases_in(octets):
+    """The aliases among records in wire form: each owner with its target, for comparing."""
+    return {
+        lower(labels): lower(target_of(data))
+        for labels, rr_type, rr_class, _, data in records_in(octets)
+        if (rr_type, rr_class) == (TYPE_CNAME, CLASS_IN)
+    }
+
+
+def chain_of(aliases, name):
+    """A name, its target, the target of that, and so on. The last has no alias, or its target came before."""
+    names = {name: None}  # a dict, which finds a name faster than a list
+    while name in aliases and aliases[name] not in names:
+        name = aliases[name]
+        names[name] = None
+    return list(names)
+
+
+def counts(rr_type, rr_class):
+    """Whether the desk program reads the data of such a record."""
+    return rr_class == CLASS_IN and rr_type in TYPES.values()
+
+
+class Owners:
+    """The owners of the records that count. An alias stands alone: beside a CAA record or another alias it is a conflict."""
+
+    def __init__(self):
+        self.first = {}  # owner and type to the place of the first such record
+
+    def conflict(self, labels, rr_type, rr_class, place):
+        """Takes a record, and gives the reason why it is in conflict with one before it; None where it is not."""
+        if not counts(rr_type, rr_class):
+            return None
+        owner = lower(labels)
+        reason = None
+        for other in TYPES.values():
+            if (owner, other) in self.first and TYPE_CNAME in (rr_type, other):
+                what = "two CNAME records" if rr_type == other else "a CNAME record and a CAA record"
+                reason = f"{name_text(labels)} has {what}: this one, and the one of {self.first[owner, other]}. {CONFLICT_ADVICE}"
+        self.first.setdefault((owner, rr_type), place)
+        return reason
 
 
 # ---- Whether everything was looked up
 
 
 def check_climbs(file, request, reader):
-    """Looks for the CAA records of each requested name as the desk program does: at the name, then at each name above it.
-    Where lookups were pasted, each name looked at must have been looked up. Returns notes for people."""
+    """Looks for the CAA records of each requested name as the desk program does: at the name, then at each name above it, and
+    where one is an alias at its final target. Where lookups were pasted, each name looked at must have been looked up. Returns
+    notes for people."""
     owners = {lower(labels) for labels, *_ in caa_records(reader.items.octets)}
-    known = owners | set(reader.answers) | set(reader.without)
-    unknown, unrestricted, climbed = {}, {}, set()
+    aliases = aliases_in(reader.items.octets)
+    known = set(reader.told) | set(reader.without)
+    unknown, unrestricted, too_many, climbed = {}, {}, {}, set()
     for name in names_in(request):
         at = lower(name[1:] if name[0] == b"*" else name)
-        while at and at not in owners:
-            climbed.add(at)
-            if at not in known:
-                unknown[at] = True
+        while at:
+            chain = chain_of(aliases, at)
+            climbed.update(chain)
+            if len(chain) > MAX_ALIASES + 1 or chain[-1] in aliases:
+                too_many[lower(name)] = True
+                break
+            if chain[-1] in owners:
+                break
+            if chain[-1] not in known:
+                unknown[chain[-1]] = at
             at = at[1:]
         climbed.update(at[place:] for place in range(len(at)))
         if not at:
@@ -841,19 +1012,32 @@ def check_climbs(file, request, reader):
             if reader.unnamed
             else ""
         )
+        targets = [
+            f"{name_text(target)} is the final target of {name_text(at)}{answered_at(reader, at)}, and no answer says whether it has "
+            "CAA records. "
+            for target, at in unknown.items()
+            if target != at
+        ]
         raise Fault(
-            f"{file}: not looked up: {listed(unknown)}{unnamed}. The CAA records of a requested name are looked for at the name "
-            "itself and at every name above it, up to the top-level domain, until a name has some: look each of them up with "
-            f"{LOOKUP}, and paste the answers. For a name known to have no CAA record you can write: NAME CAA none"
+            f"{file}: not looked up: {listed(unknown)}{unnamed}. {''.join(targets[:1])}The CAA records of a requested name are looked "
+            "for at the name itself and at every name above it, up to the top-level domain, until a name has some: look each of "
+            f"them up with {LOOKUP}, and paste the answers. For a name known to have no CAA record you can write: NAME CAA none"
         )
     if not reader.items.octets:
         return [f"{file}: there is no record in it, so the book restricts nothing"]
     notes = []
     if unrestricted:
         notes.append(f"{file}: no CAA record restricts these names, neither their own nor one above: {listed(unrestricted)}")
+    if too_many:
+        notes.append(f"{file}: more than {MAX_ALIASES} aliases follow one another, so nobody may issue (verdict 22): {listed(too_many)}")
     if owners - climbed:
         notes.append(f"{file}: these CAA records count for no requested name: {listed(sorted(owners - climbed))}")
     return notes
+
+
+def answered_at(reader, name):
+    """Where the answer for a name stands, if there is one."""
+    return f" (line {reader.answers[name].line})" if name in reader.answers else ""
 
 
 def names_in(request):
@@ -890,6 +1074,8 @@ def record_text(labels, rr_type, rr_class, ttl, data):
     line = None
     if (rr_type, rr_class) == (TYPE_CAA, CLASS_IN):
         line = caa_text(data)
+    if (rr_type, rr_class) == (TYPE_CNAME, CLASS_IN):
+        line = alias_text(data)
     if line is None:
         line = f"TYPE{rr_type} \\# {len(data)} {data.hex().upper()}".rstrip()
     return f"{name_text(labels)} {ttl} {of_class} {line}"
@@ -903,6 +1089,14 @@ def caa_text(data):
         return None
     quoted = "".join(" " if octet == 32 else octet_text(octet, '\\"') for octet in value)
     return f'CAA {flags} {tag.decode()} "{quoted}"'
+
+
+def alias_text(data):
+    """None where the data is malformed, and has no such text."""
+    try:
+        return f"CNAME {name_text(target_of(data))}"
+    except Fault:
+        return None
 
 
 class Reader:
@@ -960,17 +1154,18 @@ def records_shown(file, octets):
 
 
 def refused_records(file, octets):
-    """Of records that can be shown, the reason for each whose CAA data is malformed: the desk program refuses a book at the first."""
-    reader = Reader(octets)
-    number = 0
-    while reader.at < len(octets):
-        _, rr_type, rr_class, _, data = reader.record()
+    """Of records that can be shown, the reason for each whose data is malformed, and for each that is in conflict with one before
+    it: the desk program refuses a book at the first malformed one, and else at the first conflict."""
+    owners = Owners()
+    conflicts = []
+    for number, (labels, rr_type, rr_class, _, data) in enumerate(records_in(octets)):
         try:
-            if (rr_type, rr_class) == (TYPE_CAA, CLASS_IN):
-                property_of(data)
+            check_data(rr_type, rr_class, data)
         except Fault as fault:
             yield f"{file}: record {number} is refused: {fault}"
-        number += 1
+        if conflict := owners.conflict(labels, rr_type, rr_class, f"record {number}"):
+            conflicts.append(f"{file}: record {number} is refused: {conflict}")
+    yield from conflicts
 
 
 # ---- Files and commands

@@ -47,6 +47,15 @@ def properties_of(book):
     return [(caa.name_text(labels), *caa.property_of(data)) for labels, _, data in caa.caa_records(book)]
 
 
+def aliases_of(book):
+    """Owner and target of each alias."""
+    return [
+        (caa.name_text(labels), caa.name_text(caa.target_of(data)))
+        for labels, rr_type, rr_class, _, data in caa.records_in(book)
+        if (rr_type, rr_class) == (5, 1)
+    ]
+
+
 class Octets(unittest.TestCase):
     """What a line stands for, octet by octet."""
 
@@ -82,6 +91,22 @@ class Octets(unittest.TestCase):
             self.assertEqual(caa.record(line), head + b"\0\0\x0e\x10\0\x16" + data, line)
         self.assertEqual(caa.record(r"a 0 CLASS3 TYPE65535 \# 0"), b"\1a\0\xff\xff\0\3" + bytes(6))
         self.assertEqual(caa.record(r". 4294967295 TYPE1 \# 1 fF"), b"\0\0\1\0\1\xff\xff\xff\xff\0\1\xff")
+
+    def test_aliases(self):
+        head, data = b"\3www\7example\3com\0\0\5\0\1", b"\3web\7example\3org\0"
+        for line in [
+            "www.example.com. 300 IN CNAME web.example.org.",
+            "www.example.com\t300 cname  web.example.org",
+            r"www.example.com 300 CLASS1 TYPE5 \# 17 03776562 076578616D706C65 036F726700",
+            r"www.example.com 300 IN CNAME w\101b.example\.org",
+        ]:
+            wanted = data if "\\." not in line else b"\3web\x0bexample.org\0"
+            self.assertEqual(caa.record(line), head + b"\0\0\1\x2c\0" + bytes([len(wanted)]) + wanted, line)
+        self.assertEqual(caa.record(". 0 CNAME ."), b"\0\0\5\0\1" + bytes(4) + b"\0\1\0")
+        # Data of another class may hold anything.
+        self.assertEqual(caa.record(r"a 0 CLASS3 TYPE5 \# 2 C00C"), b"\1a\0\0\5\0\3" + bytes(4) + b"\0\2\xc0\x0c")
+        longest = ".".join(["a" * 63] * 3 + ["b" * 61])
+        self.assertEqual(len(caa.record("a CNAME " + longest)), 13 + 255)
 
     def test_values(self):
         for text, value in [
@@ -166,6 +191,22 @@ class Faults(unittest.TestCase):
                 ("a CAA 0 issue \u201cx\u201d", "straight double quote"),
                 ('a CAA 0 issue "x\x7fy"', r"not printable: write it as \\127"),
                 ("a CH CAA 0 t x", "class CH: write IN"),
+                ("a CNAME", "the target of the alias is missing; an alias is: owner"),
+                ("a 300 IN CNAME", "the target of the alias is missing"),
+                ("a CNAME b c", "c stands behind the target"),
+                ("a CNAME b. ; mine", "; mine stands behind the target"),
+                ("a CNAME b..c", "empty label"),
+                ("a CNAME @", "write the name out"),
+                ("a CNAME " + "b" * 64, "64 octets"),
+                ("a CNAME " + ".".join(["a" * 63] * 3 + ["b" * 62]), "256 octets"),
+                ("a CH CNAME b", "class CH: write IN"),
+                ("a TYPE5 b", "length hex"),
+                ("a TYPE00005 b", "length hex"),
+                (r"a CNAME \# 0", "not one name in wire form"),
+                (r"a TYPE5 \# 2 0162", "not one name in wire form"),
+                (r"a TYPE5 \# 4 01620000", "not one name in wire form"),
+                (r"a TYPE5 \# 2 C00C", "without compression"),
+                (r"a TYPE5 \# 66 40" + "61" * 64 + "00", "not one name in wire form"),
             ],
         )
 
@@ -266,8 +307,11 @@ class ThereAndBack(unittest.TestCase):
 
     def record(self, chance):
         labels = [chance.randbytes(chance.randint(1, 9)) for _ in range(chance.randrange(4))]
-        rr_type, rr_class = chance.choice([(257, 1), (257, 1), (1, 1), (257, 3), (65_535, 65_535)])
+        rr_type, rr_class = chance.choice([(257, 1), (257, 1), (5, 1), (1, 1), (257, 3), (5, 3), (65_535, 65_535)])
         data = chance.randbytes(chance.randrange(40))
+        if (rr_type, rr_class) == (5, 1):
+            labels.append(chance.randbytes(9))  # an owner of its own
+            data = caa.wire_name([chance.randbytes(chance.randint(1, 9)) for _ in range(chance.randrange(4))])
         if (rr_type, rr_class) == (257, 1):
             tag = chance.choice([b"issue", b"IssueWild", b"T0Z", b"9"])
             data = chance.randbytes(1) + bytes([len(tag)]) + tag + data
@@ -298,7 +342,7 @@ LARGE = {
 }
 ISSUE_CA1 = (0, b"issue", b"ca1.example.net")
 
-# Each good output: the names looked up, None where the output does not show it, and the CAA records.
+# Each good output: the names looked up, None where the output does not show it, the CAA records, and the aliases if there are any.
 FOUR = ["dig-{}", "dig-{}.answer", "drill-{}", "kdig-{}"]
 THREE = ["dig-{}", "drill-{}", "kdig-{}"]
 GOOD = {
@@ -341,6 +385,25 @@ GOOD = {
     "dig-by-tcp-after-truncated": (["large.example.com"], LARGE),
     "kdig-by-tcp-after-truncated": (["large.example.com"], LARGE),
     "drill-by-tcp": (["large.example.com"], LARGE),
+    # A resolver has followed the alias; a server that is not in charge of the target has not.
+    **{
+        form.format(name): (["alias.example.com"], properties, {("alias.example.com", "target.example.org")})
+        for form in FOUR
+        for name, properties in [("alias", set()), ("alias-by-resolver", {("target.example.org", 0, b"issue", b"ca2.example.org")})]
+    },
+    **{
+        form.format("alias-of-none"): (
+            ["alias-of-none.example.com"],
+            set(),
+            {("alias-of-none.example.com", "none.example.org")},
+        )
+        for form in FOUR
+    },
+    "dig-alias-signed": (
+        ["alias.signed.example"],
+        {("signed.example", *ISSUE_CA1)},
+        {("alias.signed.example", "signed.example")},
+    ),
     # drill takes these without a word.
     "drill-extra": (["extra.example.com"], {("extra.example.com", *ISSUE_CA1)}),
     "drill-other-id": (["other-id.example.com"], set()),
@@ -348,15 +411,13 @@ GOOD = {
 }
 
 # Each output that is refused: what the line that is told has, and what the reason has.
-ALIAS = "does not follow aliases"
+DNAME = "reads CNAME records but no DNAME"
 FAILED = "a lookup failed .* look the name up again"
 DAMAGED = "an answer is damaged .* look the name up again"
 TRUNCATED = "truncated .* look the name up again"
 REFUSED = {
-    **{form.format(name): ("CNAME", ALIAS) for form in FOUR for name in ["alias", "alias-by-resolver", "alias-of-none"]},
-    **{form.format("dname"): ("DNAME", ALIAS) for form in FOUR},
-    "dig-alias-unknownformat": ("TYPE39", ALIAS),
-    "dig-alias-signed": ("CNAME", ALIAS),
+    **{form.format("dname"): ("DNAME", DNAME) for form in FOUR},
+    "dig-alias-unknownformat": ("TYPE39", DNAME),
     **{
         form.format(name): (status, rf"a lookup failed \(status {re.escape(status)}\)")
         for name, statuses in {
@@ -447,12 +508,12 @@ class StoredOutputs(unittest.TestCase):
         self.assertFalse(set(GOOD) & set(REFUSED))
 
     def check_good(self, name, text):
-        names, properties = GOOD[name]
+        names, properties, aliases = (*GOOD[name], set())[:3]
         reader = caa.book_of(name, text)
-        found = properties_of(reader.items.octets)
-        self.assertEqual(set(found), properties)
-        self.assertEqual(len(found), len(properties))
-        self.assertEqual(reader.items.count, len(properties))
+        found, followed = properties_of(reader.items.octets), aliases_of(reader.items.octets)
+        self.assertEqual((set(found), set(followed)), (properties, aliases))
+        self.assertEqual((len(found), len(followed)), (len(properties), len(aliases)))
+        self.assertEqual(reader.items.count, len(properties) + len(aliases))
         self.assertEqual([caa.name_text(labels) for labels in reader.answers], [one for one in names if one])
         self.assertEqual(len(reader.unnamed), names.count(None))
 
@@ -486,7 +547,7 @@ class StoredOutputs(unittest.TestCase):
         for name in REFUSED:
             with self.subTest(name), self.assertRaises(caa.Fault):
                 caa.book_of(name, captured(name).replace("\n", "\n \t "))
-        for name, (_, properties) in GOOD.items():
+        for name, (_, properties, *_) in GOOD.items():
             if not properties and "drill" not in name:
                 text = re.sub("(?m)^(?=;)", "    ", captured(name))
                 with self.subTest(name):
@@ -509,12 +570,13 @@ class StoredOutputs(unittest.TestCase):
                         caa.book_of(name, "\n".join(lines[number:]))
 
     def test_without_any_one_answer_record(self):
-        for name, (_, properties) in GOOD.items():
+        record = re.compile(r"[a-z]\S*\s+\d+\s+\S+\s+(CAA|TYPE257|CNAME|RRSIG\s+(CAA|CNAME))\s")
+        for name, (_, properties, *aliases) in GOOD.items():
             lines = captured(name).split("\n")
-            records = [n for n, line in enumerate(lines) if re.search(r"\s(CAA|TYPE257|RRSIG\tCAA)\s+[0-9\\C]", line)]
+            records = [n for n, line in enumerate(lines) if record.match(line)]
             if name == "dig-noall-answer":
                 continue
-            self.assertGreaterEqual(len(records), len(properties))
+            self.assertGreaterEqual(len(records), len(properties) + sum(map(len, aliases)))
             for number in records:
                 text = "\n".join(lines[:number] + lines[number + 1 :])
                 with self.subTest(name, line=number), self.assertRaisesRegex(caa.Fault, "the header says ANSWER: "):
@@ -522,11 +584,11 @@ class StoredOutputs(unittest.TestCase):
 
     def test_cut_off(self):
         """Ends at any line before the last answer record."""
-        for name, (_, properties) in GOOD.items():
+        for name, (_, properties, *aliases) in GOOD.items():
             lines = captured(name).split("\n")
-            if not properties or name in ("dig-noall-answer", "dig-two-names"):
+            if not (properties or aliases) or name in ("dig-noall-answer", "dig-two-names"):
                 continue
-            last = max(n for n, line in enumerate(lines) if re.match(r"[a-z]\S*\s+\d+\s+\S+\s+(CAA|TYPE257|RRSIG)", line))
+            last = max(n for n, line in enumerate(lines) if re.match(r"[a-z]\S*\s+\d+\s+\S+\s+(CAA|TYPE257|CNAME|RRSIG)", line))
             first = next(n for n, line in enumerate(lines) if line)
             for number in range(first + 1, last + 1):
                 with self.subTest(name, line=number), self.assertRaises(caa.Fault):
@@ -547,32 +609,112 @@ class Lookups(unittest.TestCase):
         with self.subTest(text), self.assertRaisesRegex(caa.Fault, f"^f:{line}: .*{reason}"):
             caa.book_of("f", text)
 
-    def test_aliases(self):
+    def test_dname(self):
         for line in [
-            "a CNAME b",
-            "a.example. 300 IN CNAME b.example.",
-            "a 300 in cname b.",
-            "a IN 300 Cname b",
-            "a CH CNAME b",
             "a 5 hs DNAME b",
-            "a CLASS1 TYPE5 \\# 3 016200",
-            "a class3 type5 \\# 3 016200",
-            "a TYPE00005 b",
             "a DNAME b",
             "a 300 CLASS1 dname b",
             "a IN TYPE39 \\# 3 016200",
-            "a RRSIG CNAME 13 1 300 1 1 1 a. AAAA",
-            "a\\.b CNAME c",
+            "a CLASS3 TYPE00039 b",
+            "a RRSIG DNAME 13 1 300 1 1 1 a. AAAA",
+            "a\\.b DNAME c",
         ]:
-            self.check("b CAA 0 t x\n" + line, "has a .* record, and the desk program does not follow aliases", 2)
-            self.check(HEADER + flags(2) + line, "does not follow aliases", 3)
+            self.check("b CAA 0 t x\n" + line, "has a .* record, and the desk program reads CNAME records but no DNAME", 2)
+            self.check(HEADER + flags(2) + line, "no DNAME", 3)
             if "RRSIG" not in line:
-                self.check(HEADER + flags(0, 1) + "\n;; AUTHORITY SECTION:\n" + line, "does not follow aliases", 5)
-        self.check("www.example.com CNAME b", 'with the name that was looked up as its owner, for example: .* CAA 0 issue "', 1)
-        question = ";; QUESTION SECTION:\n;WWW.example.com. IN CAA\n\n"
-        answer = HEADER + flags(1) + question + ";; ANSWER SECTION:\nwww.example.com. CNAME b.\n"
-        self.check(answer, "with www.example.com as its owner", 7)
-        self.check(answer, "If the target has no CAA record, write: www.example.com CAA none", 7)
+                self.check(HEADER + flags(0, 1) + "\n;; AUTHORITY SECTION:\n" + line, "no DNAME", 5)
+        self.check("a TYPE39 \\# 0", r"a has a TYPE39 \(DNAME\) record.* write its CNAME and CAA records as lines of your own", 1)
+
+    def answer(self, *records, name="a.example", status="NOERROR", counts=None):
+        """An answer of a resolver for a name, with these records."""
+        head = HEADER.replace("NOERROR", status) + (counts or flags(len(records)))
+        return head + f";; QUESTION SECTION:\n;{name}. IN CAA\n\n;; ANSWER SECTION:\n" + "".join(f"{record}\n" for record in records) + "\n"
+
+    def test_records_along_aliases(self):
+        first, second, third = "A.example 9 CNAME b.example.", "b.EXAMPLE 9 IN CNAME c.", "C 9 IN CAA 0 issue x"
+        for records in [(first,), (first, second), (first, second, third), (third, second, first), ("a.example CAA 0 issue x",)]:
+            reader = caa.book_of("f", self.answer(*records))
+            self.assertEqual((reader.items.count, list(reader.answers)), (len(records), [(b"a", b"example")]))
+        # The answer is for a.example, whether its question is shown or not.
+        shown = self.answer(first, second, third)
+        reader = caa.book_of("f", shown.replace(";a.example. IN CAA\n", "").replace(";; QUESTION SECTION:\n", ""))
+        self.assertEqual(list(reader.answers), [(b"a", b"example")])
+        # Each record is for a name on the way, and CAA records for its end.
+        self.check(self.answer(first, "d CNAME e"), "this record is for d, and the answer is for another name", 8)
+        self.check(self.answer(first, "d CAA 0 issue x"), "this record is for d, and the answer is for another name", 8)
+        self.check(self.answer(second, third), "this record is for b.example, and the answer is for another name", 7)
+        self.check(self.answer(first, third), "this record is for c, and", 8)
+        self.check(self.answer(first, second, "b.example CAA 0 issue x"), "b.example has a CNAME record and a CAA record", 9)
+        self.check(self.answer(first, second, "a.example CAA 0 issue x"), "a.example has a CNAME record and a CAA record", 9)
+        self.check(self.answer(first, second, r"b.example TYPE1 \# 0"), "this record is for b.example|none is a CAA record", "[19]")
+        self.check(self.answer(first, r"b.example TYPE1 \# 0"), "none is a CAA record", 1)
+        self.assertEqual(caa.book_of("f", self.answer(first, second, third, r"c TYPE1 \# 0")).items.count, 4)
+        self.check(self.answer(first, second, third, r"b.example TYPE1 \# 0"), "this record is for b.example, and", 10)
+        # A loop has no end.
+        reader = caa.book_of("f", self.answer(first, "b.example CNAME a.example"))
+        self.assertEqual(aliases_of(reader.items.octets), [("A.example", "b.example"), ("b.example", "a.example")])
+        self.assertEqual(caa.book_of("f", self.answer("a.example CNAME a.example")).items.count, 1)
+        self.assertEqual(caa.book_of("f", self.answer(first, "b.example CNAME a.example", counts=flags(2, 1))).items.count, 2)
+        self.check(self.answer(first, "b.example CNAME a.example", "b.example CAA 0 t x"), "b.example has a CNAME record and a CAA", 9)
+
+    def test_signatures_over_aliases(self):
+        alias, over = "a.example CNAME b", "a.example RRSIG CNAME 13 1 300 1 1 1 a. AAAA"
+        for number in ["CNAME", "TYPE5"]:
+            self.assertEqual(caa.book_of("f", self.answer(alias, over.replace("CNAME", number))).items.count, 1)
+        self.assertEqual(caa.book_of("f", f"{alias}\n{over}\n").items.count, 1)
+        self.check(over, "this signs the CNAME records of a.example, and none is here", 1)
+        self.check(self.answer(alias, over.replace("a.example", "b", 1)), "this signs the CNAME records of b, and none is here", 8)
+        self.check(self.answer(alias, over.replace("a.example", "c", 1)), "this record is for c", 8)
+        self.check(alias + "\n" + over.replace("CNAME", "A"), "only CAA and CNAME records and their signatures are", 2)
+
+    def test_a_status_of_the_last_target(self):
+        alias = "a.example CNAME b"
+        reader = caa.book_of("f", self.answer(alias, status="NXDOMAIN"))
+        self.assertEqual(reader.items.count, 1)
+        self.check(self.answer(alias, "b CAA 0 t x", status="NXDOMAIN"), "NXDOMAIN", 1)
+        self.check(self.answer(alias, r"b TYPE1 \# 0", status="NXDOMAIN"), "NXDOMAIN", 1)
+        self.check(self.answer(alias, status="SERVFAIL"), "a lookup failed", 1)
+
+    def test_aliases_in_other_sections(self):
+        for section in ["AUTHORITY", "ADDITIONAL"]:
+            head = HEADER + flags(0, 1).replace("ADDITIONAL: 0", "ADDITIONAL: 1") + f"\n;; {section} SECTION:\n"
+            for line in ["a CNAME b", "a 300 IN TYPE5 \\# 3 016200"]:
+                self.check(head + line, f"is not expected in the {section} section", 5)
+
+    def test_aliases_that_are_told_twice(self):
+        """An alias of two answers is taken once, and so are the CAA records at its end."""
+        alias, caa_record = "b.example CNAME c", "c CAA 0 issue x"
+        one = self.answer("a.example CNAME b.example", alias, caa_record)
+        two = self.answer(alias.replace("CNAME c", "9 CNAME C"), caa_record.replace("c CAA", "C 9 CAA"), name="b.example")
+        for text, count in [(one + two, 3), (two + one, 3), (one + one, 3), (two + self.answer(caa_record, name="c"), 3)]:
+            reader = caa.book_of("f", text)
+            self.assertEqual(reader.items.count, count)
+        lines = one.count("\n")
+        self.check(one + self.answer("b.example CNAME d", name="b.example"), "b.example has two CNAME records: .* line 8. ", lines + 7)
+        self.check(one + self.answer(name="b.example", counts=flags(0)), "b.example is looked up a second time .* line 1:", lines + 1)
+        other = self.answer("d CNAME c", "c CAA 0 issue y", name="d")
+        self.check(one + other, "c is looked up a second time here, and its records are not those of the answer at line 1:", lines + 1)
+        none = self.answer("d CNAME c", name="d", counts=flags(1, 1))
+        self.check(one + none, "c is looked up a second time", lines + 1)
+        self.check(none + one, "c is looked up a second time", none.count("\n") + 1)
+        # An answer that stops before the target says nothing of it.
+        self.assertEqual(caa.book_of("f", one + self.answer("d CNAME c", name="d")).items.count, 4)
+
+    def test_aliases_beside_other_records(self):
+        both, two = "[aA] has a CNAME record and a CAA record", "[aA] has two CNAME records"
+        alias, other, record = "a CNAME b\n", "A CNAME c\n", "A CAA 0 t x\n"
+        before, between = "b CAA 0 t x\n# mine\n\nc CNAME d\n", "e CAA 0 t x\n# mine\n\nf CNAME d\n"
+        for first, second, reason in [(alias, record, both), (record, alias, both), (alias, other, two), (alias, alias, two)]:
+            reason += ": this one, and the one of line 5. A name with a CNAME record has no other"
+            self.check(before + first + between + second, reason, 10)
+            self.check(re.sub("(?m)^[aA] ", ". ", first + second), "[.] has", 2)
+        # Records of other types and classes, and CAA records beside each other, are none.
+        for text in [
+            alias + "a TYPE1 \\# 0\n" + "a CLASS3 TYPE257 \\# 0\n" + "a CLASS3 TYPE5 \\# 0\n",
+            record + record + "a CLASS3 TYPE5 \\# 0\n",
+            alias + "b CAA 0 t x\n" + "*.a CAA 0 t x\n" + "aa CNAME b\n",
+        ]:
+            self.assertEqual(caa.book_of("f", text).items.count, text.count("\n"))
 
     def test_the_count_of_answers(self):
         record = 'a 300 IN CAA 0 issue "x"\n'
@@ -689,6 +831,8 @@ class Lookups(unittest.TestCase):
         self.assertEqual((reader.items.count, list(reader.without)), (0, [(b"a", b"example"), (b"b", b"example")]))
         self.check("a CAA none\nA CAA 0 t x", "CAA records of a: take one of the two out", 1)
         self.check("a CLASS3 CAA none", "flags are a number", 1)
+        self.check("A CNAME b\na CAA none\n", "this says none, and the file has a CNAME record of a: .* say none of the target", 2)
+        self.assertEqual(caa.book_of("f", "a CNAME b\nb CAA none\n").items.count, 1)
 
 
 class Climbs(unittest.TestCase):
@@ -727,6 +871,113 @@ class Climbs(unittest.TestCase):
         self.check("www.example.com a.www.example.com", www + example, "www.example.com, a.www.example.com")
         # A lookup of another type is none of CAA.
         self.check("a.example", HEADER + flags(1) + "a.example TYPE1 \\# 0\n", "a.example, example")
+
+    def test_aliases(self):
+        found, none = captured("dig-alias-by-resolver"), captured("dig-alias-of-none")
+        example, com = captured("kdig-found"), captured("drill-com")
+        # The target's CAA records end the climb; without any it goes on above the name, not above the target.
+        self.assertEqual(self.notes("alias.example.com *.ALIAS.example.com", found), [])
+        self.check("alias-of-none.example.com", none, "example.com, com")
+        self.assertEqual(self.notes("alias-of-none.example.com", none + example), [])
+        self.assertEqual(self.notes("x.alias-of-none.example.com", none + example + "\nx.alias-of-none.example.com CAA none"), [])
+        self.check("other.example.com", found + example, "other.example.com")
+        # An alias of a name above counts too.
+        self.assertEqual(self.notes("x.alias.example.com", found + "\nx.alias.example.com CAA none"), [])
+        # Each stored answer of a resolver says so, also in its short form.
+        for form in FOUR:
+            text = captured(form.format("alias-of-none")) + example
+            self.assertEqual(self.notes("alias-of-none.example.com", text), [], form)
+        notes = self.notes("alias.example.com", "alias.example.com CNAME a.example\na.example CAA 0 t x\nb.example CAA 0 t x\n")
+        self.assertRegex(notes[0], "count for no requested name: b.example$")
+
+    def test_answers_that_end_before_the_target(self):
+        example = captured("kdig-found")
+        for form in FOUR:
+            text = captured(form.format("alias")) + example
+            self.check("alias.example.com", text, "target.example.org")
+            reason = r"target.example.org is the final target of alias.example.com \(line \d+\), and no answer says whether"
+            with self.assertRaisesRegex(caa.Fault, reason):
+                self.notes("alias.example.com", text)
+            # Nobody asks for that name.
+            self.assertEqual(self.notes("example.com", text), [])
+            # Mended by a lookup of the target, or by a line of one's own.
+            for more in ["target.example.org CAA none\n", 'target.example.org CAA 0 issue "ca2.example.org"\n']:
+                self.assertEqual(self.notes("alias.example.com", text + "\n" + more), [])
+            found = captured("dig-pay").replace("pay.example.com", "TARGET.example.org")
+            self.assertEqual(self.notes("alias.example.com", text + found), [])
+            empty = captured("dig-no-caa").replace("www.example.com", "target.example.org")
+            self.assertEqual(self.notes("alias.example.com", text + empty), [])
+            self.assertEqual(self.notes("alias.example.com", text + captured("dig-no-caa.answer")), [])
+
+    def test_what_an_answer_says_of_the_last_target(self):
+        def text(more="", status="NOERROR", counts=(1, 0), flags_="qr rd ra"):
+            head = HEADER.replace("NOERROR", status) + flags(*counts, flags=flags_)
+            answer = head + ";; QUESTION SECTION:\n;a. IN CAA\n\n;; ANSWER SECTION:\na CNAME t.z.example.\n\n"
+            return answer + (f";; AUTHORITY SECTION:\n{more}\n" if more else "")
+
+        soa = "{} 300 IN SOA ns.example. h.example. 1 1 1 1 1".format
+        name_server = "z.example. 300 IN NS ns.z.example."
+        said = [
+            text(status="NXDOMAIN"),
+            text(status="NXDOMAIN", flags_="qr aa"),
+            text(soa("Z.example"), counts=(1, 1)),
+            text(soa("t.z.example"), counts=(1, 1), flags_="qr aa"),
+            text(soa("."), counts=(1, 1), flags_="qr aa rd"),
+            text(soa("example") + "\n" + name_server, counts=(1, 2)),
+            text(counts=(1, 1)),
+        ]
+        not_said = [
+            text(),
+            text(flags_="qr aa"),
+            text(flags_="qr aa rd ra"),
+            text(counts=(1, 1), flags_="qr aa rd"),
+            text(counts=(1, 1), flags_="qr aa ra"),
+            text(name_server, counts=(1, 1)),
+            text(soa("other.example"), counts=(1, 1)),
+            text(soa("y.t.z.example"), counts=(1, 1)),
+            text(soa("a"), counts=(1, 1), flags_="qr aa"),
+        ]
+        for good in said:
+            with self.subTest(good):
+                self.assertRegex(self.notes("a", good)[0], "no CAA record restricts these names")
+        for bad in not_said:
+            with self.subTest(bad):
+                self.check("a", bad, "t.z.example")
+                self.assertRegex(self.notes("a", bad + "\nt.z.example CAA none\n")[0], "no CAA record restricts these names")
+
+    def test_a_lookup_of_another_type_through_an_alias(self):
+        # Its alias counts, and it says nothing of the CAA records of the target.
+        other = HEADER + flags(2, 1) + "a.example CNAME b\nb TYPE1 \\# 0\n\nexample CAA none\n"
+        self.check("a.example", other, "b")
+        self.assertRegex(self.notes("a.example", other + "b CAA none\n")[0], "no CAA record restricts")
+
+    def test_how_many_aliases(self):
+        def chain(count, last):
+            return "".join(f"a{n}.example CNAME a{n + 1}.example\n" for n in range(count)) + last
+
+        restricting = "a{}.example CAA 0 t x\n".format
+        self.assertEqual(self.notes("a0.example", chain(8, restricting(8))), [])
+        self.assertRegex(self.notes("a0.example", chain(9, restricting(9)))[0], r"more than 8 aliases .* \(verdict 22\): a0.example$")
+        self.assertEqual(self.notes("a1.example", chain(9, restricting(9))), [])
+        # A loop, also in a pasted answer, needs no more lookups.
+        loop = "a.example CNAME b\nb CNAME a.example\n"
+        self.assertRegex(self.notes("*.a.example b", loop)[0], r"verdict 22\): [*].a.example, b$")
+        self.assertRegex(self.notes("a.example", "a.example CNAME A.example\n")[0], "verdict 22")
+        pasted = HEADER + flags(2) + loop
+        self.assertRegex(self.notes("a.example", pasted)[0], "verdict 22")
+        self.check("x.a.example", pasted, "x.a.example")
+        # The count begins anew at each name: 5 aliases at the name, and 5 at the one above.
+        names = [("x.y", "c"), ("y", "d")]
+        fives = "".join(f"{name} CNAME {t}0\n" + "".join(f"{t}{n} CNAME {t}{n + 1}\n" for n in range(4)) for name, t in names)
+        self.assertEqual(self.notes("x.y", fives + "d4 CAA 0 t x\n"), [])
+
+    def test_an_alias_of_the_root(self):
+        self.assertEqual(self.notes("a", "a CNAME .\n. CAA 0 t x\n"), [])
+        pasted = HEADER + flags(1) + "a CNAME .\n\n"
+        self.check("a", pasted, "[.]")
+        root = HEADER + flags(0) + ";; QUESTION SECTION:\n;. IN CAA\n\n"
+        self.assertRegex(self.notes("a", pasted + root)[0], "no CAA record restricts")
+        self.assertEqual(list(caa.book_of("r", root).answers), [()])
 
     def test_lines_by_hand(self):
         text = "example.com CAA 0 t x\n"
@@ -828,6 +1079,28 @@ class Commands(unittest.TestCase):
         self.write("records.txt", texts[0] + "\n" + texts[2] + "\n")
         self.assertEqual(self.make("--force")[0], 0)
 
+    def test_show_tells_of_aliases_in_conflict(self):
+        def wire(*lines):
+            return b"".join(map(caa.record, lines))
+
+        texts = ["a 0 IN CNAME b.c", "a 0 CLASS3 TYPE5 \\# 1 FF", 'A 0 IN CAA 0 t "x"', "a 0 IN CNAME .", "b 0 IN TYPE1 \\# 0"]
+        self.write("book.bin", wire(*texts))
+        for command, path in [("show", self.folder), ("records", self.path("book.bin"))]:
+            status, out, error = self.run_tool(command, path)
+            self.assertEqual(status, 1)
+            for text in texts:
+                self.assertIn(text + "\n", out)
+            lines = [line for line in error.splitlines() if "record" in line]
+            self.assertEqual(len(lines), 2, error)
+            self.assertIn("record 2 is refused: A has a CNAME record and a CAA record: this one, and the one of record 0. A name", lines[0])
+            self.assertIn("record 3 is refused: a has two CNAME records: this one, and the one of record 0. A name", lines[1])
+        # Malformed records come first, as the desk program finds them first.
+        self.write("book.bin", wire(*texts[:3]) + b"\1b\0\0\5\0\1\0\0\0\0\0\2\1a")
+        status, out, error = self.run_tool("records", self.path("book.bin"))
+        self.assertEqual(status, 1)
+        self.assertIn("b 0 IN TYPE5 \\# 2 0161\n", out)
+        self.assertRegex(error, "^[^\n]*record 3 is refused: the data of the CNAME record is not one name[^\n]*\n[^\n]*record 2 is refused: A has")
+
     def test_nothing_is_overwritten(self):
         self.whole_case()
         self.write("book.bin", "mine")
@@ -912,7 +1185,7 @@ class Commands(unittest.TestCase):
         self.assertEqual(self.run_tool()[0], 2)
         for command, sign in [
             ("make", "--force"),
-            ("make", "does not follow aliases"),
+            ("make", "DNAME records are refused"),
             ("make", "--account URI"),
             ("make", "--method NAME"),
             ("show", "the folder that has the five files"),
@@ -949,28 +1222,55 @@ class Commands(unittest.TestCase):
 
     def test_a_pasted_failure_writes_nothing(self):
         before = self.old_case()
-        for name in ["dig-alias", "dig-servfail.answer", "drill-nobody", "kdig-truncated", "dig-malformed", "dig-plus-short"]:
+        for name in ["dig-dname", "dig-servfail.answer", "drill-nobody", "kdig-truncated", "dig-malformed", "dig-plus-short"]:
             status, out, error = self.make("--force", "--records", os.path.join(CAPTURED, name + ".txt"))
             self.assertEqual((status, out), (1, ""))
             self.assertRegex(error, rf"^caa-files.py: .*{name}.txt:\d+: [^\n]*\n$")
             self.assertEqual(self.snapshot(), before)
 
-    def test_an_alias_mended_as_the_message_says(self):
+    def test_an_answer_that_came_through_an_alias(self):
         self.write("names.txt", "alias.example.com\n")
         self.write("records.txt", captured("dig-alias-by-resolver"))
+        self.assertEqual(self.make()[:2], (0, f"{self.folder}: names 1, records 2, {TOLD}\n"))
+        book = octets_of(self.path("book.bin"))
+        self.assertEqual(aliases_of(book), [("alias.example.com", "target.example.org")])
+        self.assertEqual(properties_of(book), [("target.example.org", 0, b"issue", b"ca2.example.org")])
+        out = self.run_tool("show", self.folder)[1]
+        self.assertIn("  record 0: alias.example.com 3505 IN CNAME target.example.org\n", out)
+
+    def test_an_answer_without_its_target_mended_as_the_message_says(self):
+        self.write("names.txt", "alias.example.com\n")
+        self.write("records.txt", captured("dig-alias") + captured("kdig-found"))
+        status, out, error = self.make()
+        self.assertEqual((status, out), (1, ""))
+        reason = "target.example.org is the final target of alias.example.com (line 6), and no answer says whether it has CAA records. "
+        self.assertIn("records.txt: not looked up: target.example.org. " + reason, error)
+        self.write("records.txt", captured("dig-alias") + captured("kdig-found") + "target.example.org CAA none\n")
+        self.assertEqual(self.make()[:2], (0, f"{self.folder}: names 1, records 4, {TOLD}\n"))
+
+    def test_a_dname_mended_as_the_message_says(self):
+        self.write("names.txt", "www.branch.example.com\n")
+        self.write("records.txt", captured("dig-dname"))
         status, _, error = self.make()
         self.assertEqual(status, 1)
-        self.assertIn("write each CAA record of the target with alias.example.com as its owner", error)
-        self.write("records.txt", 'alias.example.com. 3600 IN CAA 0 issue "ca2.example.org"\n')
-        self.assertEqual(self.make()[0], 0)
-        self.assertEqual(
-            properties_of(octets_of(self.path("book.bin"))), [("alias.example.com", 0, b"issue", b"ca2.example.org")]
-        )
+        self.assertIn("write its CNAME and CAA records as lines of your own, without the DNAME record", error)
+        kept = [line for line in captured("dig-dname").split("\n") if re.search(r"\t(CNAME|CAA)\t[w0]", line)]
+        self.write("records.txt", "\n".join(kept))
+        self.assertEqual(self.make()[:2], (0, f"{self.folder}: names 1, records 2, {TOLD}\n"))
 
     def test_an_alias_of_a_name_without_records(self):
         self.write("names.txt", "alias-of-none.example.com\n")
+        self.write("records.txt", captured("kdig-alias-of-none") + captured("kdig-found"))
+        self.assertEqual(self.make()[:2], (0, f"{self.folder}: names 1, records 4, {TOLD}\n"))
         self.write("records.txt", captured("kdig-found") + "alias-of-none.example.com CAA none\n")
-        self.assertEqual(self.make()[:2], (0, f"{self.folder}: names 1, records 3, {TOLD}\n"))
+        self.assertEqual(self.make("--force")[:2], (0, f"{self.folder}: names 1, records 3, {TOLD}\n"))
+
+    def test_a_conflict_names_both_lines(self):
+        self.write("names.txt", "www.example.com\n")
+        self.write("records.txt", 'www.example.com CAA 0 issue "x"\n\nWWW.example.com. 300 IN CNAME web.example.org.\n')
+        status, out, error = self.make()
+        self.assertEqual((status, out), (1, ""))
+        self.assertIn("records.txt:3: WWW.example.com has a CNAME record and a CAA record: this one, and the one of line 1.", error)
 
     def test_lookups_of_all_three_programs(self):
         self.write("names.txt", "www.example.com\n*.pay.example.com\nno-such.example.com\n")

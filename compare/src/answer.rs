@@ -23,6 +23,10 @@ pub enum Refusal {
     TooManyRecords {
         read: usize,
     },
+    /// An owner has an alias and a CAA record, or two aliases; `record` is the later of the two.
+    AliasConflict {
+        record: usize,
+    },
     BufferTooShort {
         needed: usize,
     },
@@ -50,6 +54,7 @@ impl Refusal {
             Refusal::BadLine => 9,
             Refusal::LineOrDataTooLong => 10,
             Refusal::BadData => 11,
+            Refusal::AliasConflict { .. } => 12,
             Refusal::BadApplicant => 15,
         }
     }
@@ -65,7 +70,7 @@ impl Refusal {
             | Refusal::BadApplicant => 0,
             Refusal::BadRequestedName { name } => name,
             Refusal::TooManyNames { read } | Refusal::TooManyRecords { read } => read,
-            Refusal::BadRecord { record } => record,
+            Refusal::BadRecord { record } | Refusal::AliasConflict { record } => record,
             Refusal::BufferTooShort { needed } => needed,
         }
     }
@@ -92,6 +97,11 @@ pub enum Answer {
         name: usize,
         record: usize,
     },
+    /// Verdict 22: the lowest name not permitted, and the first alias of the look that met too many.
+    TooManyAliases {
+        name: usize,
+        record: usize,
+    },
     Refused(Refusal),
 }
 
@@ -104,6 +114,9 @@ impl fmt::Display for Answer {
             }
             Answer::NotGranted { name, record } => {
                 write!(f, "verdict 21 name {name} record {record}")
+            }
+            Answer::TooManyAliases { name, record } => {
+                write!(f, "verdict 22 name {name} record {record}")
             }
             Answer::Refused(refusal) => refusal.fmt(f),
         }

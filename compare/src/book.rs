@@ -1,12 +1,15 @@
 //! The book: resource records in the form of RFC 1035 section 4.1.3, without compression, end to
 //! end. Every record has a number, its place in the book from 0 on, CAA or not.
 
+use std::collections::HashMap;
+
 use crate::answer::Refusal;
 use crate::limits::{BOOK_OCTETS, BOOK_RECORDS};
 use crate::name::{read_name, Name};
 
 const CLASS_IN: u16 = 1;
 const TYPE_CAA: u16 = 257;
+const TYPE_CNAME: u16 = 5;
 
 /// The flag bit worth 128, "bit 0" in RFC 8659 section 4.1. The other seven mean nothing.
 const CRITICAL: u8 = 128;
@@ -17,10 +20,12 @@ pub struct Record<'a> {
     pub data: RecordData<'a>,
 }
 
-/// Records other than CAA keep no data: they are counted and passed over.
+/// Records of other types and classes keep no data: they are counted and passed over.
 #[derive(Clone, Debug)]
 pub enum RecordData<'a> {
     Caa(Property<'a>),
+    /// The owner is an alias of this name, the target (CNAME, RFC 1035 section 3.3.1).
+    Alias(Name<'a>),
     Other,
 }
 
@@ -63,7 +68,28 @@ pub fn read_book(octets: &[u8]) -> Result<Vec<Record<'_>>, Refusal> {
         records.push(record);
         rest = behind;
     }
-    Ok(records)
+    match first_conflict(&records) {
+        Some(record) => Err(Refusal::AliasConflict { record }),
+        None => Ok(records),
+    }
+}
+
+/// The first record that can't stand beside an earlier one of the same owner. An alias stands beside
+/// no other alias and no CAA record; all other records stand beside each other.
+fn first_conflict(records: &[Record]) -> Option<usize> {
+    // By owner: whether the record before was an alias.
+    let mut earlier = HashMap::new();
+    records.iter().position(|record| {
+        let is_alias = match record.data {
+            RecordData::Alias(_) => true,
+            RecordData::Caa(_) => false,
+            RecordData::Other => return false,
+        };
+        match earlier.insert(record.owner.in_lower_case(), is_alias) {
+            Some(was_alias) => was_alias || is_alias,
+            None => false,
+        }
+    })
 }
 
 fn read_record(octets: &[u8]) -> Option<(Record<'_>, &[u8])> {
@@ -84,17 +110,24 @@ pub struct RawRecord<'a> {
 
 impl<'a> RawRecord<'a> {
     /// `None` when CAA data is laid out wrongly, or its tag holds another octet than letters and
-    /// digits.
+    /// digits, and when the data of an alias is anything but one name.
     pub fn data(&self) -> Option<RecordData<'a>> {
-        if !self.is_caa() {
-            return Some(RecordData::Other);
+        if self.is_caa() {
+            let property = read_property(self.rdata)?;
+            property.has_good_tag().then_some(RecordData::Caa(property))
+        } else if self.is_alias() {
+            read_target(self.rdata).map(RecordData::Alias)
+        } else {
+            Some(RecordData::Other)
         }
-        let property = read_property(self.rdata)?;
-        property.has_good_tag().then_some(RecordData::Caa(property))
     }
 
     pub fn is_caa(&self) -> bool {
         self.class == CLASS_IN && self.rtype == TYPE_CAA
+    }
+
+    pub fn is_alias(&self) -> bool {
+        self.class == CLASS_IN && self.rtype == TYPE_CNAME
     }
 }
 
@@ -130,13 +163,25 @@ pub fn read_property(rdata: &[u8]) -> Option<Property<'_>> {
     Some(Property { flags, tag, value })
 }
 
+/// The name that is the whole data of an alias, by the rule of owners.
+pub fn read_target(rdata: &[u8]) -> Option<Name<'_>> {
+    match read_name(rdata)? {
+        (target, []) => Some(target),
+        _ => None,
+    }
+}
+
 #[cfg(test)]
 mod tests {
     use super::*;
 
     /// A record of owner `a` with time to live 1.
     fn record(rtype: u16, class: u16, rdata: &[u8]) -> Vec<u8> {
-        let mut octets = b"\x01a\x00".to_vec();
+        record_of(b"\x01a\x00", rtype, class, rdata)
+    }
+
+    fn record_of(owner: &[u8], rtype: u16, class: u16, rdata: &[u8]) -> Vec<u8> {
+        let mut octets = owner.to_vec();
         octets.extend(rtype.to_be_bytes());
         octets.extend(class.to_be_bytes());
         octets.extend([0, 0, 0, 1]);
@@ -212,6 +257,81 @@ mod tests {
             let records = read_book(&octets).unwrap();
             assert!(matches!(records[0].data, RecordData::Other));
         }
+    }
+
+    #[test]
+    fn only_class_1_with_type_5_is_an_alias() {
+        let octets = record(5, 1, b"\x01b\x00");
+        let records = read_book(&octets).unwrap();
+        assert!(matches!(records[0].data, RecordData::Alias(_)));
+        for (rtype, class) in [(5, 3), (1, 5), (5, 257), (4, 1), (6, 1), (39, 1), (261, 1)] {
+            let octets = record(rtype, class, b"\x01b");
+            let records = read_book(&octets).unwrap();
+            assert!(matches!(records[0].data, RecordData::Other));
+        }
+    }
+
+    #[test]
+    fn the_data_of_an_alias_is_one_name() {
+        let name_of = |octets| crate::generate::name_of_octets(octets, 63);
+        for target in [b"\x00".to_vec(), b"\x04*._\xFF\x00".to_vec(), name_of(255)] {
+            assert!(read_book(&record(5, 1, &target)).is_ok());
+            for cut in 0..target.len() {
+                let octets = [record(16, 1, b""), record(5, 1, &target[..cut])].concat();
+                let refusal = Refusal::BadRecord { record: 1 };
+                assert_eq!(read_book(&octets).unwrap_err(), refusal);
+            }
+            let behind = [&target[..], b"\x00"].concat();
+            let refusal = Refusal::BadRecord { record: 0 };
+            assert_eq!(read_book(&record(5, 1, &behind)).unwrap_err(), refusal);
+        }
+        for target in [
+            b"\xC0\x00".to_vec(),
+            b"\x01b\xC0\x00".to_vec(),
+            name_of(256),
+        ] {
+            let refusal = Refusal::BadRecord { record: 0 };
+            assert_eq!(read_book(&record(5, 1, &target)).unwrap_err(), refusal);
+        }
+    }
+
+    /// All pairs of CAA, alias, and others of one owner.
+    #[test]
+    fn an_alias_stands_beside_no_alias_and_no_caa_record() {
+        let kinds: [(u16, u16, &[u8]); 5] = [
+            (257, 1, b"\x00\x01t"),
+            (5, 1, b"\x01b\x00"),
+            (1, 1, b""),
+            (5, 3, b"\x01b\x00"),
+            (257, 3, b""),
+        ];
+        for (one, (rtype, class, rdata)) in kinds.into_iter().enumerate() {
+            let first = record_of(b"\x01a\x00", rtype, class, rdata);
+            for (other, (rtype, class, rdata)) in kinds.into_iter().enumerate() {
+                let conflict = matches!((one, other), (0, 1) | (1, 0) | (1, 1));
+                let between = record_of(b"\x01c\x00", 5, 1, b"\x00");
+                let later = record_of(b"\x01A\x00", rtype, class, rdata);
+                let octets = [&first[..], &between, &later].concat();
+                let expected = conflict.then_some(Refusal::AliasConflict { record: 2 });
+                assert_eq!(read_book(&octets).err(), expected, "{one} {other}");
+            }
+        }
+    }
+
+    #[test]
+    fn the_lowest_later_record_is_told_behind_the_other_faults() {
+        let alias = |owner| record_of(owner, 5, 1, b"\x01b\x00");
+        // Record 2 is a second alias of its owner, and so is record 4.
+        let owners: [&[u8]; 5] = [b"\x01x\x00", b"\x00", b"\x00", b"\x01y\x00", b"\x01x\x00"];
+        let octets = owners.map(alias).concat();
+        let refusal = Refusal::AliasConflict { record: 2 };
+        assert_eq!(read_book(&octets).unwrap_err(), refusal);
+        let cut = &octets[..octets.len() - 1];
+        let refusal = Refusal::BadRecord { record: 4 };
+        assert_eq!(read_book(cut).unwrap_err(), refusal);
+        let many = [octets, record(16, 1, b"").repeat(1_020)].concat();
+        let refusal = Refusal::TooManyRecords { read: 1_024 };
+        assert_eq!(read_book(&many).unwrap_err(), refusal);
     }
 
     #[test]

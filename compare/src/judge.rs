@@ -5,7 +5,7 @@ use crate::applicant::read_applicant;
 use crate::book::read_book;
 use crate::issuer::read_issuer;
 use crate::request::read_request;
-use crate::rule::{caa_records, standing, Standing};
+use crate::rule::{standing, Records, Standing};
 
 pub fn judge(request: &[u8], issuer: &[u8], account: &[u8], method: &[u8], book: &[u8]) -> Answer {
     verdict(request, issuer, account, method, book).unwrap_or_else(Answer::Refused)
@@ -24,13 +24,16 @@ fn verdict(
     let issuer = read_issuer(issuer)?;
     let applicant = read_applicant(account, method)?;
     let book = read_book(book)?;
-    let records = caa_records(&book, applicant);
+    let records = Records::of(&book, applicant);
     for (name, requested) in names.iter().enumerate() {
         match standing(&records, requested) {
             Standing::Unrestricted => {}
             Standing::Governed { grantees, .. } if grantees.contains(&&issuer) => {}
             Standing::UnknownCritical { record } => {
                 return Ok(Answer::UnknownCritical { name, record })
+            }
+            Standing::TooManyAliases { record } => {
+                return Ok(Answer::TooManyAliases { name, record })
             }
             Standing::Governed {
                 first_governing: record,

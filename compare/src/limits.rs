@@ -8,6 +8,8 @@ pub const REQUEST_NAMES: usize = 250;
 pub const BOOK_OCTETS: usize = 49_152;
 /// Records in a book.
 pub const BOOK_RECORDS: usize = 1_024;
+/// Aliases that are followed from one name.
+pub const ALIASES: usize = 8;
 /// Octets of a name in wire form, its closing zero octet included (RFC 1035 section 2.3.4).
 pub const NAME_OCTETS: usize = 255;
 /// Octets of a label (RFC 1035 section 2.3.4).

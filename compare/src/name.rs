@@ -44,6 +44,11 @@ impl<'a> Name<'a> {
     pub fn is(self, other: Name) -> bool {
         self.wire.len() == other.wire.len() && self.wire.eq_ignore_ascii_case(other.wire)
     }
+
+    /// The octets, in lower case: those of two names are the same where the names are.
+    pub fn in_lower_case(self) -> Vec<u8> {
+        self.wire.to_ascii_lowercase()
+    }
 }
 
 /// Reads one name at the front of `octets` and hands back what stands behind it. `None` when the

@@ -8,7 +8,7 @@ use crate::book::read_book;
 use crate::buffer::put_at_front;
 use crate::issuer::IssuerName;
 use crate::request::read_request;
-use crate::rule::{caa_records, standing, Standing};
+use crate::rule::{standing, Records, Standing};
 
 /// Writes the permitted issuer names to the front of `buffer`, each as a length octet and the name
 /// in lower case. Nothing else of the buffer changes; on a refusal and on "anyone" nothing does.
@@ -33,7 +33,7 @@ fn list(
     let names = read_request(request)?;
     let applicant = read_applicant(account, method)?;
     let book = read_book(book)?;
-    let records = caa_records(&book, applicant);
+    let records = Records::of(&book, applicant);
     let mut restricted = names
         .iter()
         .map(|name| standing(&records, name))
@@ -69,7 +69,9 @@ fn granted_by_all<'a>(
 fn grantees(restricted: Standing<'_>) -> Vec<&IssuerName> {
     match restricted {
         Standing::Governed { grantees, .. } => grantees,
-        Standing::Unrestricted | Standing::UnknownCritical { .. } => Vec::new(),
+        Standing::Unrestricted
+        | Standing::UnknownCritical { .. }
+        | Standing::TooManyAliases { .. } => Vec::new(),
     }
 }
 

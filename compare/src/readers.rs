@@ -1,7 +1,7 @@
 //! The readers under the two calls, each answering in one word, so that those of another
 //! implementation can be tried by themselves. A place counts octets from 0 over the octets given.
 
-use crate::book::{read_property, read_raw_record, Property};
+use crate::book::{read_property, read_raw_record, read_target, Property, RawRecord};
 use crate::name::read_name;
 use crate::request::read_requested_name;
 use crate::rule::KNOWN_TAGS;
@@ -41,13 +41,13 @@ impl Readers {
         requested_name: |octets, at| requested_name(octets, at).unwrap_or(Word::FAULT),
         property: |octets| property(octets).unwrap_or(Word::FAULT),
         tag,
-        record: |octets, at| record(octets, at).unwrap_or(Word::FAULT),
+        record: record_of_layout,
         value,
     };
 
     /// The same, but a record whose CAA data is laid out wrongly is a fault.
     pub const OWN_WITH_CAA_DATA: Readers = Readers {
-        record: |octets, at| record_with_caa_data(octets, at).unwrap_or(Word::FAULT),
+        record: record_with::<CAA_DATA>,
         ..Readers::OWN
     };
 
@@ -55,10 +55,34 @@ impl Readers {
     /// its record.
     pub const OWN_WITH_TAGS: Readers = Readers {
         property: |octets| property_with_tag(octets).unwrap_or(Word::FAULT),
-        record: |octets, at| record_with_tag(octets, at).unwrap_or(Word::FAULT),
+        record: record_with::<TAGS>,
         ..Readers::OWN
     };
+
+    /// The same, but an alias whose data is not one name is a fault of its record as well.
+    pub const OWN_WITH_ALL_DATA: Readers = Readers {
+        record: record_with::<{ TAGS | TARGETS }>,
+        ..Readers::OWN_WITH_TAGS
+    };
+
+    /// The reader of records for which these are faults. A wrong tag is one only where wrong CAA data
+    /// is.
+    pub fn own_record(caa_data: bool, tags: bool, targets: bool) -> AtPlace {
+        match (caa_data, tags, targets) {
+            (_, true, true) => record_with::<{ TAGS | TARGETS }>,
+            (_, true, false) => record_with::<TAGS>,
+            (true, false, true) => record_with::<{ CAA_DATA | TARGETS }>,
+            (true, false, false) => record_with::<CAA_DATA>,
+            (false, false, true) => record_with::<TARGETS>,
+            (false, false, false) => record_of_layout,
+        }
+    }
 }
+
+/// What the reader of a record looks into, as bits. Tags stand in CAA data.
+const CAA_DATA: u8 = 1;
+const TAGS: u8 = CAA_DATA | 2;
+const TARGETS: u8 = 4;
 
 fn name_end(octets: &[u8], at: usize) -> Option<Word> {
     let (_, rest) = read_name(octets.get(at..)?)?;
@@ -93,28 +117,35 @@ fn tag(octets: &[u8]) -> Word {
     Word::number(known.map_or(0, |place| place as u8 + 1))
 }
 
-fn record(octets: &[u8], at: usize) -> Option<Word> {
+fn record_of_layout(octets: &[u8], at: usize) -> Word {
+    record_with::<0>(octets, at)
+}
+
+fn record_with<const LOOKED_INTO: u8>(octets: &[u8], at: usize) -> Word {
+    record(octets, at, |raw| {
+        let looks_into = |what: u8| LOOKED_INTO & what == what;
+        if raw.is_caa() && looks_into(CAA_DATA) {
+            read_property(raw.rdata).is_some_and(|p| !looks_into(TAGS) || p.has_good_tag())
+        } else if raw.is_alias() && looks_into(TARGETS) {
+            read_target(raw.rdata).is_some()
+        } else {
+            true
+        }
+    })
+    .unwrap_or(Word::FAULT)
+}
+
+fn record(octets: &[u8], at: usize, is_good: impl Fn(&RawRecord) -> bool) -> Option<Word> {
     let (raw, rest) = read_raw_record(octets.get(at..)?)?;
+    if !is_good(&raw) {
+        return None;
+    }
     let end = octets.len() - rest.len();
     let data_begins = end - raw.rdata.len();
     Some(Word::with(
         1,
         [end, data_begins - FIXED_OCTETS, data_begins],
     ))
-}
-
-fn record_with_caa_data(octets: &[u8], at: usize) -> Option<Word> {
-    let (raw, _) = read_raw_record(octets.get(at..)?)?;
-    if raw.is_caa() {
-        read_property(raw.rdata)?;
-    }
-    record(octets, at)
-}
-
-fn record_with_tag(octets: &[u8], at: usize) -> Option<Word> {
-    let (raw, _) = read_raw_record(octets.get(at..)?)?;
-    raw.data()?;
-    record(octets, at)
 }
 
 fn value(octets: &[u8]) -> Word {
@@ -173,6 +204,23 @@ mod tests {
             (with_tags.property)(b"\x80\x01a_"),
             Word::with(1, [3, 128, 0])
         );
+    }
+
+    #[test]
+    fn a_target_is_looked_into_or_not() {
+        let good = Word::with(1, [14, 1, 11]);
+        for (target, is_name) in [(b"\x01b\x00", true), (b"\x00\x00\x00", false)] {
+            for (class, looked_into) in [(1, true), (3, false)] {
+                let frame = [0, 0, 5, 0, class, 0, 0, 0, 0, 0, 3];
+                let octets = [&frame[..], target].concat();
+                assert_eq!((Readers::OWN_WITH_TAGS.record)(&octets, 0), good);
+                let expected = match is_name || !looked_into {
+                    true => good,
+                    false => Word::FAULT,
+                };
+                assert_eq!((Readers::OWN_WITH_ALL_DATA.record)(&octets, 0), expected);
+            }
+        }
     }
 
     #[test]

@@ -1,8 +1,11 @@
 //! The rule of issue for one requested name (RFC 8659 sections 3 and 4).
 
+use std::iter::successors;
+
 use crate::applicant::Applicant;
 use crate::book::{Property, Record, RecordData};
 use crate::issuer::IssuerName;
+use crate::limits::ALIASES;
 use crate::name::Name;
 use crate::request::RequestedName;
 use crate::value::read_value;
@@ -12,9 +15,24 @@ const ISSUEWILD: &str = "issuewild";
 const IODEF: &str = "iodef";
 pub const KNOWN_TAGS: [&str; 3] = [ISSUE, ISSUEWILD, IODEF];
 
-/// A CAA record as the rule sees it, read once for all requested names and for one applicant.
+/// The records of a book that the rule looks at, under the numbers that they have there. They are read
+/// once for all requested names and for one applicant.
 #[derive(Debug)]
-pub struct CaaRecord<'a> {
+pub struct Records<'a> {
+    caa: Vec<CaaRecord<'a>>,
+    aliases: Vec<Alias<'a>>,
+}
+
+#[derive(Debug)]
+struct Alias<'a> {
+    number: usize,
+    owner: Name<'a>,
+    target: Name<'a>,
+}
+
+/// A CAA record as the rule sees it.
+#[derive(Debug)]
+struct CaaRecord<'a> {
     number: usize,
     owner: Name<'a>,
     says: Says,
@@ -53,18 +71,41 @@ impl CaaRecord<'_> {
     }
 }
 
-/// The CAA records of a book, under the numbers that they have there. The applicant counts only for
-/// whom they grant.
-pub fn caa_records<'a>(book: &'a [Record<'a>], applicant: Applicant) -> Vec<CaaRecord<'a>> {
-    let caa = |(number, record): (usize, &'a Record<'a>)| match &record.data {
-        RecordData::Caa(property) => Some(CaaRecord {
-            number,
-            owner: record.owner,
-            says: said_by(property, applicant),
-        }),
-        RecordData::Other => None,
-    };
-    book.iter().enumerate().filter_map(caa).collect()
+impl<'a> Records<'a> {
+    /// The applicant counts only for whom the CAA records grant.
+    pub fn of(book: &'a [Record<'a>], applicant: Applicant) -> Records<'a> {
+        let mut records = Records {
+            caa: Vec::new(),
+            aliases: Vec::new(),
+        };
+        for (number, record) in book.iter().enumerate() {
+            let owner = record.owner;
+            match &record.data {
+                RecordData::Caa(property) => records.caa.push(CaaRecord {
+                    number,
+                    owner,
+                    says: said_by(property, applicant),
+                }),
+                &RecordData::Alias(target) => records.aliases.push(Alias {
+                    number,
+                    owner,
+                    target,
+                }),
+                RecordData::Other => {}
+            }
+        }
+        records
+    }
+
+    /// No owner has two aliases, since the book was accepted.
+    fn alias_of(&self, owner: Name) -> Option<&Alias<'a>> {
+        self.aliases.iter().find(|alias| alias.owner.is(owner))
+    }
+
+    fn owned_by(&self, owner: Name) -> Vec<&CaaRecord<'a>> {
+        let owned = |record: &&CaaRecord| record.owner.is(owner);
+        self.caa.iter().filter(owned).collect()
+    }
 }
 
 fn said_by(property: &Property, applicant: Applicant) -> Says {
@@ -80,12 +121,60 @@ fn said_by(property: &Property, applicant: Applicant) -> Says {
     }
 }
 
+/// What a look at one name finds. It follows the aliases from that name on, and counts them anew.
+enum Found<'r, 'a> {
+    /// The CAA records of the name that the aliases lead to, which may be any name, the root too.
+    Set(Vec<&'r CaaRecord<'a>>),
+    /// There are more aliases than are followed; `first` is the one of the name looked at.
+    TooManyAliases { first: usize },
+}
+
+impl Found<'_, '_> {
+    /// Then the climb goes on from the name looked at, whatever names the aliases led to.
+    fn is_nothing(&self) -> bool {
+        matches!(self, Found::Set(set) if set.is_empty())
+    }
+}
+
+/// The aliases from a name on, the first of them owned by it: at most one more than are followed.
+fn aliases_from<'r, 'a>(records: &'r Records<'a>, name: Name) -> Vec<&'r Alias<'a>> {
+    let first = records.alias_of(name);
+    successors(first, |alias| records.alias_of(alias.target))
+        .take(ALIASES + 1)
+        .collect()
+}
+
+fn look<'r, 'a>(records: &'r Records<'a>, name: Name) -> Found<'r, 'a> {
+    let aliases = aliases_from(records, name);
+    match aliases[..] {
+        [] => Found::Set(records.owned_by(name)),
+        [first, ..] if aliases.len() > ALIASES => Found::TooManyAliases {
+            first: first.number,
+        },
+        [.., last] => Found::Set(records.owned_by(last.target)),
+    }
+}
+
+/// What the climb from a requested name comes to: the nearest name with anything found, or nothing
+/// (RFC 8659 section 3). What the records say plays no part: a set of `iodef` alone ends the climb too.
+fn climb<'r, 'a>(records: &'r Records<'a>, name: &RequestedName) -> Found<'r, 'a> {
+    name.fqdn
+        .ancestors()
+        .map(|ancestor| look(records, ancestor))
+        .find(|found| !found.is_nothing())
+        .unwrap_or(Found::Set(Vec::new()))
+}
+
 /// How a requested name stands. In all cases but the first it is restricted.
 #[derive(Clone, Debug, PartialEq, Eq)]
 pub enum Standing<'a> {
     Unrestricted,
     /// Granted to nobody; `record` is the first unknown critical one.
     UnknownCritical {
+        record: usize,
+    },
+    /// Granted to nobody; `record` is the first alias of the look that met too many.
+    TooManyAliases {
         record: usize,
     },
     /// Granted to `grantees`, in the order of the records, repeats included; `first_governing` is
@@ -96,30 +185,70 @@ pub enum Standing<'a> {
     },
 }
 
-/// The values of the records that govern, in their order. With an unknown critical record none does.
+/// The values of the records that govern, in their order. With an unknown critical record, or too many
+/// aliases, none does.
 pub fn governing_values<'a>(book: &'a [Record<'a>], name: &RequestedName) -> Vec<&'a [u8]> {
-    let records = caa_records(book, Applicant::SOMEONE);
-    let relevant = relevant_set(&records, name);
+    let records = Records::of(book, Applicant::SOMEONE);
+    let Found::Set(relevant) = climb(&records, name) else {
+        return Vec::new();
+    };
     if relevant.iter().any(|record| record.is_unknown_critical()) {
         return Vec::new();
     }
     let governing = governing_records(&relevant, name.wildcard);
     let value = |(number, _): Governing| match &book[number].data {
         RecordData::Caa(property) => Some(property.value),
-        RecordData::Other => None,
+        RecordData::Alias(_) | RecordData::Other => None,
     };
     governing.into_iter().filter_map(value).collect()
 }
 
-/// How many labels the climb takes off X to reach the relevant set, 0 where X owns it; `None` where
-/// there is none.
-pub fn labels_taken_off(records: &[CaaRecord], name: &RequestedName) -> Option<usize> {
-    let owns_any = |owner| records.iter().any(|record| record.owner.is(owner));
-    name.fqdn.ancestors().position(owns_any)
+/// How many labels the climb takes off X to reach the name where it ends, 0 where that is X; `None`
+/// where it finds nothing.
+pub fn labels_taken_off(records: &Records, name: &RequestedName) -> Option<usize> {
+    name.fqdn
+        .ancestors()
+        .position(|ancestor| !look(records, ancestor).is_nothing())
 }
 
-pub fn standing<'a>(records: &'a [CaaRecord], name: &RequestedName) -> Standing<'a> {
-    let relevant = relevant_set(records, name);
+/// One look of a climb, as far as its aliases go.
+pub struct Chain<'a> {
+    /// The name looked at.
+    pub from: Name<'a>,
+    /// The targets of the aliases that are followed, in their order.
+    pub targets: Vec<Name<'a>>,
+    pub too_many: bool,
+    /// Whether the final target, or the name itself, has CAA records.
+    pub finds_set: bool,
+}
+
+/// The looks of the climb from a requested name, up to the one where it ends.
+pub fn chains<'a>(records: &Records<'a>, name: &RequestedName<'a>) -> Vec<Chain<'a>> {
+    let mut chains = Vec::new();
+    for from in name.fqdn.ancestors() {
+        let aliases = aliases_from(records, from);
+        let found = look(records, from);
+        let too_many = matches!(found, Found::TooManyAliases { .. });
+        let finds_set = !too_many && !found.is_nothing();
+        let targets = aliases.iter().take(ALIASES).map(|alias| alias.target);
+        chains.push(Chain {
+            from,
+            targets: targets.collect(),
+            too_many,
+            finds_set,
+        });
+        if !found.is_nothing() {
+            break;
+        }
+    }
+    chains
+}
+
+pub fn standing<'a>(records: &'a Records, name: &RequestedName) -> Standing<'a> {
+    let relevant = match climb(records, name) {
+        Found::Set(relevant) => relevant,
+        Found::TooManyAliases { first } => return Standing::TooManyAliases { record: first },
+    };
     if let Some(record) = relevant.iter().find(|record| record.is_unknown_critical()) {
         return Standing::UnknownCritical {
             record: record.number,
@@ -136,21 +265,6 @@ pub fn standing<'a>(records: &'a [CaaRecord], name: &RequestedName) -> Standing<
                 .collect(),
         },
     }
-}
-
-/// The CAA records of the nearest name that has any; empty when none has (RFC 8659 section 3). What
-/// they say plays no part: a set of `iodef` alone ends the climb too.
-fn relevant_set<'a>(records: &'a [CaaRecord<'a>], name: &RequestedName) -> Vec<&'a CaaRecord<'a>> {
-    name.fqdn
-        .ancestors()
-        .map(|ancestor| owned_by(ancestor, records))
-        .find(|found| !found.is_empty())
-        .unwrap_or_default()
-}
-
-fn owned_by<'a>(owner: Name, records: &'a [CaaRecord<'a>]) -> Vec<&'a CaaRecord<'a>> {
-    let owned = |record: &&CaaRecord| record.owner.is(owner);
-    records.iter().filter(owned).collect()
 }
 
 /// Once there is an `issuewild`, no `issue` counts for a wildcard (RFC 8659 section 4.3).

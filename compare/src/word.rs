@@ -47,6 +47,7 @@ impl Word {
             (0, 0, 0, 0) => Ok(Answer::Permitted),
             (20, name, record, 0) => Ok(Answer::UnknownCritical { name, record }),
             (21, name, record, 0) => Ok(Answer::NotGranted { name, record }),
+            (22, name, record, 0) => Ok(Answer::TooManyAliases { name, record }),
             _ => self.refused().map(Answer::Refused).ok_or(self),
         }
     }
@@ -82,6 +83,7 @@ impl Word {
             (9, 0, 0, 0) => Some(Refusal::BadLine),
             (10, 0, 0, 0) => Some(Refusal::LineOrDataTooLong),
             (11, 0, 0, 0) => Some(Refusal::BadData),
+            (12, record, 0, 0) => Some(Refusal::AliasConflict { record }),
             (15, 0, 0, 0) => Some(Refusal::BadApplicant),
             _ => None,
         }
@@ -141,6 +143,15 @@ mod tests {
             Ok(Answer::NotGranted { name: 1, record: 3 })
         );
         assert_eq!(
+            Word::with(22, [1, 3, 0]).judged(),
+            Ok(Answer::TooManyAliases { name: 1, record: 3 })
+        );
+        let refusal = Refusal::AliasConflict { record: 4 };
+        assert_eq!(
+            Word::with(12, [4, 0, 0]).permitted(),
+            Ok(Permitted::Refused(refusal))
+        );
+        assert_eq!(
             Word::with(31, [32, 2, 0]).permitted(),
             Ok(Permitted::List {
                 count: 2,
@@ -157,20 +168,22 @@ mod tests {
     #[test]
     fn what_is_no_answer_stays_a_word() {
         for word in [
-            Word::number(12),
+            Word::number(99),
             Word::number(30),
             Word::with(0, [1, 0, 0]),
             Word::with(4, [1, 0, 0]),
             Word::with(15, [1, 0, 0]),
             Word::with(2, [0, 1, 0]),
             Word::with(21, [0, 0, 1]),
+            Word::with(22, [0, 0, 1]),
+            Word::with(12, [1, 1, 0]),
         ] {
             assert_eq!(word.judged(), Err(word));
         }
         for word in [Word::number(0), Word::number(20), Word::with(30, [1, 0, 0])] {
             assert_eq!(word.permitted(), Err(word));
         }
-        for word in [Word::number(12), Word::with(9, [1, 0, 0])] {
+        for word in [Word::number(99), Word::with(9, [1, 0, 0])] {
             assert_eq!(word.made(), Err(word));
         }
     }

@@ -77,6 +77,16 @@ fn a_record_may_be_read_with_or_without_its_caa_data() {
         .to_string()
         .contains("a wrong tag is one, and is one of the data"));
 
+    let other = Other {
+        readers: Some(Readers::OWN_WITH_ALL_DATA),
+        ..Other::NOTHING
+    };
+    let comparison = compared(other, 1_000);
+    assert!(comparison.is_good(), "{comparison}");
+    assert!(comparison
+        .to_string()
+        .contains("a wrong target is one of the record"));
+
     let now_and_then = |octets: &[u8], at| match octets.len() {
         ..=20 => (Readers::OWN_WITH_CAA_DATA.record)(octets, at),
         _ => (OWN.record)(octets, at),
@@ -85,6 +95,20 @@ fn a_record_may_be_read_with_or_without_its_caa_data() {
         readers: Some(Readers {
             record: now_and_then,
             ..OWN
+        }),
+        ..Other::NOTHING
+    };
+    assert!(!compared(other, 1_000).differences.is_empty());
+
+    // Looks into the targets of the root's aliases alone.
+    let of_the_root = |octets: &[u8], at| match octets.get(at) {
+        Some(0) => (Readers::OWN_WITH_ALL_DATA.record)(octets, at),
+        _ => (Readers::OWN_WITH_TAGS.record)(octets, at),
+    };
+    let other = Other {
+        readers: Some(Readers {
+            record: of_the_root,
+            ..Readers::OWN_WITH_TAGS
         }),
         ..Other::NOTHING
     };

@@ -131,6 +131,20 @@ fn account_and_method_files_are_taken_octet_for_octet() {
 }
 
 #[test]
+fn aliases_are_told() {
+    let to_itself = b"\x01a\x00\x00\x05\x00\x01\x00\x00\x00\x00\x00\x03\x01A\x00";
+    let folder = folder("aliases")
+        .with("request.bin", REQUEST)
+        .with("issuer.txt", b"x")
+        .with("book.bin", to_itself);
+    assert_eq!(folder.line(), "verdict 22 name 0 record 0");
+    let folder = folder.with("book.bin", &to_itself.repeat(2));
+    assert_eq!(folder.line(), "refused 12 at 1");
+    let folder = folder.with("book.bin", &to_itself[..to_itself.len() - 1]);
+    assert_eq!(folder.line(), "refused 6 at 0");
+}
+
+#[test]
 fn other_files_that_cannot_be_read_are_empty() {
     let folder = Folder::new("folders").with("book.bin", b"");
     fs::create_dir(folder.0.join("issuer.txt")).unwrap();

@@ -19,12 +19,24 @@ fn listed(count: usize, octets: usize, buffer: &[u8]) -> Vec<Vec<u8>> {
     names
 }
 
-/// Half of the time one whose records mostly limit their grants.
+/// Half of the time a book whose records mostly limit their grants.
 fn any_book(generator: &mut Generator, account: &[u8], method: &[u8]) -> Vec<u8> {
     let issuer = generator.issuer();
     match generator.once_in(2) {
         true => generator.book_of_limits(&issuer, account, method),
         false => generator.book(),
+    }
+}
+
+/// One time in three with aliases.
+fn any_request_and_book(
+    generator: &mut Generator,
+    account: &[u8],
+    method: &[u8],
+) -> (Vec<u8>, Vec<u8>) {
+    match generator.once_in(3) {
+        true => generator.good_request_and_book_of_aliases(),
+        false => (generator.request(), any_book(generator, account, method)),
     }
 }
 
@@ -52,8 +64,7 @@ fn judge_permits_whom_the_list_holds() {
     let candidates = candidates();
     for _ in 0..3_000 {
         let (account, method) = (generator.account(), generator.method());
-        let book = any_book(&mut generator, &account, &method);
-        let request = generator.request();
+        let (request, book) = any_request_and_book(&mut generator, &account, &method);
         let before = generator.buffer(book.len());
         let mut buffer = before.clone();
         let list = match permitted_issuers(&request, &account, &method, &book, &mut buffer) {
@@ -129,8 +140,7 @@ fn room_is_enough_exactly_from_the_octets_told_on() {
     let mut generator = Generator::new(2);
     for _ in 0..2_000 {
         let (account, method) = (generator.account(), generator.method());
-        let book = any_book(&mut generator, &account, &method);
-        let request = generator.request();
+        let (request, book) = any_request_and_book(&mut generator, &account, &method);
         let list =
             |buffer: &mut [u8]| permitted_issuers(&request, &account, &method, &book, buffer);
         let answer = list(&mut generator.buffer(book.len()));
@@ -156,9 +166,10 @@ fn room_is_enough_exactly_from_the_octets_told_on() {
 fn a_verdict_is_that_of_the_first_name_not_permitted() {
     let mut generator = Generator::new(3);
     for _ in 0..3_000 {
-        let parts: Vec<Vec<u8>> = (0..3).map(|_| generator.request()).collect();
         let (account, method) = (generator.account(), generator.method());
-        let book = any_book(&mut generator, &account, &method);
+        let (request, book) = any_request_and_book(&mut generator, &account, &method);
+        let mut parts = [generator.request(), request, generator.request()];
+        parts.rotate_left(generator.below(3));
         let issuer = generator.issuer();
         let judge = |request: &[u8]| judge(request, &issuer, &account, &method, &book);
         let mut names_before = 0;
@@ -170,6 +181,10 @@ fn a_verdict_is_that_of_the_first_name_not_permitted() {
                     record,
                 },
                 Answer::UnknownCritical { name, record } => Answer::UnknownCritical {
+                    name: names_before + name,
+                    record,
+                },
+                Answer::TooManyAliases { name, record } => Answer::TooManyAliases {
                     name: names_before + name,
                     record,
                 },
@@ -187,12 +202,19 @@ fn a_verdict_is_that_of_the_first_name_not_permitted() {
 /// Deciding never computes with record numbers: a record before all others moves each by one.
 #[test]
 fn a_record_in_front_moves_the_numbers_and_nothing_else() {
-    let root_owned = b"\x00\x01\x01\x00\x01\x00\x00\x00\x00\x00\x05\x80\x03tbs";
+    let forbids = b"\x01\x01\x00\x01\x00\x00\x00\x00\x00\x05\x80\x03tbs";
     let mut generator = Generator::new(4);
     for _ in 0..2_000 {
-        let (request, issuer) = (generator.request(), generator.issuer());
+        let issuer = generator.issuer();
         let (account, method) = (generator.account(), generator.method());
-        let book = any_book(&mut generator, &account, &method);
+        // An alias may lead to the root, but none leads to `g`.
+        let (owner, (request, book)): (&[u8], _) = match generator.once_in(3) {
+            true => (b"\x01g\x00", generator.good_request_and_book_of_aliases()),
+            false => {
+                let book = any_book(&mut generator, &account, &method);
+                (b"\x00", (generator.request(), book))
+            }
+        };
         let judge = |book: &[u8]| judge(&request, &issuer, &account, &method, book);
         let expected = match judge(&book) {
             Answer::NotGranted { name, record } => Answer::NotGranted {
@@ -203,9 +225,13 @@ fn a_record_in_front_moves_the_numbers_and_nothing_else() {
                 name,
                 record: record + 1,
             },
+            Answer::TooManyAliases { name, record } => Answer::TooManyAliases {
+                name,
+                record: record + 1,
+            },
             other => other,
         };
-        let moved = [root_owned.as_slice(), &book].concat();
+        let moved = [owner, forbids, &book].concat();
         assert_eq!(judge(&moved), expected);
     }
 }
@@ -254,9 +280,9 @@ fn without_parameters(book: &[u8]) -> Vec<u8> {
 fn letter_case_changes_no_verdict() {
     let mut generator = Generator::new(5);
     for _ in 0..2_000 {
-        let (request, issuer) = (generator.request(), generator.issuer());
+        let issuer = generator.issuer();
         let (account, method) = (generator.account(), generator.method());
-        let book = any_book(&mut generator, &account, &method);
+        let (request, book) = any_request_and_book(&mut generator, &account, &method);
         let judge =
             |request: &[u8], issuer: &[u8]| judge(request, issuer, &account, &method, &book);
         assert_eq!(
@@ -285,6 +311,7 @@ fn every_answer_comes() {
             Answer::Permitted => "verdict 0".to_string(),
             Answer::UnknownCritical { .. } => "verdict 20".to_string(),
             Answer::NotGranted { .. } => "verdict 21".to_string(),
+            Answer::TooManyAliases { .. } => "verdict 22".to_string(),
             Answer::Refused(refusal) => format!("refused {}", refusal.number()),
         };
         *seen.entry(judged).or_default() += 1;
@@ -300,9 +327,10 @@ fn every_answer_comes() {
         *seen.entry(permitted).or_default() += 1;
     }
     let wanted = (1..=8)
-        .chain([15])
+        .chain([12, 15])
         .map(|number| format!("refused {number}"))
-        .chain(["verdict 0", "verdict 20", "verdict 21", "anyone"].map(String::from))
+        .chain(["verdict 0", "verdict 20", "verdict 21", "verdict 22"].map(String::from))
+        .chain(["anyone".to_string()])
         .chain((0..=3).map(|count| format!("list of {count}")));
     for answer in wanted {
         let times = seen.get(&answer).copied().unwrap_or_default();

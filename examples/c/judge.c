@@ -71,6 +71,7 @@ static enum status print_judgement(uint64_t answer)
         return PERMITTED;
     case CAA_UNKNOWN_CRITICAL:
     case CAA_NOT_GRANTED:
+    case CAA_TOO_MANY_ALIASES:
         printf("verdict %u name %zu record %zu\n", caa_number(answer), caa_name_number(answer),
                caa_record_number(answer));
         return NOT_PERMITTED;

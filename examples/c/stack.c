@@ -21,7 +21,7 @@
 enum { STACK = 262144, BLOCK = 4096, MOST = 65536, CHANGED = 5000 };
 
 /* What docs/ASSUMPTIONS.md says. */
-enum { ENOUGH_FOR_LINE = 1024, ENOUGH_FOR_BOOK = 40960 };
+enum { ENOUGH_FOR_LINE = 1024, ENOUGH_FOR_BOOK = 49152 };
 
 static uint8_t stack[STACK];
 static ucontext_t here, there;
@@ -144,6 +144,19 @@ static void put_caa(struct octets *to, const char *owner, unsigned flags, const 
     put_text(to, value);
 }
 
+static void put_alias(struct octets *to, const char *owner, const char *target)
+{
+    struct octets data;
+
+    clear(&data);
+    put_name(&data, target);
+    put_name(to, owner);
+    put(to, "\0\5\0\1\0\0\0\0", 8);
+    put_octet(to, (unsigned)(data.length >> 8));
+    put_octet(to, (unsigned)(data.length & 0xFF));
+    put(to, data.at, data.length);
+}
+
 static void put_many(struct octets *to, const char *text, int times)
 {
     while (times-- > 0) {
@@ -183,6 +196,32 @@ static void make_book(int count, const char *first, const char *second, const ch
 
         snprintf(value, sizeof value, " ca%d.e;a=1;b=", n / 2);
         put_caa(&book, n % 2 == 0 ? first : second, 0, tag, value);
+    }
+}
+
+/*
+ * `count` chains of `aliases` aliases each; the first chain begins at `owner`. The last target of each chain has
+ * a CAA record that grants ca1.e.
+ */
+static void make_chains(int count, int aliases, const char *owner)
+{
+    int n, k;
+
+    clear(&book);
+    for (n = 0; n < count; n++) {
+        char from[64], to[64];
+
+        if (n == 0) {
+            snprintf(to, sizeof to, "%s", owner);
+        } else {
+            snprintf(to, sizeof to, "t0.c%d.e", n);
+        }
+        for (k = 1; k <= aliases; k++) {
+            memcpy(from, to, sizeof from);
+            snprintf(to, sizeof to, "t%d.c%d.e", k, n);
+            put_alias(&book, from, to);
+        }
+        put_caa(&book, to, 0, "issue", "ca1.e");
     }
 }
 
@@ -338,6 +377,16 @@ static void books(void)
         ask_book();
         method.at[254] = 'm';
     }
+    /* chains of 8 and of 9 aliases, as many as fit a book */
+    make_chains(113, 8, "d.example");
+    expect(call_judge, CAA_PERMITTED);
+    expect(call_list, CAA_LIST);
+    ask_book();
+    make_chains(102, 9, "d.example");
+    expect(call_judge, CAA_TOO_MANY_ALIASES);
+    expect(call_list, CAA_LIST);
+    ask_book();
+
     clear(&book);
     expect(call_judge, CAA_PERMITTED);
     expect(call_list, CAA_ANYONE);
@@ -380,11 +429,18 @@ static void books(void)
     book.length = 49153;
     expect(call_judge, CAA_BOOK_TOO_LONG);
     ask_book();
+    make_chains(113, 8, "d.example");
+    put_caa(&book, "T7.c112.e", 0, "issue", "ca1.e");
+    expect(call_judge, CAA_ALIAS_CONFLICT);
+    expect(call_list, CAA_ALIAS_CONFLICT);
+    ask_book();
 
     make_request(4, 3);
     make_book(8, "d.example", "p.d.example", "issue");
     ask_changed_book();
     make_limited_book(8, "d.example", "p.d.example", "issue");
+    ask_changed_book();
+    make_chains(2, 8, "d.example");
     ask_changed_book();
 }
 

@@ -65,7 +65,9 @@ fn judged(folder: &Path) -> (String, u8) {
     let judgement = judge(&request, &issuer, &account, &method, &book);
     let status = match judgement {
         Judgement::Permitted => PERMITTED,
-        Judgement::UnknownCritical { .. } | Judgement::NotGranted { .. } => NOT_PERMITTED,
+        Judgement::UnknownCritical { .. }
+        | Judgement::NotGranted { .. }
+        | Judgement::TooManyAliases { .. } => NOT_PERMITTED,
         Judgement::Refused(_) => NOTHING_DECIDED,
     };
     (format!("{judgement}\n"), status)

@@ -28,6 +28,13 @@ pub enum Judgement {
         /// The number of the first record that governs it, from 0 over the book.
         record: usize,
     },
+    /// Verdict 22: more than 8 aliases (CNAME records) follow one another, so nobody may issue for a name.
+    TooManyAliases {
+        /// The number of the first name that isn't permitted, from 0.
+        name: usize,
+        /// The number of the first of these aliases, from 0 over the book.
+        record: usize,
+    },
     /// Nothing was decided.
     Refused(Refusal),
 }
@@ -44,6 +51,7 @@ impl Judgement {
             Judgement::Permitted => 0,
             Judgement::UnknownCritical { .. } => 20,
             Judgement::NotGranted { .. } => 21,
+            Judgement::TooManyAliases { .. } => 22,
             Judgement::Refused(refusal) => refusal.number(),
         }
     }
@@ -60,6 +68,10 @@ impl Judgement {
             Judgement::NotGranted { .. } => {
                 "this record governs this name, and nothing grants it to this issuer, \
                  for this account and by this method"
+            }
+            Judgement::TooManyAliases { .. } => {
+                "this record is the first of more than 8 aliases that follow one another, \
+                 so nobody may issue for this name"
             }
             Judgement::Refused(refusal) => refusal.reason(),
         }
@@ -78,6 +90,11 @@ impl Judgement {
                 a: name,
                 b: record,
             } => Judgement::NotGranted { name, record },
+            Word {
+                number: 22,
+                a: name,
+                b: record,
+            } => Judgement::TooManyAliases { name, record },
             _ => Judgement::Refused(word.refusal()),
         }
     }
@@ -88,7 +105,8 @@ impl fmt::Display for Judgement {
         match self {
             Judgement::Permitted => write!(f, "verdict 0")?,
             Judgement::UnknownCritical { name, record }
-            | Judgement::NotGranted { name, record } => {
+            | Judgement::NotGranted { name, record }
+            | Judgement::TooManyAliases { name, record } => {
                 let number = self.number();
                 write!(f, "verdict {number} name {name} record {record}")?;
             }
@@ -113,6 +131,9 @@ impl fmt::Display for Judgement {
 /// - `book`: 0 to 1,024 resource records in wire form without compression, one after the other, at
 ///   most 49,152 octets. A failed lookup is not an empty answer: don't judge without it.
 ///
+/// Where a name, or a name above it, is an alias (has a CNAME record in the book), the CAA records of its
+/// final target count for it. Up to 8 aliases are followed. A DNAME record is not read.
+///
 /// A record may limit its grant to one account (`accounturi`) and to some methods (`validationmethods`).
 /// Both are compared octet for octet, so give both texts as your CA publishes them.
 pub fn judge(
@@ -132,7 +153,7 @@ mod tests {
 
     #[test]
     fn a_number_of_a_newer_library_is_no_permission() {
-        for number in [12, 22, 30, 255] {
+        for number in [13, 23, 30, 255] {
             let judgement = Judgement::of(Word { number, a: 1, b: 2 });
             let unknown = Refusal::Unknown { number, place: 1 };
             assert_eq!(judgement, Judgement::Refused(unknown));
@@ -144,6 +165,18 @@ mod tests {
     fn the_desk_s_line_and_the_reason() {
         let judgement = Judgement::NotGranted { name: 1, record: 3 };
         assert_eq!(judgement.to_string(), "verdict 21 name 1 record 3");
+        let judgement = Judgement::of(Word {
+            number: 22,
+            a: 1,
+            b: 3,
+        });
+        assert_eq!(judgement, Judgement::TooManyAliases { name: 1, record: 3 });
+        assert!(!judgement.is_permitted());
+        assert_eq!(
+            format!("{judgement:#}"),
+            "verdict 22 name 1 record 3: this record is the first of more than 8 aliases \
+             that follow one another, so nobody may issue for this name"
+        );
         assert_eq!(Judgement::Permitted.to_string(), "verdict 0");
         assert_eq!(
             format!("{:#}", Judgement::Permitted),

@@ -25,7 +25,7 @@ pub enum Refusal {
     BadIssuer,
     /// 5: the book is over 49,152 octets.
     BookTooLong,
-    /// 6: a record, or its CAA data, is malformed, or the tag of its CAA data has other octets than
+    /// 6: a record, or its CAA or CNAME data, is malformed, or the tag of its CAA data has other octets than
     /// letters and digits.
     BadRecord {
         /// The number of that record, from 0.
@@ -47,6 +47,11 @@ pub enum Refusal {
     LineTooLong,
     /// 11: the CAA data is malformed, or its tag has other octets than letters and digits.
     BadData,
+    /// 12: an alias (CNAME record) and a CAA record, or two aliases, have the same owner.
+    AliasConflict {
+        /// The number of the later of the two records, from 0; the lowest such number.
+        record: usize,
+    },
     /// 15: the account or the method breaks a rule. Each has 1 to 255 octets from 33 to 126 without `;`,
     /// and the method has no `,`.
     BadAccountOrMethod,
@@ -73,6 +78,7 @@ impl Refusal {
             9 => Refusal::BadLine,
             10 => Refusal::LineTooLong,
             11 => Refusal::BadData,
+            12 => Refusal::AliasConflict { record: place },
             15 => Refusal::BadAccountOrMethod,
             _ => Refusal::Unknown { number, place },
         }
@@ -92,6 +98,7 @@ impl Refusal {
             Refusal::BadLine => 9,
             Refusal::LineTooLong => 10,
             Refusal::BadData => 11,
+            Refusal::AliasConflict { .. } => 12,
             Refusal::BadAccountOrMethod => 15,
             Refusal::Unknown { number, .. } => number,
         }
@@ -101,7 +108,7 @@ impl Refusal {
     pub fn place(self) -> usize {
         match self {
             Refusal::BadName { name } => name,
-            Refusal::BadRecord { record } => record,
+            Refusal::BadRecord { record } | Refusal::AliasConflict { record } => record,
             Refusal::TooManyNames { read } | Refusal::TooManyRecords { read } => read,
             Refusal::NoRoom { needed } => needed,
             Refusal::Unknown { place, .. } => place,
@@ -124,7 +131,8 @@ impl Refusal {
             Refusal::BadIssuer => "the issuer domain name breaks a rule",
             Refusal::BookTooLong => "the book is over 49,152 octets",
             Refusal::BadRecord { .. } => {
-                "this record or its CAA data is malformed, or its tag isn't letters and digits only"
+                "this record or its CAA or CNAME data is malformed, \
+                 or its tag isn't letters and digits only"
             }
             Refusal::TooManyRecords { .. } => "octets are left after the most records allowed",
             Refusal::NoRoom { .. } => "the buffer is shorter than the octets needed",
@@ -132,6 +140,10 @@ impl Refusal {
             Refusal::LineTooLong => "the line is over 16,384 octets, or its data over 4,096",
             Refusal::BadData => {
                 "the CAA data is malformed, or its tag isn't letters and digits only"
+            }
+            Refusal::AliasConflict { .. } => {
+                "this record and one before it have the same owner: an alias and a CAA record, \
+                 or two aliases"
             }
             Refusal::BadAccountOrMethod => {
                 "the account or the method is empty, too long, or has an octet that isn't allowed"
@@ -159,10 +171,11 @@ mod tests {
 
     #[test]
     fn number_and_place_come_back() {
-        for number in [2, 3, 6, 7, 8, 0, 12, 14, 16, 20, 255] {
+        for number in [2, 3, 6, 7, 8, 12, 0, 13, 14, 16, 20, 255] {
             let refusal = Refusal::of(number, 5);
             assert_eq!((refusal.number(), refusal.place()), (number, 5));
         }
+        assert_eq!(Refusal::of(12, 5), Refusal::AliasConflict { record: 5 });
         for number in [1, 4, 5, 9, 10, 11, 15] {
             let refusal = Refusal::of(number, 0);
             assert_eq!((refusal.number(), refusal.place()), (number, 0));
@@ -175,8 +188,14 @@ mod tests {
         assert_eq!(refusal.to_string(), "refused 6 at 4");
         assert_eq!(
             format!("{refusal:#}"),
-            "refused 6 at 4: this record or its CAA data is malformed, \
+            "refused 6 at 4: this record or its CAA or CNAME data is malformed, \
              or its tag isn't letters and digits only"
+        );
+        let refusal = Refusal::AliasConflict { record: 7 };
+        assert_eq!(
+            format!("{refusal:#}"),
+            "refused 12 at 7: this record and one before it have the same owner: \
+             an alias and a CAA record, or two aliases"
         );
         assert_eq!(
             format!("{:#}", Refusal::BadAccountOrMethod),

@@ -6,7 +6,7 @@ use crate::answer::Refusal;
 use crate::applicant::Applicant;
 use crate::book::read_book;
 use crate::request::read_request;
-use crate::rule::{caa_records, labels_taken_off, standing, Standing};
+use crate::rule::{labels_taken_off, standing, Records, Standing};
 
 /// The kinds, which stand for the labels taken off, but for the last: many labels were, in vain.
 const KINDS: &[(u8, &str)] = &[
@@ -65,7 +65,7 @@ pub fn count_in_vain(tally: &mut Tally, request: &[u8], book: &[u8]) {
 fn climbs(request: &[u8], book: &[u8]) -> Result<Vec<Climb>, Refusal> {
     let names = read_request(request)?;
     let book = read_book(book)?;
-    let records = caa_records(&book, Applicant::SOMEONE);
+    let records = Records::of(&book, Applicant::SOMEONE);
     Ok(names
         .iter()
         .map(|name| Climb {

@@ -1,5 +1,6 @@
 //! The judge against ours.
 
+use super::aliases::{self, count_aliases};
 use super::heights::{self, count_in_vain, count_of_name};
 use super::limits::{self, count_limits};
 use super::log::{Call, Differences, Tally};
@@ -17,6 +18,7 @@ static JUDGE: Call = Call {
         (0, "verdict 0"),
         (20, "verdict 20"),
         (21, "verdict 21"),
+        (22, "verdict 22"),
         (1, "refused 1"),
         (2, "refused 2"),
         (3, "refused 3"),
@@ -25,6 +27,7 @@ static JUDGE: Call = Call {
         (5, "refused 5"),
         (6, "refused 6"),
         (7, "refused 7"),
+        (12, "refused 12"),
     ],
 };
 
@@ -35,6 +38,7 @@ pub struct JudgeComparison {
     heights: Tally,
     limits: Tally,
     parameters: Tally,
+    aliases: Tally,
 }
 
 impl JudgeComparison {
@@ -45,6 +49,7 @@ impl JudgeComparison {
             heights: Tally::new(&heights::OF_VERDICTS),
             limits: Tally::new(&limits::OF_VERDICTS),
             parameters: Tally::new(&parameters::OF_VERDICTS),
+            aliases: Tally::new(&aliases::OF_VERDICTS),
         }
     }
 
@@ -95,10 +100,13 @@ impl Part for JudgeComparison {
         if !matches!(answer, Answer::Refused(_)) {
             count_limits(&mut self.limits, request, book);
             count_parameters(&mut self.parameters, inputs, Some(issuer));
+            count_aliases(&mut self.aliases, request, book);
         }
         match answer {
             Answer::Permitted => count_in_vain(&mut self.heights, request, book),
-            Answer::UnknownCritical { name, .. } | Answer::NotGranted { name, .. } => {
+            Answer::UnknownCritical { name, .. }
+            | Answer::NotGranted { name, .. }
+            | Answer::TooManyAliases { name, .. } => {
                 count_of_name(&mut self.heights, request, book, name);
             }
             Answer::Refused(_) => {}
@@ -106,7 +114,13 @@ impl Part for JudgeComparison {
     }
 
     fn into_tallies(self: Box<Self>) -> Vec<Tally> {
-        vec![self.tally, self.heights, self.limits, self.parameters]
+        vec![
+            self.tally,
+            self.heights,
+            self.limits,
+            self.parameters,
+            self.aliases,
+        ]
     }
 }
 
@@ -115,6 +129,7 @@ fn kind(answer: Answer) -> u8 {
         Answer::Permitted => 0,
         Answer::UnknownCritical { .. } => 20,
         Answer::NotGranted { .. } => 21,
+        Answer::TooManyAliases { .. } => 22,
         Answer::Refused(refusal) => refusal.number(),
     }
 }

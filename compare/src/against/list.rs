@@ -1,5 +1,6 @@
 //! Who may issue against ours: the answer and every octet of the buffer.
 
+use super::aliases::{self, count_aliases};
 use super::buffer::{sizes_to_try, TwoBuffers};
 use super::heights::{self, count_in_vain, count_of_restricted};
 use super::limits::{self, count_limits};
@@ -28,6 +29,7 @@ static LIST: Call = Call {
         (5, "refused 5"),
         (6, "refused 6"),
         (7, "refused 7"),
+        (12, "refused 12"),
         (8, "refused 8"),
     ],
 };
@@ -42,6 +44,7 @@ pub struct ListComparison {
     heights: Tally,
     limits: Tally,
     parameters: Tally,
+    aliases: Tally,
 }
 
 /// What is asked, but for the buffer.
@@ -62,6 +65,7 @@ impl ListComparison {
             heights: Tally::new(&heights::OF_LISTS),
             limits: Tally::new(&limits::OF_LISTS),
             parameters: Tally::new(&parameters::OF_LISTS),
+            aliases: Tally::new(&aliases::OF_LISTS),
         }
     }
 
@@ -150,6 +154,7 @@ impl Part for ListComparison {
         if !matches!(answer, Permitted::Refused(_)) {
             count_limits(&mut self.limits, request, book);
             count_parameters(&mut self.parameters, inputs, None);
+            count_aliases(&mut self.aliases, request, book);
         }
         match answer {
             Permitted::Anyone => count_in_vain(&mut self.heights, request, book),
@@ -159,7 +164,13 @@ impl Part for ListComparison {
     }
 
     fn into_tallies(self: Box<Self>) -> Vec<Tally> {
-        vec![self.tally, self.heights, self.limits, self.parameters]
+        vec![
+            self.tally,
+            self.heights,
+            self.limits,
+            self.parameters,
+            self.aliases,
+        ]
     }
 }
 

@@ -1,5 +1,6 @@
 //! Another implementation's answers against ours, on the stored cases and on random ones.
 
+mod aliases;
 mod buffer;
 mod heights;
 mod judge;

@@ -4,10 +4,10 @@
 
 use std::iter;
 
-use super::books::{book_of, filled_up, full_record, wire, LEAST_CAA};
+use super::books::{book_of, cname, filled_up, full_record, wire, LEAST_CAA};
 use super::shapes::GRANTED;
 use super::NIGHT_RUN_NAMES;
-use crate::limits::{BOOK_OCTETS, BOOK_RECORDS, REQUEST_NAMES, REQUEST_OCTETS};
+use crate::limits::{ALIASES, BOOK_OCTETS, BOOK_RECORDS, REQUEST_NAMES, REQUEST_OCTETS};
 
 /// The issuer of the crowded loads, as short as may be, so that owners have room.
 const SHORT: &str = "a";
@@ -104,6 +104,7 @@ pub fn loads() -> Vec<Alike> {
         climbs_to_all(),
         many_sets(34),
         many_sets(20),
+        chains_of_aliases(),
     ]
 }
 
@@ -215,6 +216,55 @@ fn many_sets(octets: usize) -> Alike {
             .collect(),
         issuer: SHORT,
         book: [front, end].concat(),
+    }
+}
+
+/// Deep names whose every ancestor has one key and goes along as many aliases as are followed. That of
+/// the top leads to the one set. All owners have the key. The aliases that the looks begin with stand
+/// last, so that each look passes by all other records. Aliases that no look comes to fill the book:
+/// their owners differ from an ancestor in two octets, and their targets are found last.
+fn chains_of_aliases() -> Alike {
+    let name = deepest(&wire("kk"), REQUEST_OCTETS / REQUEST_NAMES);
+    let starts: Vec<&[u8]> = ancestors(&name).collect();
+    let labels = starts.len();
+    let between = longer(&[0], 19, key(&name))
+        .next()
+        .expect("an owner has the key");
+    let between = |number| numbered(&between, unread(&between), number);
+    let set = between(0);
+    let mut behind = vec![full_record(&set, SHORT)];
+    let mut first = Vec::new();
+    for (chain, start) in starts.iter().enumerate() {
+        for number in ALIASES * chain..ALIASES * (chain + 1) {
+            let target = match number + 1 == ALIASES * labels {
+                true => set.clone(),
+                false => between(number + 1),
+            };
+            match number % ALIASES {
+                0 => first.push(cname(start, &target)),
+                _ => behind.push(cname(&between(number), &target)),
+            }
+        }
+    }
+    behind.extend(first);
+    let rest = behind.concat();
+    let ancestor = ancestors(&name).find(|x| x.len() <= 33).expect("the top");
+    let mut book = Vec::new();
+    for number in 0..BOOK_RECORDS - behind.len() {
+        let owner = numbered(ancestor, unread(ancestor), number);
+        let record = cname(&owner, starts[labels - 1]);
+        if owner != ancestor && book.len() + record.len() + rest.len() <= BOOK_OCTETS {
+            book.extend(record);
+        }
+    }
+    book.extend(rest);
+    Alike {
+        title: format!(
+            "keys alike, {REQUEST_NAMES} names of {labels} labels, aliases in chains of {ALIASES}"
+        ),
+        request: name.repeat(REQUEST_NAMES),
+        issuer: SHORT,
+        book,
     }
 }
 

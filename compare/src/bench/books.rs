@@ -153,8 +153,14 @@ pub fn caa(owner: &[u8], data: &[u8]) -> Vec<u8> {
     [owner, b"\x01\x01\x00\x01\x00\x00\x00\x00", &length, data].concat()
 }
 
+/// An alias of the target.
+pub fn cname(owner: &[u8], target: &[u8]) -> Vec<u8> {
+    let length = (target.len() as u16).to_be_bytes();
+    [owner, b"\x00\x05\x00\x01\x00\x00\x00\x00", &length, target].concat()
+}
+
 /// So many labels, each of this letter alone.
-fn deep_name(letter: char, labels: usize) -> String {
+pub fn deep_name(letter: char, labels: usize) -> String {
     vec![letter.to_string(); labels].join(".")
 }
 

@@ -8,7 +8,7 @@ use super::books::{
 };
 use super::measure::{measure, race, Measured, Plan, Race, Sides};
 use super::shapes::SHAPES;
-use super::{alike, limited, yardstick, CALLS_OF_ONE_NAME, NIGHT_RUN_NAMES};
+use super::{aliases, alike, limited, yardstick, CALLS_OF_ONE_NAME, NIGHT_RUN_NAMES};
 use crate::answer::Permitted;
 use crate::calls::{Desk, PermittedIssuers};
 use crate::limits::{BOOK_RECORDS, REQUEST_NAMES};
@@ -135,6 +135,8 @@ pub fn loads() -> Vec<Load> {
     loads.extend(alike::loads().into_iter().map(load));
     let load = |limited: limited::Limited| Load::new(limited.title, limited.request, limited.book);
     loads.extend(limited::loads().into_iter().map(load));
+    let load = |aliases: aliases::Aliases| Load::new(aliases.title, aliases.request, aliases.book);
+    loads.extend(aliases::loads().into_iter().map(load));
     loads
 }
 
@@ -186,6 +188,7 @@ mod tests {
             }
         }));
         expected.extend(limited::loads().iter().map(|_| 1));
+        expected.extend(aliases::loads().iter().map(|_| 1));
         assert_eq!(counts.collect::<Vec<_>>(), expected);
     }
 }

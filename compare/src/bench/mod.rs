@@ -2,6 +2,7 @@
 //! plain inputs, and on the longest work that we can think of among inputs that are not refused.
 //! Nothing here says what is fast enough.
 
+mod aliases;
 mod alike;
 mod books;
 pub mod comparing;

@@ -16,7 +16,7 @@ use crate::book::RecordData;
 use crate::calls::{told, Desk, Judge};
 use crate::name::Name;
 use crate::request::read_requested_name;
-use crate::rule::{caa_records, labels_taken_off};
+use crate::rule::{labels_taken_off, Records};
 use crate::{read_book, read_request};
 
 /// What the request for the night run says of its load.
@@ -152,7 +152,7 @@ fn look_at(load: &Load, library: Judge) -> Result<Seen, String> {
     }
     let owners: HashSet<Vec<u8>> = book.iter().map(|record| spelled(record.owner)).collect();
 
-    let records = caa_records(&book, Applicant::SOMEONE);
+    let records = Records::of(&book, Applicant::SOMEONE);
     let up: HashSet<Option<usize>> = names
         .iter()
         .map(|name| labels_taken_off(&records, name))

@@ -102,7 +102,7 @@ mod tests {
     use super::*;
     use crate::applicant::Applicant;
     use crate::limits::{BOOK_OCTETS, REQUEST_NAMES};
-    use crate::rule::{caa_records, labels_taken_off};
+    use crate::rule::{labels_taken_off, Records};
     use crate::{read_book, read_request};
 
     #[test]
@@ -121,7 +121,7 @@ mod tests {
             let names = read_request(&request).unwrap();
             assert_eq!(names.len(), REQUEST_NAMES);
             let book = read_book(&book).unwrap();
-            let records = caa_records(&book, Applicant::SOMEONE);
+            let records = Records::of(&book, Applicant::SOMEONE);
             let height = match shape.title {
                 title if title.contains("at X") => 0,
                 title if title.contains("at the parent") => 1,

@@ -7,7 +7,7 @@
 
 use crate::answer::{Answer, Permitted, Refusal};
 use crate::limits::{
-    APPLICANT_OCTETS, BOOK_OCTETS, BOOK_RECORDS, ISSUER_OCTETS, LABEL_OCTETS, NAME_OCTETS,
+    ALIASES, APPLICANT_OCTETS, BOOK_OCTETS, BOOK_RECORDS, ISSUER_OCTETS, LABEL_OCTETS, NAME_OCTETS,
     REQUEST_NAMES, REQUEST_OCTETS,
 };
 
@@ -24,7 +24,15 @@ fn verdict(request: &[u8], issuer: &[u8], asker: Asker, book: &[u8]) -> Result<A
     let records = parse_book(book)?;
     let mut previous = None;
     for (number, name) in names.iter().enumerate() {
-        let set = relevant_set(&records, name.fqdn);
+        let set = match climb(&records, name.fqdn) {
+            Ok(set) => set,
+            Err(TooManyAliases { first }) => {
+                return Ok(Answer::TooManyAliases {
+                    name: number,
+                    record: first,
+                })
+            }
+        };
         if is_repeated(&set, name, &mut previous) {
             continue;
         }
@@ -39,7 +47,7 @@ fn verdict(request: &[u8], issuer: &[u8], asker: Asker, book: &[u8]) -> Result<A
             continue;
         };
         let grants = |record: &Record| {
-            grantee(record.value, asker).is_some_and(|grantee| grantee.eq_ignore_ascii_case(issuer))
+            grantee(record, asker).is_some_and(|grantee| grantee.eq_ignore_ascii_case(issuer))
         };
         if !governing.any(grants) {
             return Ok(Answer::NotGranted {
@@ -73,7 +81,11 @@ fn list(
     let mut previous = None;
     let mut listed: Option<Vec<&[u8]>> = None;
     for name in &names {
-        let set = relevant_set(&records, name.fqdn);
+        // Too many aliases grant nobody, whatever the other names say.
+        let Ok(set) = climb(&records, name.fqdn) else {
+            listed = Some(Vec::new());
+            break;
+        };
         if is_repeated(&set, name, &mut previous) {
             continue;
         }
@@ -98,7 +110,7 @@ fn grantees<'a>(set: &[&Record<'a>], wildcard: bool, asker: Asker) -> Option<Vec
     }
     let mut governing = governing(set, wildcard).peekable();
     governing.peek()?;
-    Some(governing.filter_map(|r| grantee(r.value, asker)).collect())
+    Some(governing.filter_map(|r| grantee(r, asker)).collect())
 }
 
 fn without_repeats(grantees: Vec<&[u8]>) -> Vec<&[u8]> {
@@ -161,40 +173,92 @@ struct Name<'a> {
     fqdn: &'a [u8],
 }
 
-/// A CAA record, under the number that it has among all records of the book.
+/// A CAA record or an alias, under the number that it has among all records of the book.
 struct Record<'a> {
     number: usize,
     owner: &'a [u8],
-    flags: u8,
-    tag: &'a [u8],
-    value: &'a [u8],
+    data: Data<'a>,
+}
+
+enum Data<'a> {
+    Caa {
+        flags: u8,
+        tag: &'a [u8],
+        value: &'a [u8],
+    },
+    Alias {
+        target: &'a [u8],
+    },
 }
 
 impl Record<'_> {
-    fn has_tag(&self, tag: &str) -> bool {
-        self.tag.eq_ignore_ascii_case(tag.as_bytes())
+    fn has_tag(&self, wanted: &str) -> bool {
+        match self.data {
+            Data::Caa { tag, .. } => tag.eq_ignore_ascii_case(wanted.as_bytes()),
+            Data::Alias { .. } => false,
+        }
     }
 
     fn is_unknown_critical(&self) -> bool {
         let known = ["issue", "issuewild", "iodef"];
-        self.flags & 128 != 0 && !known.iter().any(|tag| self.has_tag(tag))
+        matches!(self.data, Data::Caa { flags, .. } if flags & 128 != 0)
+            && !known.iter().any(|tag| self.has_tag(tag))
     }
 }
 
-/// The records of the nearest name that owns any. The root is not looked at.
-fn relevant_set<'r, 'a>(records: &'r [Record<'a>], fqdn: &[u8]) -> Vec<&'r Record<'a>> {
+/// A look that would follow more aliases than may be; `first` is the first one's number.
+struct TooManyAliases {
+    first: usize,
+}
+
+/// The set of the nearest name that has one, itself or by aliases. The root is not looked at.
+fn climb<'r, 'a>(
+    records: &'r [Record<'a>],
+    fqdn: &[u8],
+) -> Result<Vec<&'r Record<'a>>, TooManyAliases> {
     let mut name = fqdn;
     while name != [0] {
-        let set: Vec<_> = records
-            .iter()
-            .filter(|record| record.owner.eq_ignore_ascii_case(name))
-            .collect();
+        let set = look(records, name)?;
         if !set.is_empty() {
-            return set;
+            return Ok(set);
         }
         name = &name[1 + usize::from(name[0])..];
     }
-    Vec::new()
+    Ok(Vec::new())
+}
+
+/// The CAA records of the name that the aliases lead to from this one. An owner of an alias has no
+/// other record here.
+fn look<'r, 'a>(
+    records: &'r [Record<'a>],
+    name: &[u8],
+) -> Result<Vec<&'r Record<'a>>, TooManyAliases> {
+    let mut set = owned_by(records, name);
+    let mut followed = 0;
+    let mut first = 0;
+    while let [Record {
+        number,
+        data: Data::Alias { target },
+        ..
+    }] = set[..]
+    {
+        if followed == 0 {
+            first = *number;
+        }
+        if followed == ALIASES {
+            return Err(TooManyAliases { first });
+        }
+        followed += 1;
+        set = owned_by(records, target);
+    }
+    Ok(set)
+}
+
+fn owned_by<'r, 'a>(records: &'r [Record<'a>], owner: &[u8]) -> Vec<&'r Record<'a>> {
+    records
+        .iter()
+        .filter(|record| record.owner.eq_ignore_ascii_case(owner))
+        .collect()
 }
 
 /// Whether the name before was of the same kind and led to the same set, known by its first record:
@@ -216,9 +280,12 @@ fn governing<'r, 'a>(
     set.iter().copied().filter(move |r| r.has_tag(tag))
 }
 
-/// The issuer name that a value grants. `None` where the value doesn't fit the grammar, holds no
+/// The issuer name that a record grants. `None` where its value doesn't fit the grammar, holds no
 /// name, or one beyond the limits of issuer names, or a limit that isn't met.
-fn grantee<'a>(value: &'a [u8], asker: Asker) -> Option<&'a [u8]> {
+fn grantee<'a>(record: &Record<'a>, asker: Asker) -> Option<&'a [u8]> {
+    let Data::Caa { value, .. } = record.data else {
+        return None;
+    };
     let (name, parameters) = match value.iter().position(|&octet| octet == b';') {
         Some(place) => (&value[..place], trim(&value[place + 1..])),
         None => (value, &[][..]),
@@ -345,31 +412,63 @@ fn parse_book(book: &[u8]) -> Result<Vec<Record<'_>>, Refusal> {
         records.extend(record.ok_or(Refusal::BadRecord { record: number })?);
         number += 1;
     }
-    Ok(records)
+    match find_conflict(&records) {
+        Some(record) => Err(Refusal::AliasConflict { record }),
+        None => Ok(records),
+    }
 }
 
-/// One record: `None` where it is laid out wrongly, `Some(None)` where it is no CAA record.
+/// The first record whose owner has an alias before it, or that is an alias and whose owner has any
+/// record before it.
+fn find_conflict(records: &[Record]) -> Option<usize> {
+    let mut aliased: Vec<&[u8]> = Vec::new();
+    for (place, record) in records.iter().enumerate() {
+        let is_same = |owner: &[u8]| owner.eq_ignore_ascii_case(record.owner);
+        let conflicts = match record.data {
+            Data::Caa { .. } => aliased.iter().any(|owner| is_same(owner)),
+            Data::Alias { .. } => {
+                aliased.push(record.owner);
+                let mut before = records[..place].iter();
+                before.any(|earlier| is_same(earlier.owner))
+            }
+        };
+        if conflicts {
+            return Some(record.number);
+        }
+    }
+    None
+}
+
+/// One record: `None` where it is laid out wrongly, `Some(None)` where it is neither a CAA record nor
+/// an alias.
 fn take_record<'a>(rest: &mut &'a [u8], number: usize) -> Option<Option<Record<'a>>> {
     let owner = take_name(rest)?;
     let fields = take(rest, 10)?;
     let (type_and_class, length) = (&fields[..4], [fields[8], fields[9]]);
     let data = take(rest, usize::from(u16::from_be_bytes(length)))?;
-    // Type 257, class 1.
-    if type_and_class != [1, 1, 0, 1] {
-        return Some(None);
-    }
-    let (&[flags, tag_length], tag_and_value) = data.split_first_chunk()?;
-    let (tag, value) = tag_and_value.split_at_checked(usize::from(tag_length))?;
-    if tag.is_empty() || !tag.iter().all(u8::is_ascii_alphanumeric) {
-        return None;
-    }
+    let data = match type_and_class {
+        // Type 257, class 1.
+        [1, 1, 0, 1] => parse_property(data)?,
+        // Type 5, class 1.
+        [0, 5, 0, 1] => {
+            let mut rest = data;
+            let target = take_name(&mut rest).filter(|_| rest.is_empty())?;
+            Data::Alias { target }
+        }
+        _ => return Some(None),
+    };
     Some(Some(Record {
         number,
         owner,
-        flags,
-        tag,
-        value,
+        data,
     }))
+}
+
+fn parse_property(data: &[u8]) -> Option<Data<'_>> {
+    let (&[flags, tag_length], tag_and_value) = data.split_first_chunk()?;
+    let (tag, value) = tag_and_value.split_at_checked(usize::from(tag_length))?;
+    let is_good = !tag.is_empty() && tag.iter().all(u8::is_ascii_alphanumeric);
+    is_good.then_some(Data::Caa { flags, tag, value })
 }
 
 /// A name in wire form, its closing zero included.

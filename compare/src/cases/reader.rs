@@ -117,14 +117,16 @@ fn read_directive(case: &mut Case, directive: &str, rest: &str) -> Result<(), St
     Ok(())
 }
 
-/// A resource record: `OWNER CAA FLAGS TAG "VALUE"` or `OWNER CLASSn TYPEn HEX`. The time to live
-/// means nothing; it is one with odd octets, so that a wrong field shows.
+/// A resource record: `OWNER CAA FLAGS TAG "VALUE"`, `OWNER CNAME TARGET` or `OWNER CLASSn TYPEn HEX`.
+/// The time to live means nothing; it is one with odd octets, so that a wrong field shows.
 fn record(notation: &str) -> Result<Vec<u8>, String> {
     const TIME_TO_LIVE: [u8; 4] = [0x01, 0x01, 0x00, 0x01];
     let (owner, rest) = word(notation);
     let (kind, rest) = word(rest);
     let (class, rtype, rdata) = if kind == "CAA" {
         (1, 257, caa_data(rest)?)
+    } else if kind == "CNAME" {
+        (1, 5, wire_name(rest)?)
     } else {
         let (rtype, rdata) = word(rest);
         let class = kind.strip_prefix("CLASS").ok_or("no CLASS")?;
@@ -163,6 +165,10 @@ mod tests {
         assert_eq!(
             record(r#"a CAA 128 tbs "\010""#).unwrap(),
             b"\x01a\x00\x01\x01\x00\x01\x01\x01\x00\x01\x00\x06\x80\x03tbs\n"
+        );
+        assert_eq!(
+            record("a CNAME b.c").unwrap(),
+            b"\x01a\x00\x00\x05\x00\x01\x01\x01\x00\x01\x00\x05\x01b\x01c\x00"
         );
         assert_eq!(
             record(". CLASS3 TYPE16 00 01").unwrap(),

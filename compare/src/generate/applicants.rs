@@ -125,7 +125,7 @@ impl Generator {
         if self.once_in(2) {
             items[self.below(count)] = method.to_vec();
         }
-        match self.below(8) {
+        match self.below(6) {
             0 => items.insert(self.below(count + 1), Vec::new()),
             1 if self.once_in(4) => items = vec![Vec::new()],
             _ => {}

@@ -137,12 +137,12 @@ impl Generator {
         book
     }
 
-    /// One good record, CAA or not.
+    /// One good record, CAA or not, and no alias.
     pub fn record(&mut self) -> Vec<u8> {
         let owner = self.owner();
         if self.once_in(8) {
-            let (rtype, class) = self.one_of(&[(1, 1), (257, 3), (1, 257), (5, 1)]);
-            // Often what would count, or be wrong, in a CAA record.
+            let (rtype, class) = self.one_of(&[(1, 1), (257, 3), (1, 257), (5, 3)]);
+            // Often what would count, or be wrong, in a CAA record or an alias.
             let rdata = match self.below(4) {
                 0 => self.caa_data(),
                 1 => self.caa_data_with_wrong_tag(),

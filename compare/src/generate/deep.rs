@@ -1,5 +1,6 @@
 //! Deep cases: names of many labels, and sets that stand many labels above them.
 
+use super::aliases::owner_of;
 use super::Generator;
 use crate::limits::{BOOK_RECORDS, NAME_OCTETS, REQUEST_OCTETS};
 
@@ -11,8 +12,8 @@ const MANY_NAMES: usize = REQUEST_OCTETS / NAME_OCTETS;
 const HEIGHTS: [usize; 12] = [0, 1, 2, 3, 39, 40, 41, 99, 100, 101, 125, 126];
 
 impl Generator {
-    /// A request of deep names that share a tail, and a book with a set at any height above them.
-    /// Now and then the request or the book is full.
+    /// A request of deep names that share a tail, and a book with a set at any height above them, and
+    /// sometimes an alias. Now and then the request or the book is full.
     pub(super) fn deep_request_and_book(&mut self) -> (Vec<u8>, Vec<u8>) {
         let name = self.deep_name();
         let names = match self.once_in(16) {
@@ -21,6 +22,9 @@ impl Generator {
         };
         let request = (0..names).flat_map(|_| self.name_below(&name)).collect();
         let mut records = self.records_above(&name);
+        if self.once_in(3) {
+            self.add_alias_above(&name, &mut records);
+        }
         if self.once_in(16) {
             let unasked = self.unasked_records(BOOK_RECORDS - records.len());
             records.insert(0, unasked);
@@ -64,12 +68,7 @@ impl Generator {
     /// ancestor in one octet, and of the root.
     fn records_above(&mut self, name: &[u8]) -> Vec<Vec<u8>> {
         let labels = labels(name);
-        let height = match self.below(8) {
-            0..=4 => self.one_of(&HEIGHTS).min(labels),
-            5 => labels - 1,
-            6 => labels,
-            _ => self.below(labels),
-        };
+        let height = self.height(labels);
         let mut owners: Vec<Vec<u8>> = Vec::new();
         for _ in 0..1 + self.below(3) {
             owners.push(tail(name, height).to_vec());
@@ -96,6 +95,40 @@ impl Generator {
             .collect()
     }
 
+    /// Labels taken off a name of so many, up to all of them.
+    fn height(&mut self, labels: usize) -> usize {
+        match self.below(8) {
+            0..=4 => self.one_of(&HEIGHTS).min(labels),
+            5 => labels - 1,
+            6 => labels,
+            _ => self.below(labels),
+        }
+    }
+
+    /// An alias at some height above the name, where there are no records: to a name with a set or
+    /// without, to the root, or to itself.
+    fn add_alias_above(&mut self, name: &[u8], records: &mut Vec<Vec<u8>>) {
+        let height = self.height(labels(name));
+        let owner = tail(name, height);
+        let is_owner = |record: &Vec<u8>| owner_of(record).eq_ignore_ascii_case(owner);
+        if records.iter().any(is_owner) {
+            return;
+        }
+        let target: &[u8] = match self.below(8) {
+            0 => &[0],
+            1 => owner,
+            _ => b"\x01m\x00",
+        };
+        let (alias, rdata) = (self.any_case(owner), self.any_case(target));
+        let record = self.record_of(alias, 5, 1, &rdata);
+        self.put_in(records, record);
+        if target != owner && !self.once_in(4) {
+            let (owner, rdata) = (self.any_case(target), self.caa_data());
+            let record = self.record_of(owner, 257, 1, &rdata);
+            self.put_in(records, record);
+        }
+    }
+
     /// The name with an octet changed that is no length octet, so that it is none of the ancestors.
     fn nearly(&mut self, name: &[u8]) -> Vec<u8> {
         let taken_off = self.below(labels(name));
@@ -107,7 +140,7 @@ impl Generator {
 }
 
 /// The name with so many labels taken off, the root where it has no more.
-fn tail(name: &[u8], taken_off: usize) -> &[u8] {
+pub(super) fn tail(name: &[u8], taken_off: usize) -> &[u8] {
     let mut rest = name;
     for _ in 0..taken_off {
         rest = &rest[1 + usize::from(rest[0])..];

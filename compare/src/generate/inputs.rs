@@ -20,7 +20,7 @@ impl Generator {
     /// Inputs of any kind: mostly good, else damaged, too long or too many.
     pub fn inputs(&mut self) -> Inputs {
         let (mut account, mut method) = (self.any_account(), self.any_method());
-        let (request, book, issuer) = match self.below(24) {
+        let (request, book, issuer) = match self.below(30) {
             0..=3 => {
                 let (request, book) = self.deep_request_and_book();
                 (request, book, self.any_issuer())
@@ -38,10 +38,14 @@ impl Generator {
                 (self.request(), self.book_of_long_limits(&issuer), issuer)
             }
             // Limits that are met by issuer, account and method, or nearly.
-            6..=8 => {
+            6..=9 => {
                 let issuer = self.issuer();
                 let book = self.book_of_limits(&issuer, &account, &method);
                 (self.request(), book, issuer)
+            }
+            10..=14 => {
+                let (request, book) = self.request_and_book_of_aliases();
+                (request, book, self.any_issuer())
             }
             _ => (self.any_request(), self.any_book(), self.any_issuer()),
         };
@@ -62,33 +66,33 @@ impl Generator {
 
     fn any_request(&mut self) -> Vec<u8> {
         match self.below(32) {
-            0 | 1 => self.long_request(),
-            2 | 3 => self.many_names(),
-            4..=6 => {
+            0..=2 => self.long_request(),
+            3..=5 => self.many_names(),
+            6..=8 => {
                 let request = self.request();
                 self.damaged(request)
             }
-            7 => [self.request(), self.name_around_limit()].concat(),
+            9 => [self.request(), self.name_around_limit()].concat(),
             _ => self.request(),
         }
     }
 
     fn any_book(&mut self) -> Vec<u8> {
         match self.below(32) {
-            0 | 1 => self.long_book(),
-            2 | 3 => self.many_records(),
-            4..=6 => {
+            0..=2 => self.long_book(),
+            3..=5 => self.many_records(),
+            6..=8 => {
                 let book = self.book();
                 self.damaged(book)
             }
-            7 => {
+            9 => {
                 let owner = self.name_around_limit();
                 let rdata = self.caa_data();
                 [self.book(), self.record_of(owner, 257, 1, &rdata)].concat()
             }
-            8..=10 => self.crowded_book(),
-            11 => self.book_of_long_list(),
-            12 | 13 => self.book_with_wrong_tag(),
+            10..=13 => self.crowded_book(),
+            14 => self.book_of_long_list(),
+            15 | 16 => self.book_with_wrong_tag(),
             _ => self.book(),
         }
     }

@@ -1,5 +1,6 @@
 //! Random inputs from a seed, and all short ones of some kinds.
 
+mod aliases;
 mod applicants;
 mod books;
 mod deep;

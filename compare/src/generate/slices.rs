@@ -16,6 +16,7 @@ impl Generator {
     pub fn slice(&mut self) -> Vec<u8> {
         let octets = match self.below(20) {
             0 | 1 => self.request(),
+            2 if self.once_in(2) => [self.alias(), self.alias()].concat(),
             2 => [self.owner(), self.owner()].concat(),
             3 => [self.buffer(2), self.name_around_limit(), self.buffer(2)].concat(),
             4 if self.once_in(4) => self.book_with_wrong_tag(),

@@ -291,6 +291,55 @@ fn judges_that_check_account_or_method_wrongly_are_found_out() {
     ]);
 }
 
+#[test]
+fn judges_that_tell_aliases_wrongly_are_found_out() {
+    all_are_found_out(&[
+        |request, issuer, account, method, book| match judge(request, issuer, account, method, book)
+        {
+            Answer::TooManyAliases { .. } => Ok(Answer::Permitted),
+            other => Ok(other),
+        },
+        |request, issuer, account, method, book| match judge(request, issuer, account, method, book)
+        {
+            Answer::TooManyAliases { name, record } => Ok(Answer::NotGranted { name, record }),
+            other => Ok(other),
+        },
+        |request, issuer, account, method, book| match judge(request, issuer, account, method, book)
+        {
+            Answer::TooManyAliases { name, record } => Ok(Answer::TooManyAliases {
+                name: record,
+                record: name,
+            }),
+            other => Ok(other),
+        },
+        // Keeps a record number in one octet.
+        |request, issuer, account, method, book| match judge(request, issuer, account, method, book)
+        {
+            Answer::TooManyAliases { name, record } => Ok(Answer::TooManyAliases {
+                name,
+                record: record % 256,
+            }),
+            other => Ok(other),
+        },
+        |request, issuer, account, method, book| match judge(request, issuer, account, method, book)
+        {
+            Answer::Refused(Refusal::AliasConflict { record }) => {
+                let record = record % 256;
+                Ok(Answer::Refused(Refusal::AliasConflict { record }))
+            }
+            other => Ok(other),
+        },
+        // Takes a conflict for a fault of the record.
+        |request, issuer, account, method, book| match judge(request, issuer, account, method, book)
+        {
+            Answer::Refused(Refusal::AliasConflict { record }) => {
+                Ok(Answer::Refused(Refusal::BadRecord { record }))
+            }
+            other => Ok(other),
+        },
+    ]);
+}
+
 /// The text without these octets.
 fn without(text: &[u8], is_left_out: fn(u8) -> bool) -> Vec<u8> {
     text.iter()

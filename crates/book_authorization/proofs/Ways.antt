@@ -9,7 +9,8 @@ use Rattle.spec_record.specs.declared.PropertyTag.the-variants.{Issue, IssueWil
 use Rattle.book_places.specs.declared.FirstRecord.{FirstRecord}
 use Rattle.book_places.specs.declared.FirstRecord.the-variants.{At, Nothing}
 use Rattle.book_places.specs.declared.NameAuthorization.{NameAuthorization}
-use Rattle.book_places.specs.declared.NameAuthorization.the-variants.{Unrestricted, Forbidden, Governed}
+use Rattle.book_places.specs.declared.NameAuthorization.the-variants.{Unrestricted, Forbidden, Governed, Unresolved}
+use Rattle.book_places.specs.Table.{isAliasAt}
 use Rattle.book_places.specs.Sets.{firstUnknownCritical, firstTagged}
 use Rattle.book_places.specs.NameAuthorizations.{questionNumber, byIssue, byTags, setAuthorization}
 
@@ -38,16 +39,22 @@ module _ (book table links : List ℕ) where
         Governed (record { set = set; first = r; tag = IssueWild }) ≡ byTags book table links wildcard set
     issuewild-governs wildcard w o f r g = rw (w, ← f, g)
 
+    pub alias-stands : (wildcard t : Bool) → t ≡ isAliasAt table (set .0) → t ≡ true → Unresolved set ≡ setAuthorization book table links wildcard set
+    unfolding setAuthorization
+    alias-stands wildcard t is h = rw (← is, h)
+
     -- u is the first unknown critical record
-    module _ (wildcard : Bool) (u : FirstRecord) (e : u ≡ firstUnknownCritical book table links (set .0)) where
+    module _
+        (wildcard t : Bool) (is : t ≡ isAliasAt table (set .0)) (no-alias : t ≡ false) (u : FirstRecord)
+        (e : u ≡ firstUnknownCritical book table links (set .0)) where
       pub critical-forbids : (r : RecordNo) → u ≡ At r → Forbidden r ≡ setAuthorization book table links wildcard set
       unfolding setAuthorization
-      critical-forbids r h = rw (← e, h)
+      critical-forbids r h = rw (← is, no-alias, ← e, h)
 
       pub tags-decide :
           u ≡ Nothing → (a : NameAuthorization) → a ≡ byTags book table links wildcard set → a ≡ setAuthorization book table links wildcard set
       unfolding setAuthorization
-      tags-decide h a k = k ∙ rw (← e, h)
+      tags-decide h a k = k ∙ rw (← is, no-alias, ← e, h)
 
 module _ (set : RecordNo) (wildcard : Bool) where
   pub plain-number : wildcard ≡ false → 2 * (set .0 % 32768) ≡ questionNumber set wildcard

@@ -41,7 +41,7 @@ fn by_tags(
 }
 
 // What a relevant set says about X (`wildcard` is false), or about *.X. A critical record with an unknown tag forbids, whatever else the set
-// holds.
+// holds. An alias in place of a set means that there are too many aliases to follow.
 pub fn set_authorization(
     book: &[u8],
     table: &[u16],
@@ -52,6 +52,9 @@ pub fn set_authorization(
     ensures { λ r. ⌜ r ≡ setAuthorization (now (book .entry)) (now (table .entry)) (now (links .entry)) wildcard set ⌝ }
 {
     let from = set.0;
+    if book_table::is_alias_at(table, from) {
+        return NameAuthorization::Unresolved(set);
+    }
     if let FirstRecord::At(r) = book_set::first_unknown_critical(book, table, links, from) {
         return NameAuthorization::Forbidden(r);
     }

@@ -32,7 +32,7 @@ fn number_at(xs: &[u16], at: usize) -> u16
 }
 
 // Writes a number at an index; does nothing past the end.
-fn put_number(xs: &mut [u16], at: usize, x: u16)
+pub fn put_number(xs: &mut [u16], at: usize, x: u16)
     ensures { λ r. ⌜ now (xs .exit) ≡ set (now (xs .entry)) at x ⌝ }
 {
     if at < xs.len() {

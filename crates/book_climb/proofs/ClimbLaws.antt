@@ -11,41 +11,41 @@ use Rattle.read_name.specs.Places.{parentPlace}
 use Rattle.read_name.proofs.Parents.{further}
 use Rattle.book_places.specs.declared.FirstRecord.{FirstRecord}
 use Rattle.book_places.specs.declared.FirstRecord.the-variants.{At, Nothing}
-use Rattle.book_places.specs.Sets.{firstOwned, orNext, nearestFrom, nearestRecord}
+use Rattle.book_places.specs.Sets.{lookedUpAt, orNext, nearestFrom, nearestRecord}
 
 -- a parent begins inside the name
 pub parent-inside : (s : List ℕ) (at p : ℕ) → p ≡ parentPlace s at → (p ≡ at → ⊥) → p ≤ length s
 parent-inside s at p up other = further s at p up other .1
 
 -- from `at` on, with as many steps as there are octets left
-pub record Climbing (book table links heads s : List ℕ) (at : ℕ) : Type 0 where
+pub record Climbing (book table links heads onward s : List ℕ) (at : ℕ) : Type 0 where
   pub steps : ℕ
   pub enough : length s ≤ steps + at
-  pub left : nearestRecord book table links heads s ≡ nearestFrom steps book table links heads s at
+  pub left : nearestRecord book table links heads onward s ≡ nearestFrom steps book table links heads onward s at
 
-module _ (book table links heads s : List ℕ) where
-  pub climb-start : Climbing book table links heads s 0
+module _ (book table links heads onward s : List ℕ) where
+  pub climb-start : Climbing book table links heads onward s 0
   unfolding nearestRecord
   climb-start = record { steps = length s; enough = omega arith; left = refl }
 
-  module _ (at p : ℕ) (k : Climbing book table links heads s at) (up : p ≡ parentPlace s at) where
-    pub no-parent : p ≡ at → Nothing ≡ nearestRecord book table links heads s
+  module _ (at p : ℕ) (k : Climbing book table links heads onward s at) (up : p ≡ parentPlace s at) where
+    pub no-parent : p ≡ at → Nothing ≡ nearestRecord book table links heads onward s
     no-parent e = sym (k .left ∙ go (k .steps))
       where
-        go : (steps : ℕ) → nearestFrom steps book table links heads s at ≡ Nothing
+        go : (steps : ℕ) → nearestFrom steps book table links heads onward s at ≡ Nothing
         go zero = refl
         go (suc steps) = rw (eq-eqb (parentPlace s at) at (sym up ∙ e))
 
-    module _ (other : p ≡ at → ⊥) (o : FirstRecord) (f : o ≡ firstOwned book table links heads (take (length s - at) (drop at s))) where
+    module _ (other : p ≡ at → ⊥) (o : FirstRecord) (f : o ≡ lookedUpAt book table links heads onward (take (length s - at) (drop at s))) where
       abbrev Looked : Type 0
       Looked =
           (steps : ℕ) × (length s ≤ steps + p)
-          × (nearestRecord book table links heads s ≡ orNext o (nearestFrom steps book table links heads s p))
+          × (nearestRecord book table links heads onward s ≡ orNext o (nearestFrom steps book table links heads onward s p))
 
       looked : Looked
       looked = go (k .steps) (k .enough) (k .left)
         where
-          go : (n : ℕ) → length s ≤ n + at → nearestRecord book table links heads s ≡ nearestFrom n book table links heads s at → Looked
+          go : (n : ℕ) → length s ≤ n + at → nearestRecord book table links heads onward s ≡ nearestFrom n book table links heads onward s at → Looked
           go zero l e = absurd (omega (arith, further s at p up other))
           go (suc steps) l e = (
             steps,
@@ -53,11 +53,11 @@ module _ (book table links heads s : List ℕ) where
             e ∙ rw (ne-eqb (parentPlace s at) at (λ e. other (up ∙ e)), up, f, rest-whole s at),
           )
 
-      pub none-owned : o ≡ Nothing → Climbing book table links heads s p
+      pub none-owned : o ≡ Nothing → Climbing book table links heads onward s p
       none-owned g =
           let (steps, enough, from) = looked in
-          record { steps = steps; enough = enough; left = from ∙ ap (λ v. orNext v (nearestFrom steps book table links heads s p)) g }
+          record { steps = steps; enough = enough; left = from ∙ ap (λ v. orNext v (nearestFrom steps book table links heads onward s p)) g }
 
-      pub some-owned : (r : RecordNo) → o ≡ At r → At r ≡ nearestRecord book table links heads s
+      pub some-owned : (r : RecordNo) → o ≡ At r → At r ≡ nearestRecord book table links heads onward s
       some-owned r g =
-          let (steps, enough, from) = looked in sym (from ∙ ap (λ v. orNext v (nearestFrom steps book table links heads s p)) g)
+          let (steps, enough, from) = looked in sym (from ∙ ap (λ v. orNext v (nearestFrom steps book table links heads onward s p)) g)

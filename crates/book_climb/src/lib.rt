@@ -1,4 +1,5 @@
-// The climb of RFC 8659, section 3: from a name upward, it finds the nearest name that owns CAA records, and gives the first of these records.
+// The climb of RFC 8659, section 3: from a name upward, it finds the nearest name whose lookup finds CAA records, and gives the first of these
+// records.
 use book_places::FirstRecord;
 use read_name::Climb;
 ghost use mathlib.Core.Path.{_≡_};
@@ -10,9 +11,10 @@ pub fn nearest_record(
     table: &[u16],
     links: &[u16],
     heads: &[u16],
+    onward: &[u16],
     name: &[u8],
 ) -> FirstRecord
-    ensures { λ r. ⌜ r ≡ nearestRecord (now (book .entry)) (now (table .entry)) (now (links .entry)) (now (heads .entry)) (now (name .entry)) ⌝ }
+    ensures { λ r. ⌜ r ≡ nearestRecord (now (book .entry)) (now (table .entry)) (now (links .entry)) (now (heads .entry)) (now (onward .entry)) (now (name .entry)) ⌝ }
 {
     let mut c = Climb { at: 0 };
     loop {
@@ -23,7 +25,7 @@ pub fn nearest_record(
             return FirstRecord::Nothing;
         }
         let x = &name[at..];
-        if let FirstRecord::At(r) = book_look::first_owned(book, table, links, heads, x) {
+        if let FirstRecord::At(r) = book_onward::look_up(book, table, links, heads, onward, x) {
             return FirstRecord::At(r);
         }
         c = up;

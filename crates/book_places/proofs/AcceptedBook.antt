@@ -1,4 +1,4 @@
--- The records of an accepted book are those whose fields can be read, and the data of those that are CAA records holds a property.
+-- The records of an accepted book are those whose fields can be read, none clashes with another, and their data is well formed.
 use Prim.Native.Nat.{ℕ, zero, suc, _+_}
 use mathlib.Core.Path.{_≡_, refl, sym, ap}
 use mathlib.Core.Bool.{Bool, true, false, cond}
@@ -16,9 +16,10 @@ use Rattle.spec_name.specs.Names.{wire, name, GoodName}
 use Rattle.spec_name.proofs.NameLaws.{name-is-its-labels}
 use Rattle.spec_name.proofs.NameField.{wire-full}
 use Rattle.read_name.proofs.PlaceLaws.{name-to}
-use Rattle.spec_record.specs.Property.{Property, property}
-use Rattle.spec_record.specs.Records.{Record, isCaa, isLaidOut, resourceRecord, recordItems, recordRefusal, records, bookRefusal}
-use Rattle.spec_record.proofs.RecordLaws.{caa-data}
+use Rattle.spec_record.specs.Records.{Record, resourceRecord, recordItems, recordRefusal, records, layoutRefusal, conflictRefusal, bookRefusal, GoodData}
+use Rattle.spec_record.proofs.RecordLaws.{laid-out}
+use Rattle.spec_record.proofs.Book.{or-none, conflict-none}
+use Rattle.spec_record.proofs.FirstOfOwner.{ClashFree}
 use Rattle.read_record.specs.Places.{recordFields}
 use Rattle.read_record.proofs.RecordFields.{fields-read}
 use Rattle.read_record.proofs.FieldsAndData.{fields-and-data}
@@ -46,10 +47,10 @@ nothing-left = go (recordFields []) refl
         absurd (wire-full (x .0 .owner) (append-eq-nil-iff .0 (sym front) .0))
 
 -- where no record is refused, those whose fields can be read are the items
-abbrev Unrefused : ℕ → List ℕ → Type 0
+abbrev pub Unrefused : ℕ → List ℕ → Type 0
 Unrefused room s = recordRefusal (items resourceRecord room s) ≡ none → readable room s ≡ wholeItems (items resourceRecord room s)
 
-unrefused : (room : ℕ) (s : List ℕ) → Unrefused room s
+pub unrefused : (room : ℕ) (s : List ℕ) → Unrefused room s
 unrefused zero [] e = refl
 unrefused zero (x ∷ s) e = absurd (Option·none-ne-some _ (sym e))
 unrefused (suc room) [] e = rw nothing-left
@@ -71,41 +72,47 @@ unrefused (suc room) (x ∷ s) e = go (resourceRecord (x ∷ s)) refl (unrefused
         rw (fields-and-data (x ∷ s) (y .0) (y .1) .0 f .0)
         (more (y .0) (items resourceRecord room (y .1)) (readable room (y .1)) (ih (y .1)) e)
 
+-- an accepted book passes both checks
+pub laid-out-book : (book : List ℕ) → bookRefusal book ≡ none → layoutRefusal book ≡ none
+unfolding bookRefusal
+laid-out-book book h = or-none (layoutRefusal book) (conflictRefusal (records book)) .0 h .0
+
+pub clash-free : (book : List ℕ) → bookRefusal book ≡ none → ClashFree (records book)
+unfolding bookRefusal
+clash-free book h = conflict-none (records book) .0 (or-none (layoutRefusal book) (conflictRefusal (records book)) .0 h .1)
+
 pub accepted-readable : (book : List ℕ) → bookRefusal book ≡ none → readable maxRecords book ≡ records book
-unfolding bookRefusal records recordItems
-accepted-readable book h = unrefused maxRecords book (go (ltb maxBookOctets (length book)) (recordRefusal (recordItems book)) h)
+unfolding layoutRefusal records recordItems
+accepted-readable book h = unrefused maxRecords book (go (ltb maxBookOctets (length book)) (recordRefusal (recordItems book)) (laid-out-book book h))
   where
     go : (t : Bool) (o : Option Refusal) → cond t (some BookTooLong) o ≡ none → o ≡ none
     go true o e = absurd (Option·none-ne-some _ (sym e))
     go false o e = e
 
--- the data of a CAA record holds a property
-abbrev pub HoldsProperty : Record → Type 0
-HoldsProperty r = isCaa (r .type) (r .class) ≡ true → (q : Property) × (property (r .rdata) ≡ some q)
+-- the data of each record is what its type and class ask for
+abbrev pub HoldsData : Record → Type 0
+HoldsData r = GoodData (r .type) (r .class) (r .rdata)
 
-holds-property : (r : Record) → isLaidOut (r .type) (r .class) (r .rdata) ≡ true → HoldsProperty r
-unfolding isLaidOut
-holds-property r good caa = let (q, e, tag) = caa-data (r .rdata) (rw caa at good) in (q, e)
-
-items-hold : (room : ℕ) (s : List ℕ) → All HoldsProperty (wholeItems (items resourceRecord room s))
+items-hold : (room : ℕ) (s : List ℕ) → All HoldsData (wholeItems (items resourceRecord room s))
 items-hold zero [] = all-nil
 items-hold zero (x ∷ s) = all-nil
 items-hold (suc room) [] = all-nil
 items-hold (suc room) (x ∷ s) = go (resourceRecord (x ∷ s)) refl (items-hold room)
   where
     more :
-        (r : Record) (i : Items Record) → HoldsProperty r → All HoldsProperty (wholeItems i) → All HoldsProperty (wholeItems (follow r i))
+        (r : Record) (i : Items Record) → HoldsData r → All HoldsData (wholeItems i) → All HoldsData (wholeItems (follow r i))
     more r (whole xs) h hs = all-cons h hs
     more r (broken k) h hs = all-nil
     more r over h hs = all-nil
 
     go :
-        (o : Option (Record × List ℕ)) → resourceRecord (x ∷ s) ≡ o → ((s : List ℕ) → All HoldsProperty (wholeItems (items resourceRecord room s))) →
-        All HoldsProperty (wholeItems (beforeItems o (items resourceRecord room)))
+        (o : Option (Record × List ℕ)) → resourceRecord (x ∷ s) ≡ o → ((s : List ℕ) → All HoldsData (wholeItems (items resourceRecord room s))) →
+        All HoldsData (wholeItems (beforeItems o (items resourceRecord room)))
     go none e ih = all-nil
     go (some y) e ih =
-        more (y .0) (items resourceRecord room (y .1)) (holds-property (y .0) (fields-and-data (x ∷ s) (y .0) (y .1) .0 e .1)) (ih (y .1))
+        let r = y .0 in
+        more r (items resourceRecord room (y .1)) (laid-out (r .type) (r .class) (r .rdata) .0 (fields-and-data (x ∷ s) r (y .1) .0 e .1)) (ih (y .1))
 
-pub records-hold : (book : List ℕ) → All HoldsProperty (records book)
+pub records-hold : (book : List ℕ) → All HoldsData (records book)
 unfolding records recordItems
 records-hold book = items-hold maxRecords book

@@ -14,20 +14,20 @@ use Rattle.spec_record.specs.declared.PropertyTag.{PropertyTag}
 use Rattle.spec_record.specs.declared.PropertyTag.the-variants.{Issue, IssueWild}
 use Rattle.spec_record.specs.Property.{property}
 use Rattle.spec_applicant.specs.Applicant.{Applicant}
-use Rattle.spec_rule.specs.RelevantSet.{CaaRecord, Lookup, empty, found, relevantSet}
-use Rattle.spec_rule.specs.Authorizations.{Authorization, unrestricted, granted, isUnknownCritical, isIssue, isIssueWild, isGrantee, consSome, orElse, governing, grantees, governedBy as ruleGovernedBy, unlessForbidden, authorizationFrom}
+use Rattle.spec_rule.specs.RelevantSet.{CaaRecord, Lookup, empty, found, endless, relevantSet}
+use Rattle.spec_rule.specs.Authorizations.{Authorization, unrestricted, granted, unresolved, isUnknownCritical, isIssue, isIssueWild, isGrantee, consSome, orElse, governing, grantees, governedBy as ruleGovernedBy, unlessForbidden, authorizationFrom}
 use Rattle.read_grantee.specs.Places.{granteeOfData}
 use Rattle.read_grantee.proofs.Grantees.{grantee-of-data}
 use Rattle.book_places.specs.declared.FirstRecord.{FirstRecord}
 use Rattle.book_places.specs.declared.FirstRecord.the-variants.{At, Nothing}
 use Rattle.book_places.specs.declared.NameAuthorization.{NameAuthorization}
 use Rattle.book_places.specs.declared.NameAuthorization.the-variants.{Unrestricted}
-use Rattle.book_places.specs.Table.{tableOf, dataAt}
+use Rattle.book_places.specs.Table.{tableOf, dataAt, isAliasAt}
 use Rattle.book_places.specs.Chains.{chainsOf}
 use Rattle.book_places.specs.Sets.{setAt, dataHasTag, dataIsUnknownCritical, dataGrants, inSet, firstUnknownCritical, firstTagged, setGrants}
 use Rattle.book_places.specs.NameAuthorizations.{governedBy, byIssue, byTags, unlessCritical, setAuthorization, bySet, nameAuthorization, granteesAt, setGrantees, meaning}
 use Rattle.book_places.specs.Theorems.{recordsIn, numbersOf, firstNumber, Finds, Authorization-by-offset, Set-grants}
-use Rattle.book_places.proofs.LookLaws.{Holds, first-numbers, caas, caas-hold}
+use Rattle.book_places.proofs.LookLaws.{Holds, first-numbers, ruled, caas-hold}
 use Rattle.book_places.proofs.ClimbLaws.{climb-by-offset, relevant-have}
 
 -- the test q says of data what p says of a record that holds it
@@ -64,7 +64,8 @@ module _ (who : Applicant) (book table links : List ℕ) where
   grantees-told (c ∷ cs) (all-cons h hs) = rw (grantee-of-data who (dataAt book table (c .number)) .0 c h, grantees-told cs hs)
 
   -- the set cs that is named by its first record
-  module _ (first : RecordNo) (cs : List CaaRecord) (set : setAt book table links (first .0) ≡ numbersOf cs) (all : All (Holds book table) cs) where
+  module _ (first : RecordNo) (cs : List CaaRecord) (set : setAt book table links (first .0) ≡ numbersOf cs) (all : All (Holds book table) cs)
+      (no-alias : isAliasAt table (first .0) ≡ false) where
     in-set : (q : List ℕ → Bool) (p : CaaRecord → Bool) → Tells q p → inSet q book table links (first .0) ≡ numbersOf (select p cs)
     in-set q p tells = rw set (select-numbers q p tells cs all)
 
@@ -116,7 +117,7 @@ module _ (who : Applicant) (book table links : List ℕ) where
 
     by-set : (wildcard : Bool) → meaning who book table links (bySet book table links wildcard (At first)) ≡ authorizationFrom who wildcard (found cs)
     unfolding setAuthorization
-    by-set wildcard = rw first-critical (unless-critical (select isUnknownCritical cs) _ _ (by-tags wildcard))
+    by-set wildcard = rw (no-alias, first-critical) (unless-critical (select isUnknownCritical cs) _ _ (by-tags wildcard))
 
   nothing-governs : (wildcard : Bool) → unrestricted ≡ authorizationFrom who wildcard (found [])
   unfolding governing
@@ -126,11 +127,19 @@ module _ (who : Applicant) (book table links : List ℕ) where
   found-means :
       (wildcard : Bool) (l : Lookup) (o : FirstRecord) → Finds book table links l o → All (Holds book table) (recordsIn l) →
       meaning who book table links (bySet book table links wildcard o) ≡ authorizationFrom who wildcard l
+  unfolding setAuthorization
   found-means wildcard empty Nothing f all = refl
   found-means wildcard empty (At r) f all = let e = f .first in let z : _≡_ {A = ℕ} 0 1 = cc in absurd (omega arith)
   found-means wildcard (found []) Nothing f all = nothing-governs wildcard
   found-means wildcard (found (c ∷ cs)) Nothing f all = let e = f .first in let z : _≡_ {A = ℕ} 0 1 = cc in absurd (omega arith)
-  found-means wildcard (found cs) (At r) f all = by-set r cs (f .whole r refl) all wildcard
+  found-means wildcard (found cs) (At r) f all = by-set r cs (f .whole r refl refl) all (f .alias r refl) wildcard
+  found-means wildcard (endless q) Nothing f all = let e = f .first in let z : _≡_ {A = ℕ} 0 1 = cc in absurd (omega arith)
+  found-means wildcard (endless q) (At r) f all = unresolved-by r q (f .alias r refl) (f .first)
+    where
+      unresolved-by :
+          (r : RecordNo) (q : ℕ) → isAliasAt table (r .0) ≡ true → At r ≡ At (record { 0 = q }) →
+          meaning who book table links (setAuthorization book table links wildcard r) ≡ unresolved q
+      unresolved-by r q e f = let same : r .0 ≡ q = cc in rw (e, same)
 
   -- whom records grant, one by one and together
   any-grantees :
@@ -147,8 +156,8 @@ module _ (who : Applicant) (book table links : List ℕ) where
 pub authorization-by-offset : Authorization-by-offset
 unfolding nameAuthorization
 authorization-by-offset who book x wildcard accepted good =
-    found-means who book (tableOf book) (chainsOf book .links) wildcard (relevantSet (caas book accepted) x) _ (climb-by-offset book x accepted good)
-    (relevant-have (Holds book (tableOf book)) (caas book accepted) (caas-hold book accepted) x)
+    found-means who book (tableOf book) (chainsOf book .links) wildcard (relevantSet (ruled book accepted) x) _ (climb-by-offset book x accepted good)
+    (relevant-have (Holds book (tableOf book)) (ruled book accepted) (caas-hold book accepted) x)
 
 pub set-grants : Set-grants
 unfolding setGrants setGrantees dataGrants

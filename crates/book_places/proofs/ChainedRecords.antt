@@ -12,10 +12,11 @@ use borrow.Author.Tests.{ltb-true, lt-ltb, le-ltb, eqb-true, eqb-false, eq-eqb}
 use Rattle.spec_limits.specs.Limits.{maxRecords}
 use Rattle.spec_octets.specs.Lists.{consIf, select}
 use Rattle.spec_octets.proofs.ListLaws.{true-or-false}
+use Rattle.book_places.specs.declared.Kind.{Kind}
 use Rattle.book_places.specs.Table.{tabled, roomFor, tableOf, ownerAt}
 use Rattle.book_places.specs.Keys.{keyOf}
 use Rattle.book_places.specs.Chains.{Chains, linked, linkedBelow, noRecord, unlinked, chainsOf, behind, along, chainFrom}
-use Rattle.book_places.specs.Sets.{isOwned, ownedFrom}
+use Rattle.book_places.specs.Sets.{isOwnedOf, ownedOf}
 use Rattle.book_places.specs.Theorems.{numbersFrom, Chains-fit, Chains-skip-nothing}
 use Rattle.book_places.proofs.ChainLaws.{behind-later, chain-step}
 use Rattle.book_places.proofs.KeyLaws.{key-below, same-key}
@@ -158,18 +159,20 @@ module _ (book table : List ℕ) (room : ℕ) (most : room ≤ maxRecords) where
   linked-below n h = let same : n + 0 ≡ n = omega arith in rw same at (all-linked n 0 (unlinked room) h (none-linked n h))
 
   -- what a text owns has its key
-  owned-key : (x : List ℕ) (i : ℕ) → isOwned book table x i ≡ true → hasKey (keyOf x) i ≡ true
-  owned-key x i e = eq-eqb (key i) (keyOf x) (same-key (ownerAt book table i) x (owned-both book table x i e .1))
+  owned-key : (kind : Kind) (x : List ℕ) (i : ℕ) → isOwnedOf kind book table x i ≡ true → hasKey (keyOf x) i ≡ true
+  owned-key kind x i e = eq-eqb (key i) (keyOf x) (same-key (ownerAt book table i) x (owned-both kind book table x i e .1))
 
   module _ (n : ℕ) (c : Chains) (w : Linked 0 n c) where
-    owned-told : (x : List ℕ) → ownedFrom book table (c .links) x (getD (c .heads) (keyOf x) (length (c .links))) ≡ select (isOwned book table x) (numbersFrom 0 n)
-    unfolding ownedFrom
-    owned-told x =
+    owned-told :
+        (kind : Kind) (x : List ℕ) →
+        ownedOf kind book table (c .links) x (getD (c .heads) (keyOf x) (length (c .links))) ≡ select (isOwnedOf kind book table x) (numbersFrom 0 n)
+    unfolding ownedOf
+    owned-told kind x =
         rw (
           inside (c .heads) (keyOf x) (length (c .links)) noRecord (rw (w .heads-long) (key-below x)),
           w .told (keyOf x) (key-below x),
         )
-        (select-within (hasKey (keyOf x)) (isOwned book table x) (owned-key x) (numbersFrom 0 n))
+        (select-within (hasKey (keyOf x)) (isOwnedOf kind book table x) (owned-key kind x) (numbersFrom 0 n))
 
 chains-linked : (book : List ℕ) → Linked book (tableOf book) (roomFor book) (room-enough book .1) 0 (length (tabled book)) (chainsOf book)
 unfolding chainsOf
@@ -179,4 +182,4 @@ pub chains-fit : Chains-fit
 chains-fit book = (chains-linked book .links-long, chains-linked book .heads-long)
 
 pub chains-skip-nothing : Chains-skip-nothing
-chains-skip-nothing book x = owned-told book (tableOf book) (roomFor book) (room-enough book .1) (length (tabled book)) (chainsOf book) (chains-linked book) x
+chains-skip-nothing kind book x = owned-told book (tableOf book) (roomFor book) (room-enough book .1) (length (tabled book)) (chainsOf book) (chains-linked book) kind x

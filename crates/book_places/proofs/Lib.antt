@@ -5,7 +5,9 @@ pub mod StandingRecords
 pub mod TableLaws
 pub mod ChainedRecords
 pub mod SetLaws
+pub mod ConflictLaws
 pub mod OwnedWalk
+pub mod OnwardLaws
 pub mod LookLaws
 pub mod ClimbLaws
 pub mod AuthorizationLaws

@@ -13,7 +13,7 @@ use Rattle.book_places.specs.declared.FirstRecord.{FirstRecord}
 use Rattle.book_places.specs.declared.FirstRecord.the-variants.{At, Nothing}
 use Rattle.book_places.specs.Table.{ownerAt, dataAt}
 use Rattle.book_places.specs.Chains.{behind}
-use Rattle.book_places.specs.Sets.{ownedFrom, firstOf, setAt, inSet}
+use Rattle.book_places.specs.Sets.{ownedOf, ownedFrom, firstOf, setAt, inSet}
 use Rattle.book_places.proofs.ChainLaws.{chain-step}
 use Rattle.book_places.proofs.SetLaws.{first-owned, first-at}
 
@@ -26,7 +26,7 @@ module _ (book table links x : List ℕ) where
   first-of-some :
       (i : ℕ) (r : RecordNo) → firstOf (ownedFrom book table links x i) ≡ At r →
       ownedFrom book table links x i ≡ r .0 ∷ ownedFrom book table links x (behind links (r .0))
-  unfolding ownedFrom
+  unfolding ownedOf
   first-of-some i r e =
       let (fs, all) = first-at (ownedFrom book table links x i) r e in
       let here = first-owned book table links x i (r .0) fs all in

@@ -11,10 +11,12 @@ use Rattle.spec_refusal.specs.declared.RecordNo.{RecordNo}
 use Rattle.spec_octets.specs.Lists.{consIf, select}
 use Rattle.spec_octets.specs.Octets.{equalIgnoringCase}
 use Rattle.spec_octets.proofs.Texts.{same-text}
+use Rattle.book_places.specs.declared.Kind.{Kind}
+use Rattle.book_places.specs.declared.Kind.the-variants.{Caa}
 use Rattle.book_places.specs.declared.FirstRecord.the-variants.{At}
-use Rattle.book_places.specs.Table.{ownerAt, isCaaAt}
+use Rattle.book_places.specs.Table.{ownerAt}
 use Rattle.book_places.specs.Chains.{behind, chainFrom}
-use Rattle.book_places.specs.Sets.{isOwned, ownedFrom, firstOf, setAt}
+use Rattle.book_places.specs.Sets.{isOfKind, isOwnedOf, isOwned, ownedOf, ownedFrom, firstOf, setAt}
 use Rattle.book_places.specs.Theorems.{Set-by-its-first}
 use Rattle.book_places.proofs.ChainLaws.{behind-later, chain-step}
 
@@ -46,9 +48,11 @@ select-alike : {A : Type 0} (p q : A → Bool) → ((x : A) → p x ≡ q x) →
 select-alike p q h [] = refl
 select-alike p q h (x ∷ xs) = rw (h x, select-alike p q h xs)
 
--- what a text owns is a CAA record, and has that owner
-pub owned-both : (book table x : List ℕ) (i : ℕ) → isOwned book table x i ≡ true → (isCaaAt table i ≡ true) × (equalIgnoringCase (ownerAt book table i) x ≡ true)
-owned-both book table x i e = and-eq-true-iff (isCaaAt table i) (equalIgnoringCase (ownerAt book table i) x) .0 e
+-- what a text owns is of the kind, and has that owner
+pub owned-both :
+    (kind : Kind) (book table x : List ℕ) (i : ℕ) → isOwnedOf kind book table x i ≡ true →
+    (isOfKind kind table i ≡ true) × (equalIgnoringCase (ownerAt book table i) x ≡ true)
+owned-both kind book table x i e = and-eq-true-iff (isOfKind kind table i) (equalIgnoringCase (ownerAt book table i) x) .0 e
 
 module _ (book table links : List ℕ) where
   -- the same records have an owner and a text that is the same
@@ -58,16 +62,16 @@ module _ (book table links : List ℕ) where
 
   module _ (x : List ℕ) (i f : ℕ) (fs : List ℕ) (e : ownedFrom book table links x i ≡ f ∷ fs) where
     pub first-owned : FirstAlong (isOwned book table x) links f fs
-    unfolding ownedFrom
+    unfolding ownedOf
     first-owned = first-along (isOwned book table x) links (length links) i f fs (omega arith) e
 
     first-below : f < length links
     first-below = first-owned .below
 
     set-there : setAt book table links f ≡ f ∷ fs
-    unfolding setAt ownedFrom
+    unfolding setAt ownedOf
     set-there =
-        let owner = owned-both book table x f (first-owned .passes) .1 in
+        let owner = owned-both Caa book table x f (first-owned .passes) .1 in
         select-alike (isOwned book table (ownerAt book table f)) (isOwned book table x) (owned-alike x (ownerAt book table f) owner) (chainFrom links f)
         ∙ first-owned .same
 

@@ -11,7 +11,7 @@ use Rattle.spec_limits.specs.Limits.{maxRecords}
 use Rattle.spec_octets.specs.Lists.{All, all-nil, all-cons}
 use Rattle.spec_name.specs.Names.{GoodName}
 use Rattle.spec_record.specs.Records.{Record, wireRecord}
-use Rattle.book_places.specs.Table.{row, rowsFrom, tabled, roomFor, tableOf, cell, ownerAt, dataAt, isCaaAt}
+use Rattle.book_places.specs.Table.{row, rowsFrom, tabled, roomFor, tableOf, cell, ownerAt, dataAt, isCaaAt, isAliasAt}
 use Rattle.book_places.specs.Theorems.{RowTells, Table-tells, Table-fits}
 use Rattle.book_places.proofs.StandingRecords.{Standing, StandFrom, tabled-stand, few-tabled, room-enough}
 
@@ -28,11 +28,12 @@ module _ (book table : List ℕ) where
     cells column = rw (lt-ltb k maxRecords h, e, ← l) (getD-append-add front (rowsFrom at (r ∷ rs) ++ back) column 0)
 
     row-tells : Standing book at r → RowTells book table k r
-    unfolding ownerAt dataAt isCaaAt
+    unfolding ownerAt dataAt isCaaAt isAliasAt
     row-tells s = record {
       owner = rw (cells 0, cells 3) (s .owner);
       rdata = rw (cells 2, cells 4) (s .rdata);
       caa = rw (cells 1, cells 5);
+      alias = rw (cells 1, cells 5);
     }
 
   tells-from :
@@ -77,7 +78,7 @@ rows-tell book =
 pub table-tells : Table-tells
 table-tells book i r e = let there : 0 + i ≡ i = omega arith in rw there at (row-of book (tableOf book) (tabled book) 0 i r (rows-tell book) e)
 
-rows-long : (at : ℕ) (rs : List Record) → length (rowsFrom at rs) ≡ 6 * length rs
+pub rows-long : (at : ℕ) (rs : List Record) → length (rowsFrom at rs) ≡ 6 * length rs
 rows-long at [] = omega arith
 rows-long at (r ∷ rs) = omega (arith, rows-long (at + length (wireRecord r)) rs)
 

@@ -3,5 +3,7 @@ pub mod Table
 pub mod Keys
 pub mod Chains
 pub mod Sets
+pub mod Onward
+pub mod Conflicts
 pub mod NameAuthorizations
 pub mod Theorems

@@ -9,13 +9,13 @@ use Rattle.spec_refusal.specs.declared.RecordNo.{RecordNo}
 use Rattle.spec_record.specs.declared.PropertyTag.{PropertyTag}
 use Rattle.spec_record.specs.declared.PropertyTag.the-variants.{Issue, IssueWild}
 use Rattle.spec_applicant.specs.Applicant.{Applicant}
-use Rattle.spec_rule.specs.Authorizations.{Authorization, unrestricted, forbidden, granted, consSome}
+use Rattle.spec_rule.specs.Authorizations.{Authorization, unrestricted, forbidden, granted, unresolved, consSome}
 use Rattle.read_grantee.specs.Places.{granteeOfData}
 use Rattle.book_places.specs.declared.FirstRecord.{FirstRecord}
 use Rattle.book_places.specs.declared.FirstRecord.the-variants.{At, Nothing}
 use Rattle.book_places.specs.declared.NameAuthorization.{NameAuthorization}
-use Rattle.book_places.specs.declared.NameAuthorization.the-variants.{Unrestricted, Forbidden, Governed}
-use Rattle.book_places.specs.Table.{dataAt}
+use Rattle.book_places.specs.declared.NameAuthorization.the-variants.{Unrestricted, Forbidden, Governed, Unresolved}
+use Rattle.book_places.specs.Table.{dataAt, isAliasAt}
 use Rattle.book_places.specs.Sets.{nearestRecord, dataHasTag, inSet, firstUnknownCritical, firstTagged}
 
 -- A question: what does this relevant set say about X, or about *.X? A set is named by the number of its first record. The number of a question
@@ -43,9 +43,10 @@ module _ (book table links : List ℕ) where
   unlessCritical Nothing otherwise = otherwise
   unlessCritical (At r) otherwise = Forbidden r
 
-  -- What a relevant set says about X (`wildcard` is false), or about *.X.
+  -- What a relevant set says about X (`wildcard` is false), or about *.X. An alias stands for aliases that can't be followed to their end.
   unfoldable pub setAuthorization : Bool → RecordNo → NameAuthorization
-  setAuthorization wildcard set = unlessCritical (firstUnknownCritical book table links (set .0)) (byTags wildcard set)
+  setAuthorization wildcard set =
+      cond (isAliasAt table (set .0)) (Unresolved set) (unlessCritical (firstUnknownCritical book table links (set .0)) (byTags wildcard set))
 
   -- The same where there may be no relevant set: then the name is unrestricted.
   abbrev pub bySet : Bool → FirstRecord → NameAuthorization
@@ -57,8 +58,8 @@ module _ (book table links : List ℕ) where
   answerTo question = setAuthorization (eqb (question % 2) 1) (record { 0 = question / 2 })
 
   -- What CAA says about the name x, which is in wire form, or about *.x.
-  unfoldable pub nameAuthorization : List ℕ → List ℕ → Bool → NameAuthorization
-  nameAuthorization heads x wildcard = bySet wildcard (nearestRecord book table links heads x)
+  unfoldable pub nameAuthorization : List ℕ → List ℕ → List ℕ → Bool → NameAuthorization
+  nameAuthorization heads onward x wildcard = bySet wildcard (nearestRecord book table links heads onward x)
 
 module _ (who : Applicant) (book table links : List ℕ) where
   -- The issuers that a list of records grants to the applicant, in the order of the records.
@@ -75,3 +76,4 @@ module _ (who : Applicant) (book table links : List ℕ) where
   meaning Unrestricted = unrestricted
   meaning (Forbidden r) = forbidden (r .0)
   meaning (Governed g) = granted (g .first .0) (setGrantees (g .tag) (g .set .0))
+  meaning (Unresolved r) = unresolved (r .0)

@@ -1,11 +1,12 @@
--- The CAA records of one owner in a chain; the nearest name, from a name up, that owns CAA records; and tests on such a set. The owner of a
+-- The records of one owner in a chain; where aliases lead; the nearest name, from a name up, where CAA records are found; and tests on such a set. The owner of a
 -- record is the name that the record belongs to (RFC 1035, section 3.2.1).
 use Prim.Native.Nat.{ℕ, zero, suc}
-use mathlib.Core.Bool.{Bool, true, false, cond, _&&_}
+use mathlib.Core.Bool.{Bool, true, false, cond, _&&_, _||_}
 use mathlib.Core.List.{List, [], _∷_}
 use mathlib.Core.Option.{Option, none, some}
-use lib.Dec.{eqb}
+use lib.Dec.{eqb, ltb}
 use lib.ListN.{length, drop, getD}
+use Rattle.spec_limits.specs.Limits.{maxAliases}
 use Rattle.spec_refusal.specs.declared.RecordNo.{RecordNo}
 use Rattle.spec_octets.specs.Lists.{any, select}
 use Rattle.spec_octets.specs.Octets.{lowered, equalIgnoringCase}
@@ -16,44 +17,83 @@ use Rattle.spec_record.specs.Property.{Property, property, tagOf, isCritical}
 use Rattle.spec_applicant.specs.Applicant.{Applicant}
 use Rattle.spec_rule.specs.Authorizations.{isIssueTag, isIssueWildTag, isUnknownTag, isGrantee}
 use Rattle.read_grantee.specs.Places.{granteeOfData}
+use Rattle.book_places.specs.declared.Kind.{Kind}
+use Rattle.book_places.specs.declared.Kind.the-variants.{Caa, CaaOrAlias}
 use Rattle.book_places.specs.declared.FirstRecord.{FirstRecord}
 use Rattle.book_places.specs.declared.FirstRecord.the-variants.{At, Nothing}
-use Rattle.book_places.specs.Table.{ownerAt, dataAt, isCaaAt}
+use Rattle.book_places.specs.Table.{ownerAt, dataAt, isCaaAt, isAliasAt}
 use Rattle.book_places.specs.Keys.{keyOf}
 use Rattle.book_places.specs.Chains.{Chains, chainFrom}
 
--- Record i is a CAA record with the owner x, in wire form.
-abbrev pub isOwned : List ℕ → List ℕ → List ℕ → ℕ → Bool
-isOwned book table x i = isCaaAt table i && equalIgnoringCase (ownerAt book table i) x
+abbrev pub isOfKind : Kind → List ℕ → ℕ → Bool
+isOfKind Caa table i = isCaaAt table i
+isOfKind CaaOrAlias table i = isCaaAt table i || isAliasAt table i
 
--- The CAA records with the owner x in a chain, from record i on.
-unfoldable pub ownedFrom : List ℕ → List ℕ → List ℕ → List ℕ → ℕ → List ℕ
-ownedFrom book table links x i = select (isOwned book table x) (chainFrom links i)
+-- Record i is of this kind and has the owner x, in wire form.
+abbrev pub isOwnedOf : Kind → List ℕ → List ℕ → List ℕ → ℕ → Bool
+isOwnedOf kind book table x i = isOfKind kind table i && equalIgnoringCase (ownerAt book table i) x
+
+-- The records of this kind with the owner x in a chain, from record i on.
+unfoldable pub ownedOf : Kind → List ℕ → List ℕ → List ℕ → List ℕ → ℕ → List ℕ
+ownedOf kind book table links x i = select (isOwnedOf kind book table x) (chainFrom links i)
+
+-- The same for CAA records.
+abbrev pub isOwned : List ℕ → List ℕ → List ℕ → ℕ → Bool
+isOwned book table x i = isOwnedOf Caa book table x i
+
+abbrev pub ownedFrom : List ℕ → List ℕ → List ℕ → List ℕ → ℕ → List ℕ
+ownedFrom book table links x i = ownedOf Caa book table links x i
 
 -- The first record of a list.
 abbrev pub firstOf : List ℕ → FirstRecord
 firstOf [] = Nothing
 firstOf (i ∷ is) = At (record { 0 = i })
 
--- A lookup of the name x: the first of its CAA records, if there is one. It walks the chain of the key of x.
-unfoldable pub firstOwned : List ℕ → List ℕ → List ℕ → List ℕ → List ℕ → FirstRecord
-firstOwned book table links heads x = firstOf (ownedFrom book table links x (getD heads (keyOf x) (length links)))
+-- The first record of this kind with the owner x, if there is one. It stands in the chain of the key of x.
+unfoldable pub firstOwned : Kind → List ℕ → List ℕ → List ℕ → List ℕ → List ℕ → FirstRecord
+firstOwned kind book table links heads x = firstOf (ownedOf kind book table links x (getD heads (keyOf x) (length links)))
+
+-- What comes after a record that was found.
+abbrev pub andThen : FirstRecord → (RecordNo → FirstRecord) → FirstRecord
+andThen Nothing next = Nothing
+andThen (At r) next = next r
+
+-- A column with a number for each record. For an alias it is the number of the first CAA record or alias whose owner is the alias's target.
+-- A number that is not an index of `links` means that there is none.
+abbrev pub onwardAt : List ℕ → List ℕ → ℕ → FirstRecord
+onwardAt links onward i =
+    let k = getD onward i (length links) in
+    cond (ltb k (length links)) (At (record { 0 = k })) Nothing
+
+-- From record r on, at most n aliases are followed. The answer is the first CAA record of the name at the end; or `first`, an alias, where one
+-- more would have to be followed.
+abbrev pub resolved : ℕ → List ℕ → List ℕ → List ℕ → RecordNo → RecordNo → FirstRecord
+resolved zero table links onward first r = cond (isAliasAt table (r .0)) (At first) (At r)
+resolved (suc n) table links onward first r =
+    cond (isAliasAt table (r .0)) (andThen (onwardAt links onward (r .0)) (resolved n table links onward first)) (At r)
+
+unfoldable pub resolvedFrom : List ℕ → List ℕ → List ℕ → RecordNo → FirstRecord
+resolvedFrom table links onward r = resolved maxAliases table links onward r r
+
+-- A lookup of the name x, with its aliases followed.
+unfoldable pub lookedUpAt : List ℕ → List ℕ → List ℕ → List ℕ → List ℕ → List ℕ → FirstRecord
+lookedUpAt book table links heads onward x = andThen (firstOwned CaaOrAlias book table links heads x) (resolvedFrom table links onward)
 
 -- The climb of RFC 8659, section 3. It looks up the name that begins at an offset of s, then its parent, and so on, and stops at the first name
--- that owns CAA records. The root is not looked up. At the root `parentPlace` gives the offset itself, which ends the climb.
+-- whose lookup finds a record. The root is not looked up. At the root `parentPlace` gives the offset itself, which ends the climb.
 abbrev pub orNext : FirstRecord → FirstRecord → FirstRecord
 orNext Nothing next = next
 orNext (At r) next = At r
 
-abbrev pub nearestFrom : ℕ → List ℕ → List ℕ → List ℕ → List ℕ → List ℕ → ℕ → FirstRecord
-nearestFrom zero book table links heads s at = Nothing
-nearestFrom (suc steps) book table links heads s at =
+abbrev pub nearestFrom : ℕ → List ℕ → List ℕ → List ℕ → List ℕ → List ℕ → List ℕ → ℕ → FirstRecord
+nearestFrom zero book table links heads onward s at = Nothing
+nearestFrom (suc steps) book table links heads onward s at =
     cond (eqb (parentPlace s at) at) Nothing
-    (orNext (firstOwned book table links heads (drop at s)) (nearestFrom steps book table links heads s (parentPlace s at)))
+    (orNext (lookedUpAt book table links heads onward (drop at s)) (nearestFrom steps book table links heads onward s (parentPlace s at)))
 
--- The climb from the whole name s: the first record of its relevant set, if there is one.
-unfoldable pub nearestRecord : List ℕ → List ℕ → List ℕ → List ℕ → List ℕ → FirstRecord
-nearestRecord book table links heads s = nearestFrom (length s) book table links heads s 0
+-- The climb from the whole name s: the first record of its relevant set, if there is one; or an alias.
+unfoldable pub nearestRecord : List ℕ → List ℕ → List ℕ → List ℕ → List ℕ → List ℕ → FirstRecord
+nearestRecord book table links heads onward s = nearestFrom (length s) book table links heads onward s 0
 
 -- The set that is named by its first record: all CAA records with the same owner, from there on along the chain.
 unfoldable pub setAt : List ℕ → List ℕ → List ℕ → ℕ → List ℕ

@@ -6,7 +6,7 @@ use lib.Dec.{leb, ltb}
 use lib.ListN.{length, take, drop, getD, replicate}
 use Rattle.spec_limits.specs.Limits.{maxBookOctets, maxRecords}
 use Rattle.spec_name.specs.Names.{wire}
-use Rattle.spec_record.specs.Records.{Record, wireRecord, isCaa}
+use Rattle.spec_record.specs.Records.{Record, wireRecord, isCaa, isAlias}
 use Rattle.book_places.specs.Readable.{readable}
 
 -- The row of the record r that begins at offset `at`: owner offset, type, data offset, owner length, data length, class. The owner is in wire
@@ -47,7 +47,7 @@ cell table i column = cond (ltb i maxRecords) (getD table (6 * i + column) 0) 0
 abbrev pub octetsAt : List ℕ → ℕ → ℕ → List ℕ
 octetsAt s at n = take n (drop at s)
 
--- What a row says about record i: its owner in wire form, its data, and whether it is a CAA record.
+-- What a row says about record i: its owner in wire form, its data, whether it is a CAA record, and whether it is an alias.
 unfoldable pub ownerAt : List ℕ → List ℕ → ℕ → List ℕ
 ownerAt book table i = octetsAt book (cell table i 0) (cell table i 3)
 
@@ -56,3 +56,6 @@ dataAt book table i = octetsAt book (cell table i 2) (cell table i 4)
 
 unfoldable pub isCaaAt : List ℕ → ℕ → Bool
 isCaaAt table i = isCaa (cell table i 1) (cell table i 5)
+
+unfoldable pub isAliasAt : List ℕ → ℕ → Bool
+isAliasAt table i = isAlias (cell table i 1) (cell table i 5)

@@ -14,29 +14,32 @@ use Rattle.spec_name.specs.Names.{Name, wire, GoodName}
 use Rattle.spec_record.specs.declared.PropertyTag.{PropertyTag}
 use Rattle.spec_record.specs.declared.PropertyTag.the-variants.{Issue, IssueWild, Unknown}
 use Rattle.spec_record.specs.Property.{Property, property, tagOf, isCritical}
-use Rattle.spec_record.specs.Records.{Record, isCaa, records, bookRefusal}
+use Rattle.spec_record.specs.Records.{Record, isCaa, isAlias, records, bookRefusal}
 use Rattle.spec_applicant.specs.Applicant.{Applicant}
-use Rattle.spec_rule.specs.RelevantSet.{CaaRecord, caaRecords, Lookup, empty, found, lookup, relevantSet}
+use Rattle.spec_rule.specs.RelevantSet.{CaaRecord, asBook, Lookup, empty, found, endless, lookup, relevantSet}
 use Rattle.spec_rule.specs.Authorizations.{authorizationFrom}
-use Rattle.book_places.specs.Table.{tabled, roomFor, tableOf, ownerAt, dataAt, isCaaAt}
+use Rattle.book_places.specs.Table.{tabled, roomFor, tableOf, ownerAt, dataAt, isCaaAt, isAliasAt}
 use Rattle.book_places.specs.Keys.{keyOf}
 use Rattle.book_places.specs.Chains.{chainsOf}
-use Rattle.book_places.specs.Sets.{isOwned, ownedFrom, firstOf, firstOwned, nearestRecord, setAt, dataHasTag, dataIsUnknownCritical, dataGrants, setGrants}
+use Rattle.book_places.specs.Sets.{isOwnedOf, ownedOf, ownedFrom, firstOf, lookedUpAt, nearestRecord, setAt, dataHasTag, dataIsUnknownCritical, dataGrants, setGrants}
+use Rattle.book_places.specs.Onward.{onwardOf}
+use Rattle.book_places.specs.declared.Kind.{Kind}
 use Rattle.book_places.specs.NameAuthorizations.{questionNumber, setAuthorization, nameAuthorization, answerTo, setGrantees, meaning}
 use Rattle.book_places.specs.declared.FirstRecord.{FirstRecord}
 use Rattle.book_places.specs.declared.FirstRecord.the-variants.{At, Nothing}
 use Rattle.book_places.specs.declared.Governing.{Governing}
-use Rattle.book_places.specs.declared.NameAuthorization.the-variants.{Forbidden, Governed}
+use Rattle.book_places.specs.declared.NameAuthorization.the-variants.{Forbidden, Governed, Unresolved}
 
 -- Two names that are equal, letter case ignored, have the same key; and every key is an index of `heads`.
 abbrev pub Same-text-same-key : Type 0
 Same-text-same-key = ((a b : List ℕ) → equalIgnoringCase a b ≡ true → keyOf a ≡ keyOf b) × ((x : List ℕ) → keyOf x < maxRecords)
 
--- Row i of a table describes the record r: its owner in wire form, its data, and whether it is a CAA record.
+-- Row i of a table describes the record r: its owner in wire form, its data, and whether it is a CAA record or an alias.
 pub record RowTells (book table : List ℕ) (i : ℕ) (r : Record) : Type 0 where
   pub owner : ownerAt book table i ≡ wire (r .owner)
   pub rdata : dataAt book table i ≡ r .rdata
   pub caa : isCaaAt table i ≡ isCaa (r .type) (r .class)
+  pub alias : isAliasAt table i ≡ isAlias (r .type) (r .class)
 
 -- Row i of a book's table describes record i. This holds for any octets, accepted or not.
 abbrev pub Table-tells : Type 0
@@ -59,12 +62,12 @@ abbrev pub numbersFrom : ℕ → ℕ → List ℕ
 numbersFrom k zero = []
 numbersFrom k (suc n) = k ∷ numbersFrom (suc k) n
 
--- The chain of the key of x has all CAA records with the owner x, each once and in the book's order.
+-- The chain of the key of x has all records of a kind with the owner x, each once and in the book's order.
 abbrev pub Chains-skip-nothing : Type 0
 Chains-skip-nothing =
-    (book x : List ℕ) →
-    ownedFrom book (tableOf book) (chainsOf book .links) x (getD (chainsOf book .heads) (keyOf x) (length (chainsOf book .links)))
-    ≡ select (isOwned book (tableOf book) x) (numbersFrom 0 (length (tabled book)))
+    (kind : Kind) (book x : List ℕ) →
+    ownedOf kind book (tableOf book) (chainsOf book .links) x (getD (chainsOf book .heads) (keyOf x) (length (chainsOf book .links)))
+    ≡ select (isOwnedOf kind book (tableOf book) x) (numbersFrom 0 (length (tabled book)))
 
 -- Naming a set by its first record loses nothing: from there the chain leads to all other records of the set. This holds for any table and links.
 abbrev pub Set-by-its-first : Type 0
@@ -76,6 +79,7 @@ Set-by-its-first =
 abbrev pub recordsIn : Lookup → List CaaRecord
 recordsIn empty = []
 recordsIn (found cs) = cs
+recordsIn (endless r) = []
 
 abbrev pub numbersOf : List CaaRecord → List ℕ
 numbersOf cs = map (λ c. c .number) cs
@@ -84,24 +88,37 @@ abbrev pub firstNumber : List CaaRecord → FirstRecord
 firstNumber [] = Nothing
 firstNumber (c ∷ cs) = At (record { 0 = c .number })
 
--- The answer o, found by offset, is what the rule finds: o is the rule's first record, and the set named by it has exactly the rule's records.
+-- The record that the rule reports: the first CAA record, or the first alias where following them does not end.
+abbrev pub firstIn : Lookup → FirstRecord
+firstIn empty = Nothing
+firstIn (found cs) = firstNumber cs
+firstIn (endless r) = At (record { 0 = r })
+
+abbrev pub isEndless : Lookup → Bool
+isEndless empty = false
+isEndless (found cs) = false
+isEndless (endless r) = true
+
+-- The answer o, found by offset, is what the rule finds: o is the rule's first record; it is an alias exactly when the rule reports an alias; otherwise
+-- the set named by it has exactly the rule's records.
 pub record Finds (book table links : List ℕ) (l : Lookup) (o : FirstRecord) : Type 0 where
-  pub first : o ≡ firstNumber (recordsIn l)
-  pub whole : (r : RecordNo) → o ≡ At r → setAt book table links (r .0) ≡ numbersOf (recordsIn l)
+  pub first : o ≡ firstIn l
+  pub alias : (r : RecordNo) → o ≡ At r → isAliasAt table (r .0) ≡ isEndless l
+  pub whole : (r : RecordNo) → o ≡ At r → isEndless l ≡ false → setAt book table links (r .0) ≡ numbersOf (recordsIn l)
 
 -- For an accepted book, a lookup by table and chains finds what the rule's lookup of that name finds.
 abbrev pub Look-by-offset : Type 0
 Look-by-offset =
     (book : List ℕ) (x : Name) → bookRefusal book ≡ none → GoodName x →
-    Finds book (tableOf book) (chainsOf book .links) (lookup (caaRecords (records book)) x)
-    (firstOwned book (tableOf book) (chainsOf book .links) (chainsOf book .heads) (wire x))
+    Finds book (tableOf book) (chainsOf book .links) (lookup (asBook (records book)) x)
+    (lookedUpAt book (tableOf book) (chainsOf book .links) (chainsOf book .heads) (onwardOf book) (wire x))
 
 -- For an accepted book, the climb by table and chains finds the relevant set of the name.
 abbrev pub Climb-by-offset : Type 0
 Climb-by-offset =
     (book : List ℕ) (x : Name) → bookRefusal book ≡ none → GoodName x →
-    Finds book (tableOf book) (chainsOf book .links) (relevantSet (caaRecords (records book)) x)
-    (nearestRecord book (tableOf book) (chainsOf book .links) (chainsOf book .heads) (wire x))
+    Finds book (tableOf book) (chainsOf book .links) (relevantSet (asBook (records book)) x)
+    (nearestRecord book (tableOf book) (chainsOf book .links) (chainsOf book .heads) (onwardOf book) (wire x))
 
 -- The tests on CAA data hold exactly when the property that is read from the data is so. Malformed data passes none of them.
 abbrev pub Tests-of-data : Type 0
@@ -119,8 +136,8 @@ abbrev pub Authorization-by-offset : Type 0
 Authorization-by-offset =
     (who : Applicant) (book : List ℕ) (x : Name) (wildcard : Bool) → bookRefusal book ≡ none → GoodName x →
     meaning who book (tableOf book) (chainsOf book .links)
-    (nameAuthorization book (tableOf book) (chainsOf book .links) (chainsOf book .heads) (wire x) wildcard)
-    ≡ authorizationFrom who wildcard (relevantSet (caaRecords (records book)) x)
+    (nameAuthorization book (tableOf book) (chainsOf book .links) (chainsOf book .heads) (onwardOf book) (wire x) wildcard)
+    ≡ authorizationFrom who wildcard (relevantSet (asBook (records book)) x)
 
 -- The number of a question says which set is asked, and whether for X or for *.X. This holds for any table and links.
 abbrev pub Question-by-number : Type 0
@@ -131,10 +148,11 @@ Question-by-number =
 -- The record numbers in an answer are indices of `links`, and only issue or issuewild records govern. This holds for any table, chains and name.
 abbrev pub Authorization-bounds : Type 0
 Authorization-bounds =
-    (book table links heads x : List ℕ) (wildcard : Bool) →
-    ((g : Governing) → nameAuthorization book table links heads x wildcard ≡ Governed g →
+    (book table links heads onward x : List ℕ) (wildcard : Bool) →
+    ((g : Governing) → nameAuthorization book table links heads onward x wildcard ≡ Governed g →
     (g .set .0 < length links) × (g .first .0 < length links) × ((g .tag ≡ Issue) ⊎ (g .tag ≡ IssueWild)))
-    × ((r : RecordNo) → nameAuthorization book table links heads x wildcard ≡ Forbidden r → r .0 < length links)
+    × ((r : RecordNo) → nameAuthorization book table links heads onward x wildcard ≡ Forbidden r → r .0 < length links)
+    × ((r : RecordNo) → nameAuthorization book table links heads onward x wildcard ≡ Unresolved r → r .0 < length links)
 
 -- A set grants an issuer exactly when the issuer is one of the set's grantees, letter case ignored. This holds for any table and links.
 abbrev pub Set-grants : Type 0

@@ -21,6 +21,12 @@ pub const SHORT_TABLE: usize = 6 * FEW_RECORDS;
 // The number that ends a chain. No record has it. Both its octets are the same, so an array of it is cleared as fast as one of zeros.
 pub const END: u16 = 65535;
 
+// Which records a walk along a chain looks for.
+pub enum Kind {
+    Caa,
+    CaaOrAlias,
+}
+
 // The first record that a search found, if there is one.
 pub enum FirstRecord {
     At(RecordNo),
@@ -41,4 +47,6 @@ pub enum NameAuthorization {
     // The first critical record with an unknown tag.
     Forbidden(RecordNo),
     Governed(Governing),
+    // The first alias, where there are too many to follow.
+    Unresolved(RecordNo),
 }

@@ -8,8 +8,8 @@ use lib.ListN.{length, take, drop, getD, length-drop, drop-of-length-le, List·g
 use lib.Seq.{take-all, take-nil}
 use borrow.Author.Tests.{lt-ltb, le-ltb}
 use Rattle.spec_limits.specs.Limits.{maxRecords}
-use Rattle.spec_record.specs.Records.{isCaa}
-use Rattle.book_places.specs.Table.{cell, octetsAt, ownerAt, dataAt, isCaaAt}
+use Rattle.spec_record.specs.Records.{isCaa, isAlias}
+use Rattle.book_places.specs.Table.{cell, octetsAt, ownerAt, dataAt, isCaaAt, isAliasAt}
 
 module _ (table : List ℕ) (i column : ℕ) where
   pub no-record : maxRecords ≤ i → 0 ≡ cell table i column
@@ -49,3 +49,7 @@ module _ (table : List ℕ) (i x y : ℕ) where
   pub caa-by-cells : (r : Bool) → r ≡ isCaa x y → x ≡ cell table i 1 → y ≡ cell table i 5 → r ≡ isCaaAt table i
   unfolding isCaaAt
   caa-by-cells r is e f = rw (← e, ← f) is
+
+  pub alias-by-cells : (r : Bool) → r ≡ isAlias x y → x ≡ cell table i 1 → y ≡ cell table i 5 → r ≡ isAliasAt table i
+  unfolding isAliasAt
+  alias-by-cells r is e f = rw (← e, ← f) is

@@ -1,9 +1,9 @@
-// What the table of a book says about a record: its owner, its data, and whether it is a CAA record. Every function accepts any numbers:
+// What the table of a book says about a record: its owner, its data, and whether it is a CAA record or an alias. Every function accepts any numbers:
 // reading past the end of the table gives 0, and past the end of the book there are no octets.
 use spec_limits::MAX_RECORDS;
 ghost use mathlib.Core.Path.{_≡_};
 ghost use Prim.Native.Nat.{_<_};
-ghost use Rattle.book_places.specs.Table.{cell, octetsAt, ownerAt, dataAt, isCaaAt};
+ghost use Rattle.book_places.specs.Table.{cell, octetsAt, ownerAt, dataAt, isCaaAt, isAliasAt};
 
 // The number in one column of the row of record i.
 fn cell(table: &[u16], i: usize, column: usize) -> usize
@@ -61,4 +61,11 @@ pub fn is_caa_at(table: &[u16], i: usize) -> bool
     ensures { λ r. ⌜ r ≡ isCaaAt (now (table .entry)) i ⌝ }
 {
     read_record::is_caa(cell(table, i, 1), cell(table, i, 5))
+}
+
+// Whether record i is an alias.
+pub fn is_alias_at(table: &[u16], i: usize) -> bool
+    ensures { λ r. ⌜ r ≡ isAliasAt (now (table .entry)) i ⌝ }
+{
+    read_record::is_alias(cell(table, i, 1), cell(table, i, 5))
 }

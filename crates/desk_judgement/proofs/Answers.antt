@@ -11,7 +11,7 @@ use Rattle.spec_refusal.specs.declared.Refusal.{Refusal}
 use Rattle.spec_refusal.specs.Refusal.{number, place}
 use Rattle.spec_rule.specs.declared.Denial.{Denial}
 use Rattle.spec_rule.specs.declared.Judgement.{Judgement}
-use Rattle.spec_rule.specs.declared.Judgement.the-variants.{Permitted, UnknownCritical, NotGranted, Refused}
+use Rattle.spec_rule.specs.declared.Judgement.the-variants.{Permitted, UnknownCritical, NotGranted, TooManyAliases, Refused}
 use Rattle.spec_desk.specs.Lines.{lineEnd, numbered, denialText, answerText, judgementLine}
 
 module _ (d x : List ℕ) (n : ℕ) where
@@ -32,6 +32,12 @@ module _ (d x : List ℕ) (n : ℕ) where
       j ≡ NotGranted e → Put (judgementLine j) d x n
   unfolding answerText
   not-granted-put j e p is = rw is p
+
+  pub too-many-put :
+      (j : Judgement) (e : Denial) → Put (denialText (text "verdict 22 name ") e ++ (lineEnd ∷ [])) d x n →
+      j ≡ TooManyAliases e → Put (judgementLine j) d x n
+  unfolding answerText
+  too-many-put j e p is = rw is p
 
   pub refused-put :
       (j : Judgement) (r : Refusal) (k at : ℕ) → Put (numbered (text "refused ") k (text " at ") at ++ (lineEnd ∷ [])) d x n → k ≡ number r → at ≡ place r →

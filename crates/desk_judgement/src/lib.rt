@@ -48,6 +48,7 @@ pub fn put_judgement(j: Judgement, out: &mut [u8; LINE_OCTETS]) -> usize
         Judgement::Permitted => text_buffer::put_octets(b"verdict 0\n", out),
         Judgement::UnknownCritical(d) => put_denial(b"verdict 20 name ", d, out),
         Judgement::NotGranted(d) => put_denial(b"verdict 21 name ", d, out),
+        Judgement::TooManyAliases(d) => put_denial(b"verdict 22 name ", d, out),
         Judgement::Refused(r) => {
             let number = spec_refusal::number_of(r);
             let place = spec_refusal::place_of(r) as u64;

@@ -13,11 +13,11 @@ use Rattle.spec_limits.specs.Limits.{maxRecords}
 use Rattle.spec_octets.proofs.ListLaws.{true-or-false}
 use Rattle.spec_refusal.specs.declared.RecordNo.{RecordNo}
 use Rattle.spec_applicant.specs.Applicant.{Applicant}
-use Rattle.spec_rule.specs.declared.Judgement.the-variants.{Permitted, UnknownCritical, NotGranted}
+use Rattle.spec_rule.specs.declared.Judgement.the-variants.{Permitted, UnknownCritical, NotGranted, TooManyAliases}
 use Rattle.spec_rule.specs.Authorizations.{permits}
 use Rattle.book_places.specs.declared.Governing.{Governing}
 use Rattle.book_places.specs.declared.NameAuthorization.{NameAuthorization}
-use Rattle.book_places.specs.declared.NameAuthorization.the-variants.{Unrestricted, Forbidden, Governed}
+use Rattle.book_places.specs.declared.NameAuthorization.the-variants.{Unrestricted, Forbidden, Governed, Unresolved}
 use Rattle.book_places.specs.Table.{roomFor}
 use Rattle.book_places.specs.Sets.{setGrants}
 use Rattle.book_places.specs.NameAuthorizations.{questionNumber, setAuthorization, answerTo, meaning}
@@ -37,6 +37,11 @@ module _ (who : Applicant) (issuer book table links : List ℕ) where
         (rr : RecordNo) → a ≡ Forbidden rr → UnknownCritical (record { name = record { 0 = k }; rr = rr }) ≡ verdictBySet who issuer book table links k set wildcard
     unfolding verdictBySet
     by-critical rr e = rw (← d, e)
+
+    pub by-alias :
+        (rr : RecordNo) → a ≡ Unresolved rr → TooManyAliases (record { name = record { 0 = k }; rr = rr }) ≡ verdictBySet who issuer book table links k set wildcard
+    unfolding verdictBySet
+    by-alias rr e = rw (← d, e)
 
     module _ (g : Governing) (e : a ≡ Governed g) (b : Bool) (q : b ≡ setGrants who (g .tag) issuer book table links (g .set .0)) where
       pub by-grant : b ≡ true → Permitted ≡ verdictBySet who issuer book table links k set wildcard

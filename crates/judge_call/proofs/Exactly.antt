@@ -8,7 +8,7 @@ use Rattle.spec_octets.specs.Octets.{Octets}
 use Rattle.spec_request.specs.Request.{requestedNames}
 use Rattle.spec_record.specs.Records.{records}
 use Rattle.spec_applicant.specs.Applicant.{Applicant}
-use Rattle.spec_rule.specs.RelevantSet.{caaRecords}
+use Rattle.spec_rule.specs.RelevantSet.{asBook}
 use Rattle.spec_rule.specs.Verdicts.{verdict}
 use Rattle.spec_rule.specs.Calls.{authorizations, firstRefusal, judgeChecks, refusedOr, judge}
 use Rattle.spec_rule.specs.Theorems.{Verdict-on, JudgeRow}
@@ -25,9 +25,9 @@ module _ (request issuer : List ℕ) (who : Applicant) (book : List ℕ) where
 
   accepted : Octets request → Octets book → ((r : Refusal) → JudgeRow request issuer who book r → ⊥) → (c : Option Refusal) →
       firstRefusal (judgeChecks request issuer who book) ≡ c →
-      Verdict-on who (caaRecords (records book)) (requestedNames request) issuer (judge request issuer who book)
+      Verdict-on who (asBook (records book)) (requestedNames request) issuer (judge request issuer who book)
   unfolding authorizations
-  accepted o p empty none h = rw (judged none h) (verdict-by-the-rule who (caaRecords (records book)) (requestedNames request) issuer)
+  accepted o p empty none h = rw (judged none h) (verdict-by-the-rule who (asBook (records book)) (requestedNames request) issuer)
   accepted o p empty (some r) h = absurd (empty r (judge-refusals request issuer who book o p r .0 (judged (some r) h) .0))
 
 pub answer-exactly : Answer-exactly

@@ -33,9 +33,9 @@ use Rattle.spec_record.specs.Records.{records}
 use Rattle.spec_applicant.specs.Applicant.{Applicant}
 use Rattle.spec_rule.specs.declared.Judgement.{Judgement}
 use Rattle.spec_rule.specs.declared.Judgement.the-variants.{Permitted, Refused}
-use Rattle.spec_rule.specs.RelevantSet.{caaRecords}
+use Rattle.spec_rule.specs.RelevantSet.{asBook}
 use Rattle.spec_rule.proofs.Judgement.{the-type}
-use Rattle.spec_rule.specs.Authorizations.{Authorization, unrestricted, forbidden, granted, authorization, permits}
+use Rattle.spec_rule.specs.Authorizations.{Authorization, unrestricted, forbidden, granted, unresolved, authorization, permits}
 use Rattle.spec_rule.specs.Verdicts.{denied, verdictFrom, verdict}
 use Rattle.spec_rule.specs.Calls.{authorizations, firstRefusal, judgeChecks, judge}
 use Rattle.read_inputs.proofs.CheckLaws.{none-refuses}
@@ -52,18 +52,20 @@ use Rattle.judge_call.proofs.AskedLaws.{note-inside, permitted-before, 
 
 -- what `let Judgement::Permitted = j else` knows
 abbrev pub NotPermitted : Judgement → Type 0
-NotPermitted j = (variant the-type j ≡ 1) ⊎ ((variant the-type j ≡ 2) ⊎ (variant the-type j ≡ 3))
+NotPermitted j = (variant the-type j ≡ 1) ⊎ ((variant the-type j ≡ 2) ⊎ ((variant the-type j ≡ 3) ⊎ (variant the-type j ≡ 4)))
 
 never-permitted : {A : Type 0} → NotPermitted Permitted → A
 never-permitted (inl e) = absurd (omega arith)
 never-permitted (inr (inl e)) = absurd (omega arith)
-never-permitted (inr (inr e)) = absurd (omega arith)
+never-permitted (inr (inr (inl e))) = absurd (omega arith)
+never-permitted (inr (inr (inr e))) = absurd (omega arith)
 
 -- the verdict on one name, and what follows it
 module _ (issuer : List ℕ) (k : ℕ) (behind : Judgement) where
   permits-it : (a : Authorization) → Permitted ≡ cond (permits issuer a) Permitted (denied k a) → permits issuer a ≡ true
   permits-it unrestricted e = refl
   permits-it (forbidden r) e = let z : _≡_ {A = ℕ} 0 1 = cc in absurd (omega arith)
+  permits-it (unresolved r) e = let z : _≡_ {A = ℕ} 0 1 = cc in absurd (omega arith)
   permits-it (granted r ns) e = go (any (same (lowered issuer)) ns) e
     where
       go : (t : Bool) → Permitted ≡ cond t Permitted (denied k (granted r ns)) → t ≡ true
@@ -88,18 +90,18 @@ module _ (who : Applicant) (request issuer book : List ℕ) (c : Check) (f : c �
   pub none-refused : c ≡ Accepted → firstRefusal (judgeChecks request issuer who book) ≡ none
   none-refused g = accepted (firstRefusal (judgeChecks request issuer who book)) f g
 
-module _ (who : Applicant) (request issuer book table links heads : List ℕ) where
+module _ (who : Applicant) (request issuer book table links heads onward : List ℕ) where
   abbrev said : Name → Authorization
-  said n = authorization who (caaRecords (records book)) n
+  said n = authorization who (asBook (records book)) n
 
   -- the loop's invariant: the names left give the answer
   pub record Judged (at k : ℕ) : Type 0 where
     pub names : List Name
     pub left : NamesLeft request at k names
     pub answer : judge request issuer who book ≡ verdictFrom k issuer (map said names)
-    pub ready : Ready who request issuer book table links heads
+    pub ready : Ready who request issuer book table links heads onward
 
-  module _ (ready : Ready who request issuer book table links heads) where
+  module _ (ready : Ready who request issuer book table links heads onward) where
     passes : All (λ check. check ≡ none) (judgeChecks request issuer who book)
     passes = none-refuses (judgeChecks request issuer who book) (ready .accepted)
 
@@ -115,10 +117,10 @@ module _ (who : Applicant) (request issuer book table links heads : List ℕ) wh
     -- what is said of a good name, by the table and the chains
     by-table :
         (n : Name) → GoodName n → {s : List ℕ} {wildcard : Bool} → s ≡ wire (base n) → wildcard ≡ isWildcard n →
-        meaning who book table links (nameAuthorization book table links heads s wildcard) ≡ said n
+        meaning who book table links (nameAuthorization book table links heads onward s wildcard) ≡ said n
     unfolding authorization
     by-table n good x y =
-        rw (ready .rows, ready .chained, ready .headed, x, y)
+        rw (ready .rows, ready .chained, ready .headed, ready .pointed, x, y)
         (authorization-by-offset who book (base n) (isWildcard n) (All-head (All-tail (All-tail (All-tail passes)))) (good-base n good))
 
   module _ (at k : ℕ) (w : Judged at k) where
@@ -141,7 +143,7 @@ module _ (who : Applicant) (request issuer book table links heads : List ℕ) wh
           this = next-name request (w .left) h o f r g
 
           -- p is the first record of its relevant set
-          module _ (p : FirstRecord) (d : p ≡ nearestRecord book table links heads (take (r .next - r .base) (drop (r .base) request))) where
+          module _ (p : FirstRecord) (d : p ≡ nearestRecord book table links heads onward (take (r .next - r .base) (drop (r .base) request))) where
             abbrev behind : Judgement
             behind = verdictFrom (suc k) issuer (map said (this .others))
 
@@ -164,7 +166,7 @@ module _ (who : Applicant) (request issuer book table links heads : List ℕ) wh
             module _ (set : RecordNo) (e : p ≡ At set) where
               set-below : set .0 < roomFor book
               set-below =
-                  omega (arith, rw (sym d ∙ e) at (nearest-below links book table heads (take (r .next - r .base) (drop (r .base) request))), ap length (w .ready .chained), chains-fit book .0)
+                  omega (arith, rw (sym d ∙ e) at (nearest-below links book table heads onward (take (r .next - r .base) (drop (r .base) request))), ap length (w .ready .chained), chains-fit book .0)
 
               pub question-inside :
                   (v : Bool) (n : ℕ) → n ≡ questionNumber set v → (asked : List Bool) → Asked who issuer book table links asked → n < length asked

@@ -1,5 +1,5 @@
--- What holds while the names of a request are judged, one after the other. The inputs are accepted; the table and the chains are those of the
--- book; and an array notes which questions (`questionNumber` in book_places) were asked, with the answer that the issuer is permitted.
+-- What holds while the names of a request are judged, one after the other. The inputs are accepted; the table, the chains and the column of aliases are those
+-- of the book; and an array notes which questions (`questionNumber` in book_places) were asked, with the answer that the issuer is permitted.
 use Prim.Native.Nat.{ℕ, _*_}
 use mathlib.Core.Path.{_≡_}
 use mathlib.Core.Bool.{Bool, true, false}
@@ -15,14 +15,16 @@ use Rattle.spec_rule.specs.Verdicts.{verdictFrom}
 use Rattle.spec_rule.specs.Calls.{firstRefusal, judgeChecks}
 use Rattle.book_places.specs.Table.{roomFor, tableOf}
 use Rattle.book_places.specs.Chains.{noRecord, chainsOf}
+use Rattle.book_places.specs.Onward.{onwardOf}
 use Rattle.book_places.specs.NameAuthorizations.{setAuthorization, answerTo, meaning}
 use Rattle.book_index.specs.Indexes.{Blank}
 
-pub record Ready (who : Applicant) (request issuer book table links heads : List ℕ) : Type 0 where
+pub record Ready (who : Applicant) (request issuer book table links heads onward : List ℕ) : Type 0 where
   pub accepted : firstRefusal (judgeChecks request issuer who book) ≡ none
   pub rows : table ≡ tableOf book
   pub chained : links ≡ chainsOf book .links
   pub headed : heads ≡ chainsOf book .heads
+  pub pointed : onward ≡ onwardOf book
 
 module _ (who : Applicant) (issuer book table links : List ℕ) where
   -- The verdict on name k alone, given its relevant set.
@@ -39,9 +41,9 @@ module _ (who : Applicant) (issuer book table links : List ℕ) where
     pub permit : (question : ℕ) → getD asked question false ≡ true → answerPermits question ≡ true
 
 -- What the inner function is lent: accepted inputs, and empty arrays with room for the records of the book.
-pub record Lent (who : Applicant) (request issuer book table links heads : List ℕ) (asked : List Bool) : Type 0 where
+pub record Lent (who : Applicant) (request issuer book table links heads onward : List ℕ) (asked : List Bool) : Type 0 where
   pub accepted : firstRefusal (judgeChecks request issuer who book) ≡ none
-  pub blank : Blank book table links heads
+  pub blank : Blank book table links heads onward
   pub unasked : asked ≡ replicate (2 * roomFor book) false
 
 -- The same for the heads of the chains alone, before the size of the other arrays is chosen.

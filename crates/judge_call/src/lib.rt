@@ -44,6 +44,7 @@ fn judge_by_set(
     match book_authorization::set_authorization(book, table, links, set, wildcard) {
         NameAuthorization::Unrestricted => Judgement::Permitted,
         NameAuthorization::Forbidden(rr) => Judgement::UnknownCritical(Denial { name, rr }),
+        NameAuthorization::Unresolved(rr) => Judgement::TooManyAliases(Denial { name, rr }),
         NameAuthorization::Governed(g) => {
             let governing = g.set;
             let from = governing.0;
@@ -67,9 +68,10 @@ fn judge_names(
     table: &[u16],
     links: &[u16],
     heads: &[u16],
+    onward: &[u16],
     asked: &mut [bool],
 ) -> Judgement
-    requires { ⌜ Ready (record { account = now account; method = now method }) (now request) (now issuer) (now book) (now table) (now links) (now heads) × Asked (record { account = now account; method = now method }) (now issuer) (now book) (now table) (now links) (now asked) ⌝ }
+    requires { ⌜ Ready (record { account = now account; method = now method }) (now request) (now issuer) (now book) (now table) (now links) (now heads) (now onward) × Asked (record { account = now account; method = now method }) (now issuer) (now book) (now table) (now links) (now asked) ⌝ }
     ensures { λ r. ⌜ r ≡ judge (now (request .entry)) (now (issuer .entry)) (record { account = now (account .entry); method = now (method .entry) }) (now (book .entry)) ⌝ }
 {
     let mut at: usize = 0;
@@ -89,6 +91,7 @@ fn judge_names(
             table,
             links,
             heads,
+            onward,
             &request[base..next],
         ) else {
             continue;
@@ -116,7 +119,8 @@ fn judge_names(
     Judgement::Permitted
 }
 
-// Judges accepted inputs. It reads the book once, and makes a table of its records and chains through them in the lent arrays.
+// Judges accepted inputs. It reads the book once, and makes a table of its records, chains through them and the column of aliases in the lent
+// arrays.
 fn judge_in(
     request: &[u8],
     issuer: &[u8],
@@ -126,12 +130,13 @@ fn judge_in(
     table: &mut [u16],
     links: &mut [u16],
     heads: &mut [u16],
+    onward: &mut [u16],
     asked: &mut [bool],
 ) -> Judgement
-    requires { ⌜ Lent (record { account = now account; method = now method }) (now request) (now issuer) (now book) (now table) (now links) (now heads) (now asked) ⌝ }
+    requires { ⌜ Lent (record { account = now account; method = now method }) (now request) (now issuer) (now book) (now table) (now links) (now heads) (now onward) (now asked) ⌝ }
     ensures { λ r. ⌜ r ≡ judge (now (request .entry)) (now (issuer .entry)) (record { account = now (account .entry); method = now (method .entry) }) (now (book .entry)) ⌝ }
 {
-    book_index::index_book(book, table, links, heads);
+    book_index::index_book(book, table, links, heads, onward);
     judge_names(
         request,
         issuer,
@@ -141,6 +146,7 @@ fn judge_in(
         table,
         links,
         heads,
+        onward,
         asked,
     )
 }
@@ -159,6 +165,7 @@ fn judge_short(
 {
     let mut table = [0u16; SHORT_TABLE];
     let mut links = [END; FEW_RECORDS];
+    let mut onward = [END; FEW_RECORDS];
     let mut asked = [false; SHORT_NOTES];
     judge_in(
         request,
@@ -169,6 +176,7 @@ fn judge_short(
         &mut table,
         &mut links,
         heads,
+        &mut onward,
         &mut asked,
     )
 }
@@ -187,6 +195,7 @@ fn judge_long(
 {
     let mut table = [0u16; TABLE];
     let mut links = [END; MAX_RECORDS];
+    let mut onward = [END; MAX_RECORDS];
     let mut asked = [false; NOTES];
     judge_in(
         request,
@@ -197,6 +206,7 @@ fn judge_long(
         &mut table,
         &mut links,
         heads,
+        &mut onward,
         &mut asked,
     )
 }

@@ -30,8 +30,8 @@ use Rattle.book_places.specs.Table.{fewRecords, shortBook, roomFor}
 use Rattle.book_places.specs.Chains.{noRecord}
 use Rattle.book_places.proofs.StandingRecords.{room-short, room-long}
 use Rattle.book_fill.specs.Filled.{filledTable}
-use Rattle.book_index.specs.Indexes.{indexedChains}
-use Rattle.book_index.proofs.Indexed.{table-of-book, links-of-book, heads-of-book, blank-short, blank-long}
+use Rattle.book_index.specs.Indexes.{indexedChains, indexedOnward}
+use Rattle.book_index.proofs.Indexed.{table-of-book, links-of-book, heads-of-book, onward-of-book, blank-short, blank-long}
 use Rattle.list_places.specs.declared.Permitted.{Permitted}
 use Rattle.list_places.specs.Rounds.{keptNames}
 use Rattle.list_places.specs.PermittedBy.{permittedIn, issuersIn}
@@ -73,7 +73,7 @@ module _ (who : Applicant) (request book : List ℕ) (c : Check)
 module _ (who : Applicant) (request book heads : List ℕ) (lent : HeadsLent who request book heads) (m k n : ℕ) where
   pub lent-short :
       length book ≤ shortBook → m ≡ 6 * fewRecords → k ≡ fewRecords → n ≡ 2 * fewRecords →
-      Lent who request book (replicate m 0) (replicate k noRecord) heads (replicate n 0) (replicate k 0)
+      Lent who request book (replicate m 0) (replicate k noRecord) heads (replicate k noRecord) (replicate n 0) (replicate k 0)
   lent-short h rows links names = record {
     names-good = lent .names-good;
     applicant-good = lent .applicant-good;
@@ -85,7 +85,7 @@ module _ (who : Applicant) (request book heads : List ℕ) (lent : HeadsLent who
 
   pub lent-long :
       shortBook < length book → m ≡ 6 * maxRecords → k ≡ maxRecords → n ≡ 2 * maxRecords →
-      Lent who request book (replicate m 0) (replicate k noRecord) heads (replicate n 0) (replicate k 0)
+      Lent who request book (replicate m 0) (replicate k noRecord) heads (replicate k noRecord) (replicate n 0) (replicate k 0)
   lent-long h rows links names = record {
     names-good = lent .names-good;
     applicant-good = lent .applicant-good;
@@ -97,12 +97,14 @@ module _ (who : Applicant) (request book heads : List ℕ) (lent : HeadsLent who
 
 -- what index_book and find_permitted made of what was lent
 pub found :
-    (who : Applicant) (request book table₀ links₀ heads₀ names₀ rounds₀ : List ℕ) → Lent who request book table₀ links₀ heads₀ names₀ rounds₀ → (table links heads : List ℕ) →
+    (who : Applicant) (request book table₀ links₀ heads₀ onward₀ names₀ rounds₀ : List ℕ) → Lent who request book table₀ links₀ heads₀ onward₀ names₀ rounds₀ →
+    (table links heads onward : List ℕ) →
     table ≡ filledTable book table₀ → links ≡ indexedChains book table₀ (record { links = links₀; heads = heads₀ }) .links →
-    heads ≡ indexedChains book table₀ (record { links = links₀; heads = heads₀ }) .heads → (p : Permitted) (names rounds : List ℕ) →
-    p ≡ permittedIn who request book table links heads names₀ rounds₀ .answer → names ≡ permittedIn who request book table links heads names₀ rounds₀ .names →
-    rounds ≡ permittedIn who request book table links heads names₀ rounds₀ .rounds → Found who request book names rounds p
-found who request book table₀ links₀ heads₀ names₀ rounds₀ lent table links heads t l h p names rounds told left last = record {
+    heads ≡ indexedChains book table₀ (record { links = links₀; heads = heads₀ }) .heads →
+    onward ≡ indexedOnward book table₀ (record { links = links₀; heads = heads₀ }) onward₀ → (p : Permitted) (names rounds : List ℕ) →
+    p ≡ permittedIn who request book table links heads onward names₀ rounds₀ .answer → names ≡ permittedIn who request book table links heads onward names₀ rounds₀ .names →
+    rounds ≡ permittedIn who request book table links heads onward names₀ rounds₀ .rounds → Found who request book names rounds p
+found who request book table₀ links₀ heads₀ onward₀ names₀ rounds₀ lent table links heads onward t l h o p names rounds told left last = record {
   names-good = lent .names-good;
   applicant-good = lent .applicant-good;
   records-good = lent .records-good;
@@ -111,9 +113,10 @@ found who request book table₀ links₀ heads₀ names₀ rounds₀ lent table 
         told,
         left,
         last,
-        table-of-book book table₀ links₀ heads₀ (lent .blank) table t,
-        links-of-book book table₀ links₀ heads₀ (lent .blank) links l,
-        heads-of-book book table₀ links₀ heads₀ (lent .blank) heads h,
+        table-of-book book table₀ links₀ heads₀ onward₀ (lent .blank) table t,
+        links-of-book book table₀ links₀ heads₀ onward₀ (lent .blank) links l,
+        heads-of-book book table₀ links₀ heads₀ onward₀ (lent .blank) heads h,
+        onward-of-book book table₀ links₀ heads₀ onward₀ (lent .blank) onward o,
         lent .first-round,
       )
       (permitted-by-offset who request book names₀ (lent .names-good) (lent .records-good) enough);

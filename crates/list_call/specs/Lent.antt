@@ -18,11 +18,11 @@ use Rattle.list_places.specs.declared.Permitted.{Permitted}
 use Rattle.list_places.specs.PermittedBy.{issuersIn}
 
 -- What the inner function is lent: an accepted request and book, and empty arrays with room for the records of the book.
-pub record Lent (who : Applicant) (request book table links heads names rounds : List ℕ) : Type 0 where
+pub record Lent (who : Applicant) (request book table links heads onward names rounds : List ℕ) : Type 0 where
   pub names-good : requestRefusal request ≡ none
   pub applicant-good : applicantRefusal who ≡ none
   pub records-good : bookRefusal book ≡ none
-  pub blank : Blank book table links heads
+  pub blank : Blank book table links heads onward
   pub candidates : names ≡ replicate (2 * roomFor book) 0
   pub first-round : rounds ≡ replicate (roomFor book) 0
 

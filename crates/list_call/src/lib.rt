@@ -54,15 +54,16 @@ fn list_in(
     table: &mut [u16],
     links: &mut [u16],
     heads: &mut [u16],
+    onward: &mut [u16],
     names: &mut [u16],
     rounds: &mut [u16],
     buffer: &mut [u8],
 ) -> PermittedIssuers
-    requires { ⌜ Lent (record { account = now account; method = now method }) (now request) (now book) (now table) (now links) (now heads) (now names) (now rounds) ⌝ }
+    requires { ⌜ Lent (record { account = now account; method = now method }) (now request) (now book) (now table) (now links) (now heads) (now onward) (now names) (now rounds) ⌝ }
     ensures answer { λ r. ⌜ r ≡ listIssuers (now (request .entry)) (record { account = now (account .entry); method = now (method .entry) }) (now (book .entry)) (now (buffer .entry)) .answer ⌝ }
     ensures octets { λ r. ⌜ now (buffer .exit) ≡ listIssuers (now (request .entry)) (record { account = now (account .entry); method = now (method .entry) }) (now (book .entry)) (now (buffer .entry)) .buffer ⌝ }
 {
-    book_index::index_book(book, table, links, heads);
+    book_index::index_book(book, table, links, heads, onward);
     let found = list_find::find_permitted(
         request,
         account,
@@ -71,6 +72,7 @@ fn list_in(
         table,
         links,
         heads,
+        onward,
         names,
         rounds,
     );
@@ -92,6 +94,7 @@ fn list_short(
 {
     let mut table = [0u16; SHORT_TABLE];
     let mut links = [END; FEW_RECORDS];
+    let mut onward = [END; FEW_RECORDS];
     let mut names = [0u16; SHORT_NAMES];
     let mut rounds = [0u16; FEW_RECORDS];
     list_in(
@@ -102,6 +105,7 @@ fn list_short(
         &mut table,
         &mut links,
         heads,
+        &mut onward,
         &mut names,
         &mut rounds,
         buffer,
@@ -123,6 +127,7 @@ fn list_long(
 {
     let mut table = [0u16; TABLE];
     let mut links = [END; MAX_RECORDS];
+    let mut onward = [END; MAX_RECORDS];
     let mut names = [0u16; NAMES];
     let mut rounds = [0u16; MAX_RECORDS];
     list_in(
@@ -133,6 +138,7 @@ fn list_long(
         &mut table,
         &mut links,
         heads,
+        &mut onward,
         &mut names,
         &mut rounds,
         buffer,

@@ -14,21 +14,21 @@ use Rattle.list_places.specs.Questions.{questions, noted, once}
 use Rattle.list_places.specs.PermittedBy.{PermittedIn, allAsked, byNoted, notedIn, permittedIn}
 use Rattle.list_places.proofs.PermittedParts.{permitted-parts}
 
-module _ (who : Applicant) (request book table links heads names rounds : List ℕ) where
+module _ (who : Applicant) (request book table links heads onward names rounds : List ℕ) where
   abbrev whole : PermittedIn
-  whole = permittedIn who request book table links heads names rounds
+  whole = permittedIn who request book table links heads onward names rounds
 
   -- the three ensures from one equation
   pub parts :
-      {a : Permitted} {x y : List ℕ} → permittedIn who request book table links heads names rounds ≡ record { answer = a; names = x; rounds = y } →
-      (a ≡ permittedIn who request book table links heads names rounds .answer)
-      × ((x ≡ permittedIn who request book table links heads names rounds .names) × (y ≡ permittedIn who request book table links heads names rounds .rounds))
+      {a : Permitted} {x y : List ℕ} → permittedIn who request book table links heads onward names rounds ≡ record { answer = a; names = x; rounds = y } →
+      (a ≡ permittedIn who request book table links heads onward names rounds .answer)
+      × ((x ≡ permittedIn who request book table links heads onward names rounds .names) × (y ≡ permittedIn who request book table links heads onward names rounds .rounds))
   parts = permitted-parts
 
   -- the answer of note_questions, by the size of the array
   module _ (j : ℕ) (size : j ≡ maxNames) (answer : RelevantSets) (numbers : List ℕ)
-      (told : answer ≡ noted (replicate j 0) (questions request book table links heads) .answer)
-      (told-numbers : numbers ≡ noted (replicate j 0) (questions request book table links heads) .numbers) where
+      (told : answer ≡ noted (replicate j 0) (questions request book table links heads onward) .answer)
+      (told-numbers : numbers ≡ noted (replicate j 0) (questions request book table links heads onward) .numbers) where
     by-answer : whole ≡ byNoted who book table links answer numbers names rounds
     unfolding permittedIn notedIn
     by-answer = sym (rw (told, told-numbers, size))

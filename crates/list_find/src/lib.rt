@@ -16,12 +16,13 @@ pub fn find_permitted(
     table: &[u16],
     links: &[u16],
     heads: &[u16],
+    onward: &[u16],
     names: &mut [u16],
     rounds: &mut [u16],
 ) -> Permitted
-    ensures answer { λ r. ⌜ r ≡ permittedIn (record { account = now (account .entry); method = now (method .entry) }) (now (request .entry)) (now (book .entry)) (now (table .entry)) (now (links .entry)) (now (heads .entry)) (now (names .entry)) (now (rounds .entry)) .answer ⌝ }
-    ensures names { λ r. ⌜ now (names .exit) ≡ permittedIn (record { account = now (account .entry); method = now (method .entry) }) (now (request .entry)) (now (book .entry)) (now (table .entry)) (now (links .entry)) (now (heads .entry)) (now (names .entry)) (now (rounds .entry)) .names ⌝ }
-    ensures rounds { λ r. ⌜ now (rounds .exit) ≡ permittedIn (record { account = now (account .entry); method = now (method .entry) }) (now (request .entry)) (now (book .entry)) (now (table .entry)) (now (links .entry)) (now (heads .entry)) (now (names .entry)) (now (rounds .entry)) .rounds ⌝ }
+    ensures answer { λ r. ⌜ r ≡ permittedIn (record { account = now (account .entry); method = now (method .entry) }) (now (request .entry)) (now (book .entry)) (now (table .entry)) (now (links .entry)) (now (heads .entry)) (now (onward .entry)) (now (names .entry)) (now (rounds .entry)) .answer ⌝ }
+    ensures names { λ r. ⌜ now (names .exit) ≡ permittedIn (record { account = now (account .entry); method = now (method .entry) }) (now (request .entry)) (now (book .entry)) (now (table .entry)) (now (links .entry)) (now (heads .entry)) (now (onward .entry)) (now (names .entry)) (now (rounds .entry)) .names ⌝ }
+    ensures rounds { λ r. ⌜ now (rounds .exit) ≡ permittedIn (record { account = now (account .entry); method = now (method .entry) }) (now (request .entry)) (now (book .entry)) (now (table .entry)) (now (links .entry)) (now (heads .entry)) (now (onward .entry)) (now (names .entry)) (now (rounds .entry)) .rounds ⌝ }
 {
     let mut numbers = [0u16; MAX_NAMES];
     let RelevantSets::Noted(noted) = list_sets::note_questions(
@@ -30,6 +31,7 @@ pub fn find_permitted(
         table,
         links,
         heads,
+        onward,
         &mut numbers,
     ) else {
         return Permitted {

@@ -11,7 +11,7 @@ use Rattle.spec_refusal.specs.declared.RecordNo.{RecordNo}
 use Rattle.spec_applicant.specs.Applicant.{Applicant}
 use Rattle.book_places.specs.declared.Governing.{Governing}
 use Rattle.book_places.specs.declared.NameAuthorization.{NameAuthorization}
-use Rattle.book_places.specs.declared.NameAuthorization.the-variants.{Unrestricted, Forbidden, Governed}
+use Rattle.book_places.specs.declared.NameAuthorization.the-variants.{Unrestricted, Forbidden, Governed, Unresolved}
 use Rattle.book_places.specs.NameAuthorizations.{answerTo}
 use Rattle.list_places.specs.declared.Permitted.{Permitted}
 use Rattle.list_places.specs.Candidates.{collected}
@@ -108,6 +108,12 @@ module _ (who : Applicant) (book table links : List ℕ) where
               allAsked who book table links (take n numbers) c d
               ≡ record { answer = record { restricted = true; count = 0; round = 0 }; names = names; rounds = rounds }
           forbidden-found r f = by-answer ∙ rw f
+
+          pub unresolved-found :
+              (r : RecordNo) → a ≡ Unresolved r →
+              allAsked who book table links (take n numbers) c d
+              ≡ record { answer = record { restricted = true; count = 0; round = 0 }; names = names; rounds = rounds }
+          unresolved-found r f = by-answer ∙ rw f
 
           pub governed-kept :
               (g : Governing) → a ≡ Governed g → (q : Permitted) (names′ rounds′ : List ℕ) →

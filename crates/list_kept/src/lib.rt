@@ -94,6 +94,13 @@ pub fn ask_sets(
                     round: 0,
                 };
             }
+            NameAuthorization::Unresolved(_) => {
+                return Permitted {
+                    restricted: true,
+                    count: 0,
+                    round: 0,
+                };
+            }
             NameAuthorization::Governed(g) => {
                 p = keep_granted(account, method, book, table, links, g, names, rounds, p);
             }

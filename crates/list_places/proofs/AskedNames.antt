@@ -19,12 +19,13 @@ use Rattle.read_request.proofs.RequestPlaces.{next-after}
 use Rattle.read_request.proofs.AcceptedNames.{NamesLeft, all-names, names-end, names-good, next-name}
 use Rattle.spec_record.specs.Records.{records, bookRefusal}
 use Rattle.spec_applicant.specs.Applicant.{Applicant}
-use Rattle.spec_rule.specs.RelevantSet.{caaRecords}
+use Rattle.spec_rule.specs.RelevantSet.{asBook}
 use Rattle.spec_rule.specs.Authorizations.{Authorization, authorization}
 use Rattle.book_places.specs.declared.FirstRecord.{FirstRecord}
 use Rattle.book_places.specs.declared.FirstRecord.the-variants.{At, Nothing}
 use Rattle.book_places.specs.Table.{tableOf}
 use Rattle.book_places.specs.Chains.{Chains, chainsOf}
+use Rattle.book_places.specs.Onward.{onwardOf}
 use Rattle.book_places.specs.Sets.{nearestRecord}
 use Rattle.book_places.specs.NameAuthorizations.{bySet, nameAuthorization, answerTo, meaning}
 use Rattle.book_places.proofs.Bounds.{FirstBelow, nearest-below}
@@ -55,18 +56,18 @@ module _ (who : Applicant) (request book : List ℕ) (good : bookRefusal book �
 
   -- what the rule says
   abbrev says : Name → Authorization
-  says n = authorization who (caaRecords (records book)) n
+  says n = authorization who (asBook (records book)) n
 
   abbrev said : NameQuestion → Authorization
   said q = saidBy (answered who book table (chains .links)) q
 
   said-of-name :
       (n : Name) → GoodName n → {x : List ℕ} {wildcard : Bool} → x ≡ wire (base n) → wildcard ≡ isWildcard n →
-      said (questionBy wildcard (nearestRecord book table (chains .links) (chains .heads) x)) ≡ says n
+      said (questionBy wildcard (nearestRecord book table (chains .links) (chains .heads) (onwardOf book) x)) ≡ says n
   unfolding authorization nameAuthorization maxRecords
   said-of-name n g {x} {wildcard} e w =
-      by-question who book table (chains .links) wildcard (nearestRecord book table (chains .links) (chains .heads) x)
-      (nearest-below (chains .links) book table (chains .heads) x) (omega (arith, chains-fit book .0, room-enough book .1))
+      by-question who book table (chains .links) wildcard (nearestRecord book table (chains .links) (chains .heads) (onwardOf book) x)
+      (nearest-below (chains .links) book table (chains .heads) (onwardOf book) x) (omega (arith, chains-fit book .0, room-enough book .1))
       ∙ rw (e, w) (authorization-by-offset who book (base n) (isWildcard n) good (good-base n g))
 
   -- of the names left, behind k of them
@@ -77,7 +78,7 @@ module _ (who : Applicant) (request book : List ℕ) (good : bookRefusal book �
   abbrev SaysOf : ℕ → Type 0
   SaysOf steps =
       (at k : ℕ) (names : List Name) → NamesLeft request at k names → length request ≤ steps + at →
-      SaidOf k names (questionsFrom request book table (chains .links) (chains .heads) steps at)
+      SaidOf k names (questionsFrom request book table (chains .links) (chains .heads) (onwardOf book) steps at)
 
   none-left : (at k : ℕ) (names : List Name) → NamesLeft request at k names → length request ≤ at → SaidOf k names []
   none-left at k names w h = record { same = rw (names-end request w h); few = omega (arith, w .within) }
@@ -88,7 +89,7 @@ module _ (who : Applicant) (request book : List ℕ) (good : bookRefusal book �
     where
       step :
           at < length request → SaysOf steps → (o : RequestedRead) → o ≡ requestedAt request at →
-          SaidOf k names (questionOf request book table (chains .links) (chains .heads) o (questionsFrom request book table (chains .links) (chains .heads) steps))
+          SaidOf k names (questionOf request book table (chains .links) (chains .heads) (onwardOf book) o (questionsFrom request book table (chains .links) (chains .heads) (onwardOf book) steps))
       step l rest Fault f = absurd (names-good request w l Fault f refl)
       step l rest (Good r) f =
           let this = next-name request w l (Good r) f r refl in
@@ -100,10 +101,10 @@ module _ (who : Applicant) (request book : List ℕ) (good : bookRefusal book �
 
       go :
           (t : Bool) → leb (length request) at ≡ t → SaysOf steps →
-          SaidOf k names (cond t [] (questionOf request book table (chains .links) (chains .heads) (requestedAt request at) (questionsFrom request book table (chains .links) (chains .heads) steps)))
+          SaidOf k names (cond t [] (questionOf request book table (chains .links) (chains .heads) (onwardOf book) (requestedAt request at) (questionsFrom request book table (chains .links) (chains .heads) (onwardOf book) steps)))
       go true e rest = none-left at k names w (leb-true (length request) at e)
       go false e rest = step (leb-false (length request) at e) rest (requestedAt request at) refl
 
-  pub said-names : requestRefusal request ≡ none → SaidOf 0 (requestedNames request) (questions request book table (chains .links) (chains .heads))
+  pub said-names : requestRefusal request ≡ none → SaidOf 0 (requestedNames request) (questions request book table (chains .links) (chains .heads) (onwardOf book))
   unfolding questions
   said-names r = said-from (length request) 0 0 (requestedNames request) (all-names request r) (omega arith)

@@ -18,7 +18,7 @@ use Rattle.spec_rule.specs.Authorizations.{Authorization, granted, permits}
 use Rattle.spec_rule.specs.IssuerLists.{anyone, listed, distinct}
 use Rattle.book_places.specs.declared.Governing.{Governing}
 use Rattle.book_places.specs.declared.NameAuthorization.{NameAuthorization}
-use Rattle.book_places.specs.declared.NameAuthorization.the-variants.{Unrestricted, Forbidden, Governed}
+use Rattle.book_places.specs.declared.NameAuthorization.the-variants.{Unrestricted, Forbidden, Governed, Unresolved}
 use Rattle.book_places.specs.NameAuthorizations.{answerTo, setGrantees, meaning}
 use Rattle.list_places.specs.declared.TaggedSet.{TaggedSet}
 use Rattle.list_places.specs.declared.Grant.{Grant}
@@ -30,7 +30,7 @@ use Rattle.list_places.proofs.CandidateLaws.{pushed-most}
 use Rattle.list_places.proofs.GrantNames.{grants-by-offset}
 use Rattle.list_places.proofs.CollectedNames.{few-grants, collected-by-offset}
 use Rattle.list_places.proofs.NarrowedNames.{narrowed-by-offset}
-use Rattle.list_places.proofs.LeftIssuers.{select-alike, left, left-end, left-unrestricted, left-forbidden, Lower}
+use Rattle.list_places.proofs.LeftIssuers.{select-alike, left, left-end, left-unrestricted, left-forbidden, left-unresolved, Lower}
 use Rattle.list_places.proofs.AskedNames.{answered}
 
 module _ (book names : List ℕ) where
@@ -90,6 +90,7 @@ module _ (who : Applicant) (book table links : List ℕ) (small : length book �
       go : (a : NameAuthorization) → Lower (meaning who book table links a)
       go Unrestricted = _
       go (Forbidden r) = _
+      go (Unresolved r) = _
       go (Governed g) = lower-grantees (governingSet who book table links g)
 
   collected-few : (s : TaggedSet) (names : List ℕ) → collected who book table links s names .count ≤ length links
@@ -188,6 +189,7 @@ module _ (who : Applicant) (book table links : List ℕ) (small : length book �
             rest p (record { fresh = h .fresh; room = h .room; within = h .within; few = omega (arith, h .few) })
             ∙ sym (left-unrestricted (issuersIn book p) (map (answered who book table links) qs))
         go (Forbidden r) rest = sym (left-forbidden (issuersIn book p) (r .0) (map (answered who book table links) qs))
+        go (Unresolved r) rest = sym (left-unresolved (issuersIn book p) (r .0) (map (answered who book table links) qs))
         go (Governed g) rest =
             rest (governedIn who book table links g p) (governed-sound g p (length qs) h)
             ∙ governed-issuers g p (length qs) h (map (answered who book table links) qs)

@@ -11,12 +11,14 @@ use borrow.Author.Tests.{ltb-false}
 use Rattle.spec_limits.specs.Limits.{maxNames, maxBookOctets}
 use Rattle.spec_refusal.specs.declared.Refusal.the-variants.{BookTooLong}
 use Rattle.spec_request.specs.Request.{requestRefusal}
-use Rattle.spec_record.specs.Records.{bookRefusal, recordRefusal, recordItems}
+use Rattle.spec_record.specs.Records.{layoutRefusal, bookRefusal, recordRefusal, recordItems}
 use Rattle.spec_applicant.specs.Applicant.{Applicant}
 use Rattle.spec_rule.specs.IssuerLists.{issuers}
 use Rattle.spec_rule.specs.Calls.{authorizations}
+use Rattle.book_places.proofs.AcceptedBook.{laid-out-book}
 use Rattle.book_places.specs.Table.{roomFor, tableOf}
 use Rattle.book_places.specs.Chains.{chainsOf}
+use Rattle.book_places.specs.Onward.{onwardOf}
 use Rattle.book_places.proofs.StandingRecords.{room-enough}
 use Rattle.book_places.proofs.ChainedRecords.{chains-fit}
 use Rattle.list_places.specs.declared.RelevantSets.{RelevantSets}
@@ -31,8 +33,8 @@ use Rattle.list_places.proofs.AskedNames.{answered, said-names}
 use Rattle.list_places.proofs.AskedSets.{answers-lower, all-0, asked-issuers}
 
 pub book-small : (book : List ℕ) → bookRefusal book ≡ none → length book ≤ maxBookOctets
-unfolding bookRefusal
-book-small book e = go (ltb maxBookOctets (length book)) refl e
+unfolding layoutRefusal
+book-small book e = go (ltb maxBookOctets (length book)) refl (laid-out-book book e)
   where
     go : (t : Bool) → ltb maxBookOctets (length book) ≡ t → cond t (some BookTooLong) (recordRefusal (recordItems book)) ≡ none → length book ≤ maxBookOctets
     go true k h = let z : _≡_ {A = ℕ} 0 1 = cc in absurd (omega arith)
@@ -48,11 +50,14 @@ module _ (who : Applicant) (request book : List ℕ) (r : requestRefusal request
   abbrev heads : List ℕ
   heads = chainsOf book .heads
 
+  abbrev onward : List ℕ
+  onward = onwardOf book
+
   abbrev asked : List NameQuestion
-  asked = questions request book table links heads
+  asked = questions request book table links heads onward
 
   abbrev kept : NotedQuestions
-  kept = notedIn request book table links heads
+  kept = notedIn request book table links heads onward
 
   -- the questions noted give the answer
   by-noted : byNumbers (answered who book table links) (kept .answer) (kept .numbers) ≡ issuers (authorizations request who book)

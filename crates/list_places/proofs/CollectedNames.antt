@@ -16,7 +16,7 @@ use Rattle.read_grantee.specs.declared.GranteeRead.the-variants.{At, Nobody}
 use Rattle.book_places.specs.Table.{cell, dataAt, ownerAt}
 use Rattle.book_places.specs.Chains.{behind, along, chainFrom}
 use Rattle.book_places.specs.NameAuthorizations.{setGrantees}
-use Rattle.book_places.specs.Sets.{isOwned, ownedFrom, dataHasTag}
+use Rattle.book_places.specs.Sets.{isOwned, ownedOf, ownedFrom, dataHasTag}
 use Rattle.list_places.specs.declared.TaggedSet.{TaggedSet}
 use Rattle.list_places.specs.declared.Grant.{Grant}
 use Rattle.list_places.specs.Grants.{grantRead, grantsOf, grantsFrom, grantsBy, grantOctets}
@@ -56,7 +56,7 @@ module _ (who : Applicant) (book table : List ℕ) (tag : PropertyTag) where
 
 -- at most one grant for each link
 pub few-grants : (who : Applicant) (book table links : List ℕ) (s : TaggedSet) (i : ℕ) → length (grantsFrom who book table links s i) ≤ length links
-unfolding grantsFrom ownedFrom chainFrom
+unfolding grantsFrom ownedOf chainFrom
 few-grants who book table links s i =
     omega (
       arith,

@@ -11,7 +11,7 @@ use Rattle.spec_octets.proofs.SelectLaws.{selected}
 use Rattle.spec_octets.proofs.SelectTests.{select-every, select-nothing, select-twice}
 use Rattle.spec_octets.proofs.SelectedLists.{selects-have, selects-all}
 use Rattle.spec_octets.proofs.Texts.{same-equal}
-use Rattle.spec_rule.specs.Authorizations.{Authorization, unrestricted, forbidden, granted, permits}
+use Rattle.spec_rule.specs.Authorizations.{Authorization, unrestricted, forbidden, granted, unresolved, permits}
 use Rattle.spec_rule.specs.IssuerLists.{Issuers, anyone, listed, distinct, issuers}
 use Rattle.spec_rule.proofs.DistinctLaws.{distinct-all}
 
@@ -48,6 +48,10 @@ pub left-unrestricted : (i : Issuers) (says : List Authorization) → left i (un
 left-unrestricted anyone says = refl
 left-unrestricted (listed ms) says = refl
 
+pub left-unresolved : (i : Issuers) (r : ℕ) (says : List Authorization) → left i (unresolved r ∷ says) ≡ listed []
+left-unresolved anyone r says = refl
+left-unresolved (listed ms) r says = ap listed (select-nothing ms)
+
 pub left-forbidden : (i : Issuers) (r : ℕ) (says : List Authorization) → left i (forbidden r ∷ says) ≡ listed []
 left-forbidden anyone r says = refl
 left-forbidden (listed ms) r says = ap listed (select-nothing ms)
@@ -64,6 +68,7 @@ issuers-append : (xs ys : List Authorization) → issuers (xs ++ ys) ≡ left (i
 issuers-append [] ys = refl
 issuers-append (unrestricted ∷ xs) ys = issuers-append xs ys
 issuers-append (forbidden r ∷ xs) ys = refl
+issuers-append (unresolved r ∷ xs) ys = refl
 issuers-append (granted r ns ∷ xs) ys = ap listed (left-listed (distinct ns) xs ys)
 
 left-append : (i : Issuers) (xs ys : List Authorization) → left i (xs ++ ys) ≡ left (left i xs) ys
@@ -96,6 +101,7 @@ still-absorbed anyone a b e = rw e (go a)
     go : (c : Authorization) → Absorbed (issuers (c ∷ [])) unrestricted
     go unrestricted = refl
     go (forbidden r) = all-nil
+    go (unresolved r) = all-nil
     go (granted r ns) = everyone (select (λ n. true) (distinct ns))
 still-absorbed (listed ms) a b h = select-all (λ m. all (permits m) (a ∷ [])) h
 
@@ -103,6 +109,7 @@ still-absorbed (listed ms) a b h = select-all (λ m. all (permits m) (a ∷ []))
 abbrev pub Lower : Authorization → Type 0
 Lower unrestricted = Unit
 Lower (forbidden r) = Unit
+Lower (unresolved r) = Unit
 Lower (granted r ns) = All (λ n. lowered n ≡ n) ns
 
 -- such names are among themselves
@@ -116,6 +123,7 @@ among (n ∷ ns) (all-cons e h) = all-cons
 pub absorbs-itself : (i : Issuers) (a : Authorization) → Lower a → Absorbed (left i (a ∷ [])) a
 absorbs-itself anyone unrestricted l = refl
 absorbs-itself anyone (forbidden r) l = all-nil
+absorbs-itself anyone (unresolved r) l = all-nil
 absorbs-itself anyone (granted r ns) l = select-all (λ n. true) (distinct-all (among ns l))
 absorbs-itself (listed ms) a l = All-imp (λ m e. go (permits m a) e) (select-have (λ m. all (permits m) (a ∷ [])) ms)
   where

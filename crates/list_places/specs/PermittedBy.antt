@@ -9,7 +9,7 @@ use Rattle.spec_applicant.specs.Applicant.{Applicant}
 use Rattle.spec_rule.specs.IssuerLists.{Issuers, anyone, listed}
 use Rattle.book_places.specs.declared.Governing.{Governing}
 use Rattle.book_places.specs.declared.NameAuthorization.{NameAuthorization}
-use Rattle.book_places.specs.declared.NameAuthorization.the-variants.{Unrestricted, Forbidden, Governed}
+use Rattle.book_places.specs.declared.NameAuthorization.the-variants.{Unrestricted, Forbidden, Governed, Unresolved}
 use Rattle.book_places.specs.NameAuthorizations.{answerTo}
 use Rattle.list_places.specs.declared.TaggedSet.{TaggedSet}
 use Rattle.list_places.specs.declared.RelevantSets.{RelevantSets}
@@ -62,6 +62,7 @@ module _ (who : Applicant) (book table links : List ℕ) where
   abbrev pub answeredIn : NameAuthorization → PermittedIn → (PermittedIn → PermittedIn) → PermittedIn
   answeredIn Unrestricted p rest = rest p
   answeredIn (Forbidden r) p rest = nobodyIn (p .names) (p .rounds)
+  answeredIn (Unresolved r) p rest = nobodyIn (p .names) (p .rounds)
   answeredIn (Governed g) p rest = rest (governedIn g p)
 
   -- The answers to a list of questions are taken into account, one after the other.
@@ -79,13 +80,13 @@ module _ (who : Applicant) (book table links : List ℕ) where
   byNoted (Noted n) numbers names rounds = allAsked (once (take n numbers)) names rounds
 
 -- The questions of a request, noted by a table of the book and its chains.
-unfoldable pub notedIn : List ℕ → List ℕ → List ℕ → List ℕ → List ℕ → NotedQuestions
-notedIn request book table links heads = noted (replicate maxNames 0) (questions request book table links heads)
+unfoldable pub notedIn : List ℕ → List ℕ → List ℕ → List ℕ → List ℕ → List ℕ → NotedQuestions
+notedIn request book table links heads onward = noted (replicate maxNames 0) (questions request book table links heads onward)
 
 -- The issuers for all names of a request, for the applicant, and the two arrays.
-unfoldable pub permittedIn : Applicant → List ℕ → List ℕ → List ℕ → List ℕ → List ℕ → List ℕ → List ℕ → PermittedIn
-permittedIn who request book table links heads names rounds =
-    byNoted who book table links (notedIn request book table links heads .answer) (notedIn request book table links heads .numbers) names rounds
+unfoldable pub permittedIn : Applicant → List ℕ → List ℕ → List ℕ → List ℕ → List ℕ → List ℕ → List ℕ → List ℕ → PermittedIn
+permittedIn who request book table links heads onward names rounds =
+    byNoted who book table links (notedIn request book table links heads onward .answer) (notedIn request book table links heads onward .numbers) names rounds
 
 -- The list of issuers that such an answer stands for, or anyone.
 abbrev pub issuersIn : List ℕ → PermittedIn → Issuers

@@ -28,12 +28,12 @@ questionBy wildcard Nothing = nothing-asked
 questionBy wildcard (At set) = question (questionNumber set wildcard)
 
 -- The questions of the names of a request.
-module _ (request book table links heads : List ℕ) where
+module _ (request book table links heads onward : List ℕ) where
   -- The question of one name, then those of the rest. After a name that cannot be read there are no more.
   abbrev pub questionOf : RequestedRead → (ℕ → List NameQuestion) → List NameQuestion
   questionOf Fault rest = unread ∷ []
   questionOf (Good n) rest =
-      questionBy (n .wildcard) (nearestRecord book table links heads (take (n .next - n .base) (drop (n .base) request))) ∷ rest (n .next)
+      questionBy (n .wildcard) (nearestRecord book table links heads onward (take (n .next - n .base) (drop (n .base) request))) ∷ rest (n .next)
 
   -- The questions of the names from offset `at` on, at most `steps` of them.
   abbrev pub questionsFrom : ℕ → ℕ → List NameQuestion

@@ -14,6 +14,7 @@ use Rattle.spec_rule.specs.IssuerLists.{distinct, issuers}
 use Rattle.spec_rule.specs.Calls.{authorizations}
 use Rattle.book_places.specs.Table.{roomFor, tableOf}
 use Rattle.book_places.specs.Chains.{chainsOf}
+use Rattle.book_places.specs.Onward.{onwardOf}
 use Rattle.book_places.specs.NameAuthorizations.{setGrantees}
 use Rattle.list_places.specs.declared.TaggedSet.{TaggedSet}
 use Rattle.list_places.specs.Grants.{grantsBy, grantOctets}
@@ -46,5 +47,5 @@ Narrowed-by-offset =
 abbrev pub Permitted-by-offset : Type 0
 Permitted-by-offset =
     (who : Applicant) (request book names : List ℕ) → requestRefusal request ≡ none → bookRefusal book ≡ none → 2 * roomFor book ≤ length names →
-    issuersIn book (permittedIn who request book (tableOf book) (chainsOf book .links) (chainsOf book .heads) names (replicate (roomFor book) 0))
+    issuersIn book (permittedIn who request book (tableOf book) (chainsOf book .links) (chainsOf book .heads) (onwardOf book) names (replicate (roomFor book) 0))
     ≡ issuers (authorizations request who book)

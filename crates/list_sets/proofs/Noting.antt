@@ -31,21 +31,21 @@ number-fits r wildcard q e = record { fits = omega (arith, e, digit wildcard) }
     digit true = omega arith
     digit false = omega arith
 
-module _ (request book table links heads : List ℕ) where
+module _ (request book table links heads onward : List ℕ) where
   -- the two ensures from one equation
   pub halves :
-      (d : List ℕ) {answer : RelevantSets} {numbers : List ℕ} → noted d (questions request book table links heads) ≡ record { answer = answer; numbers = numbers } →
-      (answer ≡ noted d (questions request book table links heads) .answer) × (numbers ≡ noted d (questions request book table links heads) .numbers)
+      (d : List ℕ) {answer : RelevantSets} {numbers : List ℕ} → noted d (questions request book table links heads onward) ≡ record { answer = answer; numbers = numbers } →
+      (answer ≡ noted d (questions request book table links heads onward) .answer) × (numbers ≡ noted d (questions request book table links heads onward) .numbers)
   halves d e = (sym (ap (λ (k : NotedQuestions). k .answer) e), sym (ap (λ (k : NotedQuestions). k .numbers) e))
 
   abbrev from : ℕ → ℕ → List NameQuestion
-  from steps at = questionsFrom request book table links heads steps at
+  from steps at = questionsFrom request book table links heads onward steps at
 
   -- the array was d; with steps enough for the names left
   pub record Noting (d numbers : List ℕ) (n at : ℕ) : Type 0 where
     pub steps : ℕ
     pub enough : length request ≤ steps + at
-    pub left : noted d (questions request book table links heads) ≡ notedBehind n numbers (questionsFrom request book table links heads steps at)
+    pub left : noted d (questions request book table links heads onward) ≡ notedBehind n numbers (questionsFrom request book table links heads onward steps at)
     pub same-length : length numbers ≡ length d
 
   pub note-start : (d : List ℕ) → Noting d d 0 0
@@ -56,7 +56,7 @@ module _ (request book table links heads : List ℕ) where
     pub note-length : length numbers ≡ length d
     note-length = m .same-length
 
-    pub note-over : length request ≤ at → noted d (questions request book table links heads) ≡ record { answer = Noted n; numbers = numbers }
+    pub note-over : length request ≤ at → noted d (questions request book table links heads onward) ≡ record { answer = Noted n; numbers = numbers }
     note-over h = m .left ∙ ap (notedBehind n numbers) (none (m .steps))
       where
         none : (steps : ℕ) → from steps at ≡ []
@@ -65,40 +65,40 @@ module _ (request book table links heads : List ℕ) where
 
     module _ (h : at < length request) (o : RequestedRead) (f : o ≡ requestedAt request at) where
       -- with one step for this name
-      one : (k : ℕ) × (length request ≤ suc k + at) × (from (m .steps) at ≡ questionOf request book table links heads o (from k))
+      one : (k : ℕ) × (length request ≤ suc k + at) × (from (m .steps) at ≡ questionOf request book table links heads onward o (from k))
       one = go (m .steps) (m .enough)
         where
-          go : (steps : ℕ) → length request ≤ steps + at → (k : ℕ) × (length request ≤ suc k + at) × (from steps at ≡ questionOf request book table links heads o (from k))
+          go : (steps : ℕ) → length request ≤ steps + at → (k : ℕ) × (length request ≤ suc k + at) × (from steps at ≡ questionOf request book table links heads onward o (from k))
           go zero e = absurd (omega arith)
           go (suc k) e = (k, e, rw (lt-leb (length request) at h, ← f))
 
-      pub bad-name : o ≡ Fault → noted d (questions request book table links heads) ≡ record { answer = Unknown; numbers = numbers }
-      bad-name g = m .left ∙ ap (notedBehind n numbers) (one .2 ∙ ap (λ r. questionOf request book table links heads r (from (one .0))) g)
+      pub bad-name : o ≡ Fault → noted d (questions request book table links heads onward) ≡ record { answer = Unknown; numbers = numbers }
+      bad-name g = m .left ∙ ap (notedBehind n numbers) (one .2 ∙ ap (λ r. questionOf request book table links heads onward r (from (one .0))) g)
 
       pub base-first : (r : Requested) → o ≡ Good r → r .base ≤ r .next
       base-first r g = omega (arith, requested-there request at o f r g .1 .onward)
 
       module _ (r : Requested) (g : o ≡ Good r) (p : FirstRecord)
-          (e : p ≡ nearestRecord book table links heads (take (r .next - r .base) (drop (r .base) request))) where
-        by-name : noted d (questions request book table links heads) ≡ notedBehind n numbers (questionBy (r .wildcard) p ∷ from (one .0) (r .next))
+          (e : p ≡ nearestRecord book table links heads onward (take (r .next - r .base) (drop (r .base) request))) where
+        by-name : noted d (questions request book table links heads onward) ≡ notedBehind n numbers (questionBy (r .wildcard) p ∷ from (one .0) (r .next))
         by-name =
             m .left
             ∙ ap (notedBehind n numbers)
-            (one .2 ∙ ap (λ q. questionOf request book table links heads q (from (one .0))) g
+            (one .2 ∙ ap (λ q. questionOf request book table links heads onward q (from (one .0))) g
             ∙ ap (λ b. questionBy (r .wildcard) b ∷ from (one .0) (r .next)) (sym e))
 
-        onward :
-            {numbers′ : List ℕ} {n′ : ℕ} → noted d (questions request book table links heads) ≡ notedBehind n′ numbers′ (from (one .0) (r .next)) → length numbers′ ≡ length d →
+        noted-on :
+            {numbers′ : List ℕ} {n′ : ℕ} → noted d (questions request book table links heads onward) ≡ notedBehind n′ numbers′ (from (one .0) (r .next)) → length numbers′ ≡ length d →
             Noting d numbers′ n′ (r .next)
-        onward k l = record { steps = one .0; enough = omega (arith, one .1, next-after request at o f r g); left = k; same-length = l }
+        noted-on k l = record { steps = one .0; enough = omega (arith, one .1, next-after request at o f r g); left = k; same-length = l }
 
         pub nothing-relevant : p ≡ Nothing → Noting d numbers n (r .next)
-        nothing-relevant k = onward (by-name ∙ rw k) (m .same-length)
+        nothing-relevant k = noted-on (by-name ∙ rw k) (m .same-length)
 
         module _ (s : RecordNo) (k : p ≡ At s) where
-          pub no-room : length numbers ≤ n → noted d (questions request book table links heads) ≡ record { answer = Unknown; numbers = numbers }
+          pub no-room : length numbers ≤ n → noted d (questions request book table links heads onward) ≡ record { answer = Unknown; numbers = numbers }
           no-room l = by-name ∙ rw (k, le-ltb n (length numbers) l)
 
           pub one-noted : n < length numbers → (q : ℕ) → q ≡ questionNumber s (r .wildcard) → Noting d (set numbers n q) (n + 1) (r .next)
           one-noted l q b =
-              onward (by-name ∙ rw (k, lt-ltb n (length numbers) l, b, add-one n)) (length-set numbers n q ∙ m .same-length)
+              noted-on (by-name ∙ rw (k, lt-ltb n (length numbers) l, b, add-one n)) (length-set numbers n q ∙ m .same-length)

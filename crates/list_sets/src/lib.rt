@@ -16,10 +16,11 @@ pub fn note_questions(
     table: &[u16],
     links: &[u16],
     heads: &[u16],
+    onward: &[u16],
     numbers: &mut [u16],
 ) -> RelevantSets
-    ensures answer { λ r. ⌜ r ≡ noted (now (numbers .entry)) (questions (now (request .entry)) (now (book .entry)) (now (table .entry)) (now (links .entry)) (now (heads .entry))) .answer ⌝ }
-    ensures numbers { λ r. ⌜ now (numbers .exit) ≡ noted (now (numbers .entry)) (questions (now (request .entry)) (now (book .entry)) (now (table .entry)) (now (links .entry)) (now (heads .entry))) .numbers ⌝ }
+    ensures answer { λ r. ⌜ r ≡ noted (now (numbers .entry)) (questions (now (request .entry)) (now (book .entry)) (now (table .entry)) (now (links .entry)) (now (heads .entry)) (now (onward .entry))) .answer ⌝ }
+    ensures numbers { λ r. ⌜ now (numbers .exit) ≡ noted (now (numbers .entry)) (questions (now (request .entry)) (now (book .entry)) (now (table .entry)) (now (links .entry)) (now (heads .entry)) (now (onward .entry))) .numbers ⌝ }
 {
     let mut n: usize = 0;
     let mut at: usize = 0;
@@ -36,6 +37,7 @@ pub fn note_questions(
             table,
             links,
             heads,
+            onward,
             &request[base..next],
         ) else {
             continue;

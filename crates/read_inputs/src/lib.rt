@@ -14,7 +14,7 @@ fn check_applicant_and_book(account: &[u8], method: &[u8], book: &[u8]) -> Check
 {
     match read_applicant::check_applicant(account, method) {
         Check::Refused(r) => Check::Refused(r),
-        Check::Accepted => read_record::check_book(book),
+        Check::Accepted => book_check::check_book(book),
     }
 }
 

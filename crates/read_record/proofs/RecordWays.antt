@@ -1,14 +1,16 @@
--- A law for each return of read_record_fields, of read_record and of is_laid_out.
+-- A law for each return of read_record_fields, of read_record, of is_target and of is_laid_out.
 use Prim.Native.Nat.{ℕ, _≤_, _<_, _+_, _-_}
 use native.Mathlib.Omega.{arith}
 use mathlib.Core.Path.{_≡_, sym, subst, _∙_}
-use mathlib.Core.Bool.{Bool, not, true, false, true≢false}
-use mathlib.Core.List.{List}
-use mathlib.Core.Option.{Option·none-ne-some}
-use lib.ListN.{length, take, drop}
-use borrow.Author.Tests.{not-true, not-false}
+use mathlib.Core.Bool.{Bool, not, true, false, true≢false, and-true}
+use mathlib.Core.List.{List, [], _∷_}
+use mathlib.Core.Option.{some, Option·none-ne-some}
+use lib.Dec.{eqb}
+use lib.ListN.{length, take, drop, length-drop}
+use borrow.Author.Tests.{not-true, not-false, eq-eqb, ne-eqb}
 use Rattle.spec_octets.specs.Reader.{valueFrom}
 use Rattle.spec_octets.proofs.ReaderLaws.{nothing-found, pure-some}
+use Rattle.spec_name.specs.Names.{Name}
 use Rattle.read_name.specs.declared.NameEnd.{NameEnd}
 use Rattle.read_name.specs.declared.NameEnd.the-variants.{At, Fault as NameFault}
 use Rattle.read_name.specs.Places.{nameEnd}
@@ -17,21 +19,41 @@ use Rattle.read_record.specs.declared.RecordAt.{RecordAt}
 use Rattle.read_record.specs.declared.RecordRead.{RecordRead}
 use Rattle.read_record.specs.declared.RecordRead.the-variants.{Good, Fault}
 use Rattle.spec_record.specs.Property.{property}
-use Rattle.spec_record.specs.Records.{Record, isCaa, isCaaData, isLaidOut, resourceRecord}
+use Rattle.spec_record.specs.Records.{Record, isCaa, isAlias, filling, target, isSome, isCaaData, isLaidOut, resourceRecord}
+use Rattle.spec_record.proofs.KindLaws.{caa-no-alias}
 use Rattle.read_record.specs.Places.{recordFields, fieldsAt, recordAt}
 use Rattle.read_record.proofs.RecordFields.{recordFrom, placesFrom, Whole, fields-read}
 use Rattle.read_record.proofs.FieldsAndData.{fields-and-data}
 use Rattle.read_record.proofs.RecordPlaces.{RecordTo, fields-at, record-to, fields-faults, record-faults, no-fields, fields-there}
 
--- is_laid_out: data of a type that is checked, and any other
+-- is_target
+module _ (d : List ℕ) (o : NameEnd) (f : o ≡ nameEnd d 0) where
+  pub no-target : o ≡ NameFault → false ≡ isSome (target d)
+  unfolding target
+  no-target g = rw (name-faults d 0 .0 (cc))
+
+  pub target-there : (e : ℕ) → o ≡ At e → (r : Bool) → r ≡ eqb e (length d) → r ≡ isSome (target d)
+  unfolding target
+  target-there e g r h = let (n, k) = name-there d 0 o e f g in rw (k .found, h) (go n (drop e d) (length-drop e d) (k .inside))
+    where
+      go : (n : Name) (rest : List ℕ) → length rest ≡ length d - e → e ≤ length d → eqb e (length d) ≡ isSome (filling (some (n, rest)))
+      go n [] l i = eq-eqb e (length d) (omega arith)
+      go n (x ∷ s) l i = ne-eqb e (length d) (omega arith)
+
+-- is_laid_out: data of the types that are checked, and any other
 module _ (type class : ℕ) (d : List ℕ) (b : Bool) (e : b ≡ isCaa type class) where
   pub laid-out-as-caa : (r : Bool) → b ≡ true → r ≡ isCaaData (property d) → r ≡ isLaidOut type class d
   unfolding isLaidOut
-  laid-out-as-caa r t h = rw (← e, t) h
+  laid-out-as-caa r t h = rw (caa-no-alias type class (sym e ∙ t), ← e, t, and-true) h
 
-  pub laid-out-anyhow : b ≡ false → true ≡ isLaidOut type class d
-  unfolding isLaidOut
-  laid-out-anyhow t = rw (← e, t)
+  module _ (a : Bool) (f : a ≡ isAlias type class) (n : b ≡ false) where
+    pub laid-out-as-alias : (r : Bool) → a ≡ true → r ≡ isSome (target d) → r ≡ isLaidOut type class d
+    unfolding isLaidOut
+    laid-out-as-alias r t h = rw (← e, n, ← f, t) h
+
+    pub laid-out-anyhow : a ≡ false → true ≡ isLaidOut type class d
+    unfolding isLaidOut
+    laid-out-anyhow t = rw (← e, n, ← f, t)
 
 -- read_record_fields
 module _ (s : List ℕ) (at : ℕ) (o : NameEnd) (f : o ≡ nameEnd s at) where

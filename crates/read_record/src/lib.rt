@@ -2,16 +2,16 @@
 use read_name::NameEnd;
 use spec_limits::MAX_BOOK_OCTETS;
 use spec_limits::MAX_RECORDS;
-use spec_refusal::Check;
 use spec_refusal::RecordNo;
 use spec_refusal::Refusal;
 ghost use mathlib.Core.Path.{_≡_};
 ghost use Prim.Native.Nat.{_+_, _≤_};
 ghost use lib.ListN.{length, take, drop};
-ghost use Rattle.spec_refusal.specs.Checks.{checked};
+ghost use mathlib.Core.Bool.{_||_};
 ghost use Rattle.spec_octets.specs.Reader.{valueFrom};
-ghost use Rattle.spec_record.specs.Records.{isCaa, isLaidOut, bookRefusal};
+ghost use Rattle.spec_record.specs.Records.{isCaa, isAlias, target, isSome, isLaidOut};
 ghost use Rattle.read_record.specs.Places.{fieldsAt, recordAt};
+ghost use Rattle.read_record.specs.Layouts.{layoutOf};
 
 // Class 1 with type 257 is a CAA record.
 pub fn is_caa(rtype: usize, class: usize) -> bool
@@ -23,12 +23,35 @@ pub fn is_caa(rtype: usize, class: usize) -> bool
     false
 }
 
+// Class 1 with type 5 is an alias.
+pub fn is_alias(rtype: usize, class: usize) -> bool
+    ensures { λ r. ⌜ r ≡ isAlias rtype class ⌝ }
+{
+    if class == 1 {
+        return rtype == 5;
+    }
+    false
+}
+
+// Whether one name fills the data.
+fn is_target(d: &[u8]) -> bool
+    ensures { λ r. ⌜ r ≡ isSome (target (now (d .entry))) ⌝ }
+{
+    let NameEnd::At(end) = read_name::name_end(d, 0) else {
+        return false;
+    };
+    end == d.len()
+}
+
 // Whether data is well formed for its type and class.
 fn is_laid_out(rtype: usize, class: usize, d: &[u8]) -> bool
     ensures { λ r. ⌜ r ≡ isLaidOut rtype class (now (d .entry)) ⌝ }
 {
     if is_caa(rtype, class) {
         return read_property::is_caa_data(d);
+    }
+    if is_alias(rtype, class) {
+        return is_target(d);
     }
     true
 }
@@ -100,24 +123,46 @@ pub fn read_record(s: &[u8], at: usize) -> RecordRead
     RecordRead::Good(r)
 }
 
-// Refusals 5, 6 and 7.
-pub fn check_book(b: &[u8]) -> Check
-    ensures { λ r. ⌜ r ≡ checked (bookRefusal (now (b .entry))) ⌝ }
+// The result of checking the records of a book: refused, or well formed without or with aliases.
+pub enum BookLayout {
+    Refused(Refusal),
+    WithoutAliases,
+    WithAliases,
+}
+
+// Whether one of two tests passes.
+fn either(a: bool, b: bool) -> bool
+    ensures { λ r. ⌜ r ≡ a || b ⌝ }
+{
+    if a {
+        return true;
+    }
+    b
+}
+
+// Refusals 5, 6 and 7; and if there are none, whether there is an alias among the records.
+pub fn check_records(b: &[u8]) -> BookLayout
+    ensures { λ r. ⌜ r ≡ layoutOf (now (b .entry)) ⌝ }
 {
     if MAX_BOOK_OCTETS < b.len() {
-        return Check::Refused(Refusal::BookTooLong);
+        return BookLayout::Refused(Refusal::BookTooLong);
     }
     let mut at: usize = 0;
     let mut k: usize = 0;
+    let mut aliased = false;
     while at < b.len() {
         if k == MAX_RECORDS {
-            return Check::Refused(Refusal::TooManyRecords);
+            return BookLayout::Refused(Refusal::TooManyRecords);
         }
         let RecordRead::Good(r) = read_record(b, at) else {
-            return Check::Refused(Refusal::BadRecord(RecordNo(k)));
+            return BookLayout::Refused(Refusal::BadRecord(RecordNo(k)));
         };
+        aliased = either(aliased, is_alias(r.rtype, r.class));
         at = r.next;
         k += 1;
     }
-    Check::Accepted
+    if aliased {
+        return BookLayout::WithAliases;
+    }
+    BookLayout::WithoutAliases
 }

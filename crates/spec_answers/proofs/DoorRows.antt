@@ -8,7 +8,7 @@ use mathlib.Core.List.{List, [], _∷_, List·Memᴰ}
 use lib.Dec.{eqb}
 use borrow.Author.Tests.{eqb-true}
 use Rattle.spec_refusal.specs.declared.Refusal.{Refusal}
-use Rattle.spec_refusal.specs.declared.Refusal.the-variants.{RequestTooLong, BadName, TooManyNames, BadIssuer, BookTooLong, BadRecord, TooManyRecords, NoRoom, BadAccountOrMethod}
+use Rattle.spec_refusal.specs.declared.Refusal.the-variants.{RequestTooLong, BadName, TooManyNames, BadIssuer, BookTooLong, BadRecord, TooManyRecords, AliasConflict, NoRoom, BadAccountOrMethod}
 use Rattle.spec_refusal.specs.Refusal.{number, place}
 use Rattle.spec_refusal.specs.Order.{order, standsAt, rank}
 use Rattle.spec_octets.specs.Lists.{all, any}
@@ -19,7 +19,7 @@ use Rattle.spec_record.specs.Theorems.{BookRow}
 use Rattle.spec_applicant.specs.Theorems.{ApplicantRow}
 use Rattle.spec_applicant.specs.Applicant.{Applicant}
 use Rattle.spec_rule.specs.Theorems.{RoomRow, JudgeRow, ListRow, FirstRow}
-use Rattle.spec_answers.specs.Door.{RequestTable, row-1, row-2, row-3, IssuerTable, row-4, ApplicantTable, row-15, BookTable, row-5, row-6, row-7, RoomTable, row-8, JudgeTable, ListTable, FirstToHold, NoneHolds}
+use Rattle.spec_answers.specs.Door.{RequestTable, row-1, row-2, row-3, IssuerTable, row-4, ApplicantTable, row-15, BookTable, row-5, row-6, row-7, row-12, RoomTable, row-8, JudgeTable, ListTable, FirstToHold, NoneHolds}
 
 -- a row by number and place, as a row of a refusal
 abbrev Found : (Refusal → Type 0) → ℕ → ℕ → Type 0
@@ -83,12 +83,14 @@ book-rows b = record { table-of = table-of; of-table = λ n p h. of-table h }
     table-of : (r : Refusal) → BookRow b r → BookTable b (number r) (place r)
     table-of r (inl (e, h)) = rw e (row-5 h)
     table-of r (inr (inl (k, e, h))) = rw e (row-6 k h)
-    table-of r (inr (inr (e, h))) = rw e (row-7 h)
+    table-of r (inr (inr (inl (e, h)))) = rw e (row-7 h)
+    table-of r (inr (inr (inr (k, e, h)))) = rw e (row-12 k h)
 
     of-table : {n p : ℕ} → BookTable b n p → Found (BookRow b) n p
     of-table (row-5 h) = (BookTooLong, refl, refl, inl (refl, h))
     of-table (row-6 k h) = (BadRecord (record { 0 = k }), refl, refl, inr (inl (k, refl, h)))
-    of-table (row-7 h) = (TooManyRecords, refl, refl, inr (inr (refl, h)))
+    of-table (row-7 h) = (TooManyRecords, refl, refl, inr (inr (inl (refl, h))))
+    of-table (row-12 k h) = (AliasConflict (record { 0 = k }), refl, refl, inr (inr (inr (k, refl, h))))
 
 room-rows : (request : List ℕ) (who : Applicant) (book buffer : List ℕ) → SameRows (RoomTable request who book buffer) (RoomRow request who book buffer)
 unfolding number place

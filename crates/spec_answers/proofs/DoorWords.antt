@@ -3,10 +3,10 @@ use Prim.Native.Nat.{ℕ, _≤_}
 use native.Mathlib.Omega.{arith}
 use mathlib.Core.Path.{_≡_, refl}
 use Rattle.spec_refusal.specs.declared.Refusal.{Refusal}
-use Rattle.spec_refusal.specs.declared.Refusal.the-variants.{RequestTooLong, BadName, TooManyNames, BadIssuer, BookTooLong, BadRecord, TooManyRecords, NoRoom, BadLine, LineTooLong, BadData, BadAccountOrMethod}
+use Rattle.spec_refusal.specs.declared.Refusal.the-variants.{RequestTooLong, BadName, TooManyNames, BadIssuer, BookTooLong, BadRecord, TooManyRecords, AliasConflict, NoRoom, BadLine, LineTooLong, BadData, BadAccountOrMethod}
 use Rattle.spec_refusal.specs.Refusal.{number, place}
 use Rattle.spec_rule.specs.declared.Judgement.{Judgement}
-use Rattle.spec_rule.specs.declared.Judgement.the-variants.{Permitted, UnknownCritical, NotGranted, Refused}
+use Rattle.spec_rule.specs.declared.Judgement.the-variants.{Permitted, UnknownCritical, NotGranted, TooManyAliases, Refused}
 use Rattle.spec_rule.specs.declared.PermittedIssuers.{PermittedIssuers}
 use Rattle.spec_rule.specs.declared.PermittedIssuers.the-variants.{Anyone, Listed, Refused as ListRefused}
 use Rattle.spec_rule.specs.Verdicts.{denial}
@@ -25,6 +25,7 @@ number-range BadIssuer = omega arith
 number-range BookTooLong = omega arith
 number-range (BadRecord r) = omega arith
 number-range TooManyRecords = omega arith
+number-range (AliasConflict r) = omega arith
 number-range (NoRoom n) = omega arith
 number-range BadLine = omega arith
 number-range LineTooLong = omega arith
@@ -44,6 +45,7 @@ module _ (n a b c : ℕ) where
   judge-refused Permitted h low high = absurd (omega arith)
   judge-refused (UnknownCritical d) h low high = absurd (omega arith)
   judge-refused (NotGranted d) h low high = absurd (omega arith)
+  judge-refused (TooManyAliases d) h low high = absurd (omega arith)
   judge-refused (Refused r) h low high = (r, refl, omega arith, omega arith)
 
   pub judge-0 : (j : Judgement) → Holds (judgementCode j) → n ≡ 0 → j ≡ Permitted
@@ -51,6 +53,7 @@ module _ (n a b c : ℕ) where
   judge-0 Permitted h e = refl
   judge-0 (UnknownCritical d) h e = absurd (omega arith)
   judge-0 (NotGranted d) h e = absurd (omega arith)
+  judge-0 (TooManyAliases d) h e = absurd (omega arith)
   judge-0 (Refused r) h e = absurd (omega (arith, number-range r))
 
   pub judge-20 : (j : Judgement) → Holds (judgementCode j) → n ≡ 20 → j ≡ UnknownCritical (denial a b)
@@ -58,6 +61,7 @@ module _ (n a b c : ℕ) where
   judge-20 Permitted h e = absurd (omega arith)
   judge-20 (UnknownCritical d) h e = rw (h .1, h .2)
   judge-20 (NotGranted d) h e = absurd (omega arith)
+  judge-20 (TooManyAliases d) h e = absurd (omega arith)
   judge-20 (Refused r) h e = absurd (omega (arith, number-range r))
 
   pub judge-21 : (j : Judgement) → Holds (judgementCode j) → n ≡ 21 → j ≡ NotGranted (denial a b)
@@ -65,7 +69,16 @@ module _ (n a b c : ℕ) where
   judge-21 Permitted h e = absurd (omega arith)
   judge-21 (UnknownCritical d) h e = absurd (omega arith)
   judge-21 (NotGranted d) h e = rw (h .1, h .2)
+  judge-21 (TooManyAliases d) h e = absurd (omega arith)
   judge-21 (Refused r) h e = absurd (omega (arith, number-range r))
+
+  pub judge-22 : (j : Judgement) → Holds (judgementCode j) → n ≡ 22 → j ≡ TooManyAliases (denial a b)
+  unfolding judgementCode
+  judge-22 Permitted h e = absurd (omega arith)
+  judge-22 (UnknownCritical d) h e = absurd (omega arith)
+  judge-22 (NotGranted d) h e = absurd (omega arith)
+  judge-22 (TooManyAliases d) h e = rw (h .1, h .2)
+  judge-22 (Refused r) h e = absurd (omega (arith, number-range r))
 
   -- the fields that it has no use for
   pub judge-b : (j : Judgement) → Holds (judgementCode j) → n ≤ 19 → b ≡ 0
@@ -73,6 +86,7 @@ module _ (n a b c : ℕ) where
   judge-b Permitted h less = h .2
   judge-b (UnknownCritical d) h less = absurd (omega arith)
   judge-b (NotGranted d) h less = absurd (omega arith)
+  judge-b (TooManyAliases d) h less = absurd (omega arith)
   judge-b (Refused r) h less = h .2
 
   pub judge-a : (j : Judgement) → Holds (judgementCode j) → n ≡ 0 → a ≡ 0

@@ -26,7 +26,7 @@ use Rattle.spec_applicant.specs.Applicant.{Applicant, applicantRefusal}
 use Rattle.spec_applicant.proofs.Texts.{applicant-refusals}
 use Rattle.spec_rule.specs.declared.PermittedIssuers.{PermittedIssuers}
 use Rattle.spec_rule.specs.declared.PermittedIssuers.the-variants.{Anyone, Listed, Refused}
-use Rattle.spec_rule.specs.RelevantSet.{caaRecords}
+use Rattle.spec_rule.specs.RelevantSet.{asBook}
 use Rattle.spec_rule.specs.IssuerLists.{Issuers, anyone, listed, issuers, entries}
 use Rattle.spec_rule.specs.Calls.{Listing, authorizations, listIssuers, permittedIssuersCode}
 use Rattle.spec_rule.specs.Meaning.{Unrestricted}
@@ -126,7 +126,7 @@ module _ (request : List ℕ) (who : Applicant) (book buffer : List ℕ) (reques
       go none none none e f g = (e, f, g)
       go (some r) b c e f g = absurd (never r (λ n. omega (arith, request-refusals request request-octets .3 r e)) (rw e))
       go none (some r) c e f g = absurd (never r (λ n. omega (arith, ap number (applicant-refusals who .2 r f))) (rw (e, f)))
-      go none none (some r) e f g = absurd (never r (λ n. omega (arith, book-refusals book book-octets .3 r g)) (rw (e, f, g)))
+      go none none (some r) e f g = absurd (never r (λ n. ⊎-elim (λ k. omega arith) (λ k. omega arith) (book-refusals book book-octets .4 r g)) (rw (e, f, g)))
 
   tells : Unrefused → ListingTells request who book buffer L
   tells never =
@@ -141,7 +141,7 @@ module _ (request : List ℕ) (who : Applicant) (book buffer : List ℕ) (reques
   at-31 n = let e = list-31 _ _ _ _ (L .answer) u n in (e, λ r f. listed≢refused (sym e ∙ f))
 
   abbrev Free : Type 0
-  Free = All (Unrestricted (caaRecords (records book))) (requestedNames request)
+  Free = All (Unrestricted (asBook (records book))) (requestedNames request)
 
   anyone-exactly : (numberIn W ≡ 30) ↔ (None × Free)
   anyone-exactly = (
@@ -230,7 +230,7 @@ module _ (request : List ℕ) (who : Applicant) (book buffer : List ℕ) (reques
   length-kept (Listed count octets) e = tells (λ r f. listed≢refused (sym e ∙ f)) .length-stays
   length-kept (Refused r) e = ap length (list-refusals request who book buffer request-octets book-octets r .1 e)
 
-  number-found : (x : PermittedIssuers) → L .answer ≡ x → List·Memᴰ (numberIn W) (1 ∷ 2 ∷ 3 ∷ 15 ∷ 5 ∷ 6 ∷ 7 ∷ 8 ∷ 30 ∷ 31 ∷ [])
+  number-found : (x : PermittedIssuers) → L .answer ≡ x → List·Memᴰ (numberIn W) (1 ∷ 2 ∷ 3 ∷ 15 ∷ 5 ∷ 6 ∷ 7 ∷ 12 ∷ 8 ∷ 30 ∷ 31 ∷ [])
   unfolding permittedIssuersCode
   number-found Anyone e = rw (of-answer _ _ _ _ permittedIssuersCode e u .0) (one-of 30 _ refl)
   number-found (Listed count octets) e = rw (of-answer _ _ _ _ permittedIssuersCode e u .0) (one-of 31 _ refl)

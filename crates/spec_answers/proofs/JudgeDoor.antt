@@ -14,8 +14,8 @@ use Rattle.spec_record.specs.Records.{records, bookRefusal}
 use Rattle.spec_record.proofs.Book.{book-is-its-records}
 use Rattle.spec_applicant.specs.Applicant.{Applicant, applicantRefusal}
 use Rattle.spec_rule.specs.declared.Judgement.{Judgement}
-use Rattle.spec_rule.specs.declared.Judgement.the-variants.{Permitted, UnknownCritical, NotGranted, Refused}
-use Rattle.spec_rule.specs.RelevantSet.{caaRecords}
+use Rattle.spec_rule.specs.declared.Judgement.the-variants.{Permitted, UnknownCritical, NotGranted, TooManyAliases, Refused}
+use Rattle.spec_rule.specs.RelevantSet.{asBook}
 use Rattle.spec_rule.specs.Verdicts.{denial}
 use Rattle.spec_rule.specs.Calls.{judge, judgementCode}
 use Rattle.spec_rule.specs.Theorems.{Verdict-on}
@@ -25,7 +25,7 @@ use Rattle.spec_packed.specs.Packed.{numberIn, fieldA, fieldB, fieldC}
 use Rattle.spec_answers.specs.Door.{caaJudgeFor, JudgeTable, FirstToHold, NoneHolds, JudgeWord, Caa-judge-for}
 use Rattle.spec_answers.proofs.JudgementUnpacks.{judgement-unpacks}
 use Rattle.spec_answers.proofs.DoorRows.{judge-rows, one-of, among, none-holds, never-refuses, refuses-exactly}
-use Rattle.spec_answers.proofs.DoorWords.{Holds, of-answer, judge-refused, judge-0, judge-20, judge-21, judge-b, judge-a}
+use Rattle.spec_answers.proofs.DoorWords.{Holds, of-answer, judge-refused, judge-0, judge-20, judge-21, judge-22, judge-b, judge-a}
 
 apart : _≡_ {A = ℕ} 0 1 → ⊥
 apart e = omega arith
@@ -66,7 +66,7 @@ module _ (request issuer : List ℕ) (who : Applicant) (book : List ℕ) where
   None = NoneHolds (JudgeTable request issuer who book)
 
   abbrev Ruled : Type 0
-  Ruled = Verdict-on who (caaRecords (records book)) (requestedNames request) issuer j
+  Ruled = Verdict-on who (asBook (records book)) (requestedNames request) issuer j
 
   module _ (request-octets : Octets request) (book-octets : Octets book) where
     none-held : ((r : Refusal) → j ≡ Refused r → ⊥) → None
@@ -95,11 +95,12 @@ module _ (request issuer : List ℕ) (who : Applicant) (book : List ℕ) where
         refuses-exactly (judge-rows request issuer who book) (λ r. j ≡ Refused r) (judge-refusals request issuer who book request-octets book-octets)
         (numberIn w) (fieldA w) (judge-refused _ _ _ _ j u) (λ r e. let h = of-answer _ _ _ _ judgementCode e u in (h .0, h .1))
 
-    number-found : (j′ : Judgement) → j ≡ j′ → List·Memᴰ (numberIn w) (0 ∷ 1 ∷ 2 ∷ 3 ∷ 4 ∷ 15 ∷ 5 ∷ 6 ∷ 7 ∷ 20 ∷ 21 ∷ [])
+    number-found : (j′ : Judgement) → j ≡ j′ → List·Memᴰ (numberIn w) (0 ∷ 1 ∷ 2 ∷ 3 ∷ 4 ∷ 15 ∷ 5 ∷ 6 ∷ 7 ∷ 12 ∷ 20 ∷ 21 ∷ 22 ∷ [])
     unfolding judgementCode
     number-found Permitted e = rw (of-answer _ _ _ _ judgementCode e u .0) (one-of 0 _ refl)
     number-found (UnknownCritical d) e = rw (of-answer _ _ _ _ judgementCode e u .0) (one-of 20 _ refl)
     number-found (NotGranted d) e = rw (of-answer _ _ _ _ judgementCode e u .0) (one-of 21 _ refl)
+    number-found (TooManyAliases d) e = rw (of-answer _ _ _ _ judgementCode e u .0) (one-of 22 _ refl)
     number-found (Refused r) e =
         let row = judge-refusals request issuer who book request-octets book-octets r .0 e .0 in
         rw (of-answer _ _ _ _ judgementCode e u .0)
@@ -118,6 +119,10 @@ module _ (request issuer : List ℕ) (who : Applicant) (book : List ℕ) where
         λ (n, a, b). rw (← a, ← b) (judge-21 _ _ _ _ j u n),
         λ e. let h = of-answer _ _ _ _ judgementCode e u in (h .0, h .1, h .2),
       ) (λ v. v .2 k r);
+      too-many-aliases-exactly = λ k r. verdict-exactly (TooManyAliases (denial k r)) (λ q e. apart (cc)) (
+        λ (n, a, b). rw (← a, ← b) (judge-22 _ _ _ _ j u n),
+        λ e. let h = of-answer _ _ _ _ judgementCode e u in (h .0, h .1, h .2),
+      ) (λ v. v .3 k r);
       numbers = number-found j refl;
       c-unused = u .3;
       b-unused = judge-b _ _ _ _ j u;

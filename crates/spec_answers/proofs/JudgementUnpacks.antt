@@ -5,7 +5,7 @@ use Rattle.spec_limits.specs.Limits.{maxNames, maxRecords}
 use Rattle.spec_packed.specs.Packed.{packed}
 use Rattle.spec_packed.proofs.Unpacking.{number-small}
 use Rattle.spec_rule.specs.declared.Judgement.{Judgement}
-use Rattle.spec_rule.specs.declared.Judgement.the-variants.{Permitted, UnknownCritical, NotGranted, Refused}
+use Rattle.spec_rule.specs.declared.Judgement.the-variants.{Permitted, UnknownCritical, NotGranted, TooManyAliases, Refused}
 use Rattle.spec_rule.specs.Calls.{AnswerCode, judge, judgementCode}
 use Rattle.spec_answers.specs.Answers.{valueOf, packedCode, packedJudgement}
 use Rattle.spec_answers.specs.Theorems.{Unpacked, Judgement-unpacks}
@@ -20,6 +20,7 @@ unfolding packedJudgement judgementCode maxNames maxRecords
 fitting-unpacks Permitted h = told-unpacks (judgementCode Permitted) (omega arith) (omega arith) (omega arith)
 fitting-unpacks (UnknownCritical d) h = told-unpacks (judgementCode (UnknownCritical d)) (omega arith) (omega arith) (omega arith)
 fitting-unpacks (NotGranted d) h = told-unpacks (judgementCode (NotGranted d)) (omega arith) (omega arith) (omega arith)
+fitting-unpacks (TooManyAliases d) h = told-unpacks (judgementCode (TooManyAliases d)) (omega arith) (omega arith) (omega arith)
 fitting-unpacks (Refused r) h = told-unpacks (judgementCode (Refused r)) (number-small r) h (omega arith)
 
 pub judgement-unpacks : Judgement-unpacks

@@ -3,16 +3,18 @@ use Prim.Native.Nat.{ℕ, _≤_, _<_}
 use native.Mathlib.Omega.{arith}
 use mathlib.Core.Path.{_≡_, refl, sym, ap, _∙_}
 use mathlib.Core.Logic.{_↔_, _≢_, _⊎_, inl, inr, ⊎-elim}
-use mathlib.Core.List.{List, _++_}
+use mathlib.Core.Bool.{true}
+use mathlib.Core.List.{List, _++_, List·Memᴰ}
 use lib.Dec.{leb}
 use lib.ListN.{length, drop, length-append, length-drop}
 use lib.Seq.{take-at, drop-at}
 use borrow.Author.Tests.{leb-true, leb-false}
 use Rattle.spec_refusal.specs.declared.Refusal.{Refusal}
-use Rattle.spec_refusal.specs.declared.Refusal.the-variants.{RequestTooLong, BadName, TooManyNames, BadIssuer, BookTooLong, BadRecord, TooManyRecords, NoRoom, BadLine, LineTooLong, BadData, BadAccountOrMethod}
+use Rattle.spec_refusal.specs.declared.Refusal.the-variants.{RequestTooLong, BadName, TooManyNames, BadIssuer, BookTooLong, BadRecord, TooManyRecords, AliasConflict, NoRoom, BadLine, LineTooLong, BadData, BadAccountOrMethod}
 use Rattle.spec_refusal.specs.Refusal.{number, place}
 use Rattle.spec_refusal.proofs.Table.{number-and-place-tell}
-use Rattle.spec_octets.proofs.ListLaws.{true-or-false}
+use Rattle.spec_octets.specs.Lists.{all}
+use Rattle.spec_octets.proofs.ListLaws.{true-or-false, All-member, all-true}
 use Rattle.spec_record.specs.Property.{Property}
 use Rattle.spec_line.specs.declared.LineAnswer.{LineAnswer}
 use Rattle.spec_line.specs.declared.LineAnswer.the-variants.{Length, Refused}
@@ -23,20 +25,25 @@ use Rattle.spec_answers.specs.Door.{Outputs}
 use Rattle.spec_answers.proofs.DoorWords.{Holds, of-answer, number-range, line-refused, line-0}
 
 -- refusals 9 to 11 have the place 0
-place-0 : (r : Refusal) → 9 ≤ number r → place r ≡ 0
+place-0 : (r : Refusal) → 9 ≤ number r → number r ≤ 11 → place r ≡ 0
 unfolding number place
-place-0 RequestTooLong h = refl
-place-0 (BadName k) h = absurd (omega arith)
-place-0 TooManyNames h = absurd (omega arith)
-place-0 BadIssuer h = refl
-place-0 BookTooLong h = refl
-place-0 (BadRecord r) h = absurd (omega arith)
-place-0 TooManyRecords h = absurd (omega arith)
-place-0 (NoRoom n) h = absurd (omega arith)
-place-0 BadLine h = refl
-place-0 LineTooLong h = refl
-place-0 BadData h = refl
-place-0 BadAccountOrMethod h = refl
+place-0 RequestTooLong h l = refl
+place-0 (BadName k) h l = absurd (omega arith)
+place-0 TooManyNames h l = absurd (omega arith)
+place-0 BadIssuer h l = refl
+place-0 BookTooLong h l = refl
+place-0 (BadRecord r) h l = absurd (omega arith)
+place-0 TooManyRecords h l = absurd (omega arith)
+place-0 (AliasConflict r) h l = absurd (omega arith)
+place-0 (NoRoom n) h l = absurd (omega arith)
+place-0 BadLine h l = refl
+place-0 LineTooLong h l = refl
+place-0 BadData h l = refl
+place-0 BadAccountOrMethod h l = refl
+
+-- the numbers of the calls on lines are at most 11
+pub at-most-11 : {n : ℕ} (ns : List ℕ) → all (λ m. leb m 11) ns ≡ true → List·Memᴰ n ns → n ≤ 11
+at-most-11 {n} ns e there = leb-true n 11 (All-member (all-true (λ m. leb m 11) ns .0 e) there)
 
 -- x at the front, the rest as it was
 abbrev pub atFront : List ℕ → List ℕ → Output
@@ -71,15 +78,16 @@ module _ (o : Output) (buffer : List ℕ) (w : ℕ) (u : Holds (numberIn w) (fie
   no-room-word k = refused-word (NoRoom k)
 
   -- a refusal without a place is known by its number
-  pub placeless-word : (r : Refusal) → 9 ≤ number r → (numberIn w ≡ number r) ↔ (o .answer ≡ Refused r)
-  placeless-word r big = (
+  pub placeless-word : (r : Refusal) → 9 ≤ number r → number r ≤ 11 → (numberIn w ≡ number r) ↔ (o .answer ≡ Refused r)
+  placeless-word r big small = (
     λ n. let (q, e, nq, pq) = line-refused _ _ _ _ (o .answer) u (omega arith) in
-        refused-word r .0 (n, sym pq ∙ place-0 q (omega arith) ∙ sym (place-0 r big)),
+        refused-word r .0 (n, sym pq ∙ place-0 q (omega arith) (omega arith) ∙ sym (place-0 r big small)),
     λ e. refused-word r .1 e .0,
   )
 
-  pub a-unused : 9 ≤ numberIn w → fieldA w ≡ 0
-  a-unused big = let (q, e, nq, pq) = line-refused _ _ _ _ (o .answer) u (omega arith) in sym pq ∙ place-0 q (omega arith)
+  pub a-unused : 9 ≤ numberIn w → numberIn w ≤ 11 → fieldA w ≡ 0
+  a-unused big small =
+      let (q, e, nq, pq) = line-refused _ _ _ _ (o .answer) u (omega arith) in sym pq ∙ place-0 q (omega arith) (omega arith)
 
   pub outputs : (x : List ℕ) → o ≡ atFront x buffer → Outputs (record { word = w; buffer = o .buffer }) x
   unfolding lineCode

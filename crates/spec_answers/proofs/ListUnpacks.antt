@@ -44,7 +44,7 @@ module _ (request : List ℕ) (who : Applicant) (book buffer : List ℕ) (octets
       (length (entries ns) < 2 ^ 24) × (length ns < 2 ^ 16)
   unfolding maxBookOctets
   list-small f ns g =
-      let (whole, good, few, short) = book-is-its-records book octets (records book) .0 (f, refl) in (
+      let (whole, good, few, short, apart) = book-is-its-records book octets (records book) .0 (f, refl) in (
         omega (arith, entries-length ns, room-of-the-book request who book octets f ns g),
         omega (arith, count-less ns, room-of-the-book request who book octets f ns g),
       )

@@ -2,7 +2,7 @@
 use Prim.Native.Nat.{ℕ, suc, _+_, _^_, _≤_, _<_}
 use native.Mathlib.Omega.{arith}
 use mathlib.Core.Path.{_≡_, refl}
-use mathlib.Core.Bool.{Bool, true, false, cond}
+use mathlib.Core.Bool.{Bool, true, false, cond, true≢false}
 use mathlib.Core.List.{List, [], _∷_, map}
 use mathlib.Core.Option.{Option, none, some}
 use lib.ListN.{length, drop, length-append}
@@ -15,15 +15,17 @@ use Rattle.spec_octets.proofs.SelectedLists.{selects-all}
 use Rattle.spec_name.specs.Names.{Name}
 use Rattle.spec_request.specs.Request.{base, requestedName, nameItems, requestedNames}
 use Rattle.spec_record.specs.Property.{Property, property}
-use Rattle.spec_record.specs.Records.{Record, isCaa, resourceRecord, recordItems, records}
+use Rattle.spec_record.specs.Records.{Record, isCaa, isAlias, target, resourceRecord, recordItems, records}
+use Rattle.spec_record.specs.Kinds.{kept, ofKindFrom}
 use Rattle.spec_applicant.specs.Applicant.{Applicant}
 use Rattle.spec_rule.specs.declared.Judgement.{Judgement}
-use Rattle.spec_rule.specs.declared.Judgement.the-variants.{Permitted, UnknownCritical, NotGranted, Refused}
-use Rattle.spec_rule.specs.RelevantSet.{CaaRecord, found, withProperty, caaRecordsFrom, caaRecords, relevantSet}
+use Rattle.spec_rule.specs.declared.Judgement.the-variants.{Permitted, UnknownCritical, NotGranted, TooManyAliases, Refused}
+use Rattle.spec_rule.specs.Aliases.{Alias, asAlias, aliasesFrom, aliases}
+use Rattle.spec_rule.specs.RelevantSet.{CaaRecord, Book, empty, found, endless, asCaa, caaRecordsFrom, caaRecords, asBook, relevantSet}
 use Rattle.spec_rule.specs.Authorizations.{authorization}
 use Rattle.spec_rule.specs.Verdicts.{verdict}
 use Rattle.spec_rule.specs.Calls.{authorizations, firstRefusal, judgeChecks, refusedOr, judge}
-use Rattle.spec_rule.specs.Meaning.{LowestNot}
+use Rattle.spec_rule.specs.Meaning.{AliasOf, LowestNot}
 use Rattle.spec_rule.proofs.Lookups.{a-lookup}
 use Rattle.spec_rule.proofs.Nearest.{nearest-name-decides}
 use Rattle.spec_rule.proofs.VerdictLaws.{verdict-by-the-rule}
@@ -34,6 +36,7 @@ abbrev pub Fits : Judgement → Type 0
 Fits Permitted = Unit {0}
 Fits (UnknownCritical d) = (d .name .0 < maxNames) × (d .rr .0 < maxRecords)
 Fits (NotGranted d) = (d .name .0 < maxNames) × (d .rr .0 < maxRecords)
+Fits (TooManyAliases d) = (d .name .0 < maxNames) × (d .rr .0 < maxRecords)
 Fits (Refused r) = place r < 2 ^ 24
 
 refused-fits : (checks : List (Option Refusal)) (j : Judgement) → All PlaceFits checks → Fits j → Fits (refusedOr (firstRefusal checks) j)
@@ -42,39 +45,51 @@ refused-fits (none ∷ checks) j (all-cons h hs) k = refused-fits checks j hs k
 refused-fits (some r ∷ checks) j (all-cons h hs) k = h
 
 -- The verdict: a record's number is one of the book's, a name's one of the request's.
-abbrev Numbered : ℕ → List CaaRecord → Type 0
-Numbered m cs = All (λ c. c .number < m) cs
+-- records of one kind are numbered below their bound
+module _ {A B : Type 0} (isOf : ℕ → ℕ → Bool) (read : List ℕ → Option A) (made : ℕ → Name → A → B) (numberOf : B → ℕ)
+    (numbered : (k : ℕ) (x : Name) (a : A) → numberOf (made k x a) ≡ k) (m : ℕ) where
+  kind-numbered : (k : ℕ) (rs : List Record) → k + length rs ≤ m → All (λ b. numberOf b < m) (ofKindFrom isOf read made k rs)
+  kind-numbered k [] h = all-nil
+  kind-numbered k (r ∷ rs) h = All-join (one (isOf (r .type) (r .class)) (read (r .rdata))) (kind-numbered (suc k) rs (omega arith))
+    where
+      one : (t : Bool) (o : Option A) → All (λ b. numberOf b < m) (cond t (kept (made k (r .owner)) o) [])
+      one true none = all-nil
+      one true (some a) = all-cons {x = made k (r .owner) a} (rw (numbered k (r .owner) a) (omega arith)) all-nil
+      one false o = all-nil
 
-caa-numbered : (m k : ℕ) (rs : List Record) → k + length rs ≤ m → Numbered m (caaRecordsFrom k rs)
-caa-numbered m k [] h = all-nil
-caa-numbered m k (r ∷ rs) h = All-join (one (isCaa (r .type) (r .class)) (property (r .rdata))) (caa-numbered m (suc k) rs (omega arith))
-  where
-    one : (t : Bool) (p : Option Property) → Numbered m (cond t (withProperty k (r .owner) p) [])
-    one true none = all-nil
-    one true (some p) = all-cons {x = record { number = k; owner = r .owner; property = p }} (omega arith) all-nil
-    one false p = all-nil
+abbrev Numbered : ℕ → Book → Type 0
+Numbered m book = All (λ c. c .number < m) (book .caa) × All (λ a. a .number < m) (book .aliases)
 
-book-numbered : (b : List ℕ) → Numbered maxRecords (caaRecords (records b))
+book-numbered : (b : List ℕ) → Numbered maxRecords (asBook (records b))
 unfolding records recordItems
 book-numbered b =
-    let few = whole-within maxRecords (recordItems b) (items-within resourceRecord maxRecords b) in
-    caa-numbered maxRecords 0 (records b) (omega arith)
+    let few = whole-within maxRecords (recordItems b) (items-within resourceRecord maxRecords b) in (
+      kind-numbered isCaa property asCaa (λ c. c .number) (λ k x p. refl) maxRecords 0 (records b) (omega arith),
+      kind-numbered isAlias target asAlias (λ a. a .number) (λ k x t. refl) maxRecords 0 (records b) (omega arith),
+    )
 
 names-few : (s : List ℕ) → length (requestedNames s) ≤ maxNames
 unfolding requestedNames nameItems
 names-few s = whole-within maxNames (nameItems s) (items-within requestedName maxNames s)
 
 first-numbered :
-    {P : CaaRecord → Type 0} (m : ℕ) (book : List CaaRecord) → Numbered m book → (x : Name) (rs : List CaaRecord) (c : CaaRecord) →
+    {P : CaaRecord → Type 0} (m : ℕ) (book : Book) → Numbered m book → (x : Name) (rs : List CaaRecord) (c : CaaRecord) →
     relevantSet book x ≡ found rs → First P rs c → c .number < m
 first-numbered m book h x rs c e (before, after, f, p, ns) =
-    let (k, near) = nearest-name-decides book x .0 rs .0 e in
-    All-head (All-rest before (c ∷ after) (rw f at (selects-all (a-lookup book (drop k x) .1 rs .0 (near .1) .0) h)))
+    let (k, near) = nearest-name-decides book x .0 (found rs) (λ (g : found rs ≡ empty). true≢false (cc)) .0 e in
+    let (y, ends, selects, some-set) = a-lookup book (drop k x) .1 rs .0 (near .1) in
+    All-head (All-rest before (c ∷ after) (rw f at (selects-all selects (h .0))))
+
+first-alias-numbered : (m : ℕ) (book : Book) → Numbered m book → (x : Name) (r : ℕ) → relevantSet book x ≡ endless r → r < m
+first-alias-numbered m book h x r e =
+    let (k, near) = nearest-name-decides book x .0 (endless r) (λ (g : endless r ≡ empty). true≢false (cc)) .0 e in
+    let (y, leads, (a, (before, after, f, p, ns), number)) = a-lookup book (drop k x) .2 r .0 (near .1) in
+    rw (← number) (All-head (All-rest before (a ∷ after) (rw f at (h .1))))
 
 lowest-numbered : {P : Name → Type 0} (ns : List Name) (k : ℕ) (n : Name) → LowestNot P ns k n → k < length ns
 lowest-numbered ns k n (before, after, e, l, hs, q) = rw (e, length-append) (omega arith)
 
-module _ (who : Applicant) (book : List CaaRecord) (numbered : Numbered maxRecords book) (ns : List Name) (few : length ns ≤ maxNames) (d : List ℕ) where
+module _ (who : Applicant) (book : Book) (numbered : Numbered maxRecords book) (ns : List Name) (few : length ns ≤ maxNames) (d : List ℕ) where
   verdict-fits : Fits (verdict d (map (authorization who book) ns))
   verdict-fits = go (verdict d (map (authorization who book) ns)) refl
     where
@@ -86,11 +101,14 @@ module _ (who : Applicant) (book : List CaaRecord) (numbered : Numbered maxRecor
       go (NotGranted w) e =
           let (n, l, (rs, c, at, u, f, r)) = verdict-by-the-rule who book ns d .2 (w .name .0) (w .rr .0) .0 e in
           (omega (arith, lowest-numbered ns _ n l), rw r at (first-numbered maxRecords book numbered (base n) rs c at f))
-      go (Refused r) e = absurd (verdict-by-the-rule who book ns d .3 r e)
+      go (TooManyAliases w) e =
+          let (n, l, u) = verdict-by-the-rule who book ns d .3 (w .name .0) (w .rr .0) .0 e in
+          (omega (arith, lowest-numbered ns _ n l), first-alias-numbered maxRecords book numbered (base n) (w .rr .0) u)
+      go (Refused r) e = absurd (verdict-by-the-rule who book ns d .4 r e)
 
 pub judge-fits : (request issuer : List ℕ) (who : Applicant) (book : List ℕ) → Fits (judge request issuer who book)
 unfolding judge authorizations
 judge-fits request issuer who book =
     refused-fits (judgeChecks request issuer who book) (verdict issuer (authorizations request who book))
     (all-cons (request-fits request) (all-cons (issuer-fits issuer) (all-cons (applicant-fits who) (all-cons (book-fits book) all-nil))))
-    (verdict-fits who (caaRecords (records book)) (book-numbered book) (requestedNames request) (names-few request) issuer)
+    (verdict-fits who (asBook (records book)) (book-numbered book) (requestedNames request) (names-few request) issuer)

@@ -28,7 +28,7 @@ use Rattle.spec_answers.specs.Door.{caaWriteLine, caaReadLine, Outputs, 
 use Rattle.spec_answers.proofs.LineUnpacks.{FlagsFit, small-flags-unpack, read-line-unpacks}
 use Rattle.spec_answers.proofs.DoorRows.{one-of}
 use Rattle.spec_answers.proofs.DoorWords.{Holds, line-b}
-use Rattle.spec_answers.proofs.LineDoors.{fits-or-not, no-room-word, placeless-word, a-unused, outputs, atFront, Number, Fills, fills}
+use Rattle.spec_answers.proofs.LineDoors.{at-most-11, fits-or-not, no-room-word, placeless-word, a-unused, outputs, atFront, Number, Fills, fills}
 use Rattle.spec_answers.proofs.WriteLineDoor.{line-within, line-reads}
 
 -- a line stands for data, or it doesn't
@@ -87,7 +87,7 @@ module _ (s buffer : List ℕ) (octets : Octets s) where
     where
       large : length s ≤ maxLineOctets → maxDataOctets < length (wireProperty p) → ⊥
       large short over =
-          let ten = placeless-word O buffer W u LineTooLong (omega arith) .1 (read-refusals s buffer .0 .1 (inr (short, (p, stands, over)))) in
+          let ten = placeless-word O buffer W u LineTooLong (omega arith) (omega arith) .1 (read-refusals s buffer .0 .1 (inr (short, (p, stands, over)))) in
           omega arith
 
   writes-again : numberIn W ≡ 0 → (p : Property) → LineOf p s → (other : List ℕ) → length (line p) ≤ length other →
@@ -130,8 +130,8 @@ module _ (s buffer : List ℕ) (octets : Octets s) where
   read-line-word : ReadLineWord s buffer W (O .buffer)
   unfolding number
   read-line-word = record {
-    too-long-exactly = Iff·trans (placeless-word O buffer W u LineTooLong (omega arith)) (read-refusals s buffer .0);
-    bad-line-exactly = Iff·trans (placeless-word O buffer W u BadLine (omega arith)) (read-refusals s buffer .1);
+    too-long-exactly = Iff·trans (placeless-word O buffer W u LineTooLong (omega arith) (omega arith)) (read-refusals s buffer .0);
+    bad-line-exactly = Iff·trans (placeless-word O buffer W u BadLine (omega arith) (omega arith)) (read-refusals s buffer .1);
     no-room-exactly = λ n. Iff·trans (no-room-word O buffer W u n) (read-refusals s buffer .2 n);
     read-exactly = (
       λ n. let (p, (short, stands, fits), room) = k .output-exactly .0 n in (short, (p, stands, fits, room)),
@@ -147,7 +147,7 @@ module _ (s buffer : List ℕ) (octets : Octets s) where
     numbers = number-of (k .number-found);
     c-unused = u .3;
     b-unused = line-b _ _ _ _ (O .answer) u;
-    a-unused = a-unused O buffer W u;
+    a-unused = λ big. a-unused O buffer W u big (at-most-11 _ refl (number-of (k .number-found)));
   }
 
 pub caa-read-line : Caa-read-line

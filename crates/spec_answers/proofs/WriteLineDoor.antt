@@ -29,7 +29,7 @@ use Rattle.spec_answers.specs.Door.{caaWriteLine, caaReadLine, Outputs, 
 use Rattle.spec_answers.proofs.LineUnpacks.{written-line-unpacks, read-line-unpacks}
 use Rattle.spec_answers.proofs.DoorRows.{one-of}
 use Rattle.spec_answers.proofs.DoorWords.{Holds, line-b}
-use Rattle.spec_answers.proofs.LineDoors.{fits-or-not, no-room-word, placeless-word, a-unused, outputs, atFront, Number, Fills, fills}
+use Rattle.spec_answers.proofs.LineDoors.{at-most-11, fits-or-not, no-room-word, placeless-word, a-unused, outputs, atFront, Number, Fills, fills}
 
 -- the line of data within its limit is within the limit of lines
 pub line-within : (p : Property) → p .flags < 256 → 1 ≤ length (p .tag) → length (wireProperty p) ≤ maxDataOctets → length (line p) ≤ maxLineOctets
@@ -128,8 +128,8 @@ module _ (d buffer : List ℕ) (octets : Octets d) where
   write-line-word : WriteLineWord d buffer W (O .buffer)
   unfolding number
   write-line-word = record {
-    too-long-exactly = Iff·trans (placeless-word O buffer W u LineTooLong (omega arith)) (write-refusals d buffer .0);
-    bad-data-exactly = Iff·trans (placeless-word O buffer W u BadData (omega arith)) (write-refusals d buffer .1);
+    too-long-exactly = Iff·trans (placeless-word O buffer W u LineTooLong (omega arith) (omega arith)) (write-refusals d buffer .0);
+    bad-data-exactly = Iff·trans (placeless-word O buffer W u BadData (omega arith) (omega arith)) (write-refusals d buffer .1);
     no-room-exactly = λ n. Iff·trans (no-room-word O buffer W u n) (write-refusals d buffer .2 n);
     written-exactly = (
       λ n. let (p, (short, w), room) = k .output-exactly .0 n in (short, (p, w, room)),
@@ -144,7 +144,7 @@ module _ (d buffer : List ℕ) (octets : Octets d) where
     numbers = number-of (k .number-found);
     c-unused = u .3;
     b-unused = line-b _ _ _ _ (O .answer) u;
-    a-unused = λ big. a-unused O buffer W u (omega arith);
+    a-unused = λ big. a-unused O buffer W u (omega arith) (at-most-11 _ refl (number-of (k .number-found)));
   }
 
 pub caa-write-line : Caa-write-line

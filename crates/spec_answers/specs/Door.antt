@@ -3,7 +3,7 @@
 -- (`numberIn`, `fieldA`, `fieldB`, `fieldC` of spec_packed). Each statement is proved under its name in proofs/.
 --
 -- Where the terms of the statements are defined, in specs/ of the crate named:
---   Row-1 to Row-8, Row-15           the rows of the table of refusals: Theorems.antt of spec_request, spec_issuer, spec_record, spec_rule,
+--   Row-1 to Row-8, Row-12, Row-15   the rows of the table of refusals: Theorems.antt of spec_request, spec_issuer, spec_record, spec_rule,
 --                                    spec_applicant
 --   Applicant                        who asks, the account text and the method text: Applicant.antt of spec_applicant
 --   order                            the order of checks, as refusal numbers: Order.antt of spec_refusal
@@ -28,13 +28,13 @@ use Rattle.spec_issuer.specs.Issuer.{WellFormed}
 use Rattle.spec_issuer.specs.Theorems.{Row-4}
 use Rattle.spec_record.specs.Property.{Property, wireProperty}
 use Rattle.spec_record.specs.Records.{wireRecord, records, GoodRecord}
-use Rattle.spec_record.specs.Theorems.{Row-5, Row-6, Row-7}
+use Rattle.spec_record.specs.Theorems.{Row-5, Row-6, Row-7, Row-12}
 use Rattle.spec_applicant.specs.Applicant.{Applicant}
 use Rattle.spec_applicant.specs.Theorems.{Row-15}
-use Rattle.spec_rule.specs.RelevantSet.{CaaRecord, caaRecords}
+use Rattle.spec_rule.specs.RelevantSet.{CaaRecord, asBook}
 use Rattle.spec_rule.specs.IssuerLists.{entries, readEntry}
 use Rattle.spec_rule.specs.Calls.{judge, listIssuers}
-use Rattle.spec_rule.specs.Meaning.{Unrestricted, PermittedTo, ForbiddenBy, GovernedFrom, GoverningRecords, LowestNot, Before, GrantedBefore}
+use Rattle.spec_rule.specs.Meaning.{Unrestricted, PermittedTo, ForbiddenBy, GovernedFrom, GoverningRecords, UnresolvedFrom, LowestNot, Before, GrantedBefore}
 use Rattle.spec_rule.specs.Theorems.{Row-8}
 use Rattle.spec_line.specs.Written.{line}
 use Rattle.spec_line.specs.Grammar.{LineOf}
@@ -90,6 +90,8 @@ pub data BookTable (book : List ℕ) : ℕ → ℕ → Type 0 where
   row-6 : (k : ℕ) → Row-6 book k → BookTable book 6 k
   -- Octets are left after the maximum number of valid records.
   row-7 : Row-7 book → BookTable book 7 maxRecords
+  -- Record k has the same owner as a record before it, and one of the two is an alias, the other an alias or a CAA record.
+  row-12 : (k : ℕ) → Row-12 book k → BookTable book 12 k
 
 pub data RoomTable (request : List ℕ) (who : Applicant) (book buffer : List ℕ) : ℕ → ℕ → Type 0 where
   -- The output needs n octets, and the buffer has fewer.
@@ -112,11 +114,11 @@ NoneHolds row = (n p : ℕ) → row n p → ⊥
 
 -- The issuer may issue for every name of the request, to the applicant.
 abbrev pub EveryPermitted : List ℕ → List ℕ → Applicant → List ℕ → Type 0
-EveryPermitted request issuer who book = All (λ n. PermittedTo (caaRecords (records book)) n who issuer) (requestedNames request)
+EveryPermitted request issuer who book = All (λ n. PermittedTo (asBook (records book)) n who issuer) (requestedNames request)
 
 -- Name k of the request is n, the lowest for which the issuer may not issue.
 abbrev pub LowestDenied : List ℕ → List ℕ → Applicant → List ℕ → ℕ → Name → Type 0
-LowestDenied request issuer who book k n = LowestNot (λ m. PermittedTo (caaRecords (records book)) m who issuer) (requestedNames request) k n
+LowestDenied request issuer who book k n = LowestNot (λ m. PermittedTo (asBook (records book)) m who issuer) (requestedNames request) k n
 
 -- caa_judge_for: may the issuer issue for every name of the request?
 pub record JudgeWord (request issuer : List ℕ) (who : Applicant) (book : List ℕ) (word : ℕ) : Type 0 where
@@ -130,18 +132,24 @@ pub record JudgeWord (request issuer : List ℕ) (who : Applicant) (book : List 
   pub unknown-critical-exactly : (k r : ℕ) →
       ((numberIn word ≡ 20) × (fieldA word ≡ k) × (fieldB word ≡ r))
       ↔ (NoneHolds (JudgeTable request issuer who book)
-      × ((n : Name) × LowestDenied request issuer who book k n × ForbiddenBy (caaRecords (records book)) n r))
+      × ((n : Name) × LowestDenied request issuer who book k n × ForbiddenBy (asBook (records book)) n r))
   -- 21, not granted: exactly when no row holds, k in a is the lowest name denied, its relevant set has no critical record with an
   -- unknown tag, and r in b is the first record that governs it.
   pub not-granted-exactly : (k r : ℕ) →
       ((numberIn word ≡ 21) × (fieldA word ≡ k) × (fieldB word ≡ r))
       ↔ (NoneHolds (JudgeTable request issuer who book)
-      × ((n : Name) × LowestDenied request issuer who book k n × GovernedFrom (caaRecords (records book)) n r))
+      × ((n : Name) × LowestDenied request issuer who book k n × GovernedFrom (asBook (records book)) n r))
+  -- 22, too many aliases: exactly when no row holds, k in a is the lowest name denied, and r in b is the first alias of X, or of a name above it,
+  -- whose aliases don't end and by which the search ends.
+  pub too-many-aliases-exactly : (k r : ℕ) →
+      ((numberIn word ≡ 22) × (fieldA word ≡ k) × (fieldB word ≡ r))
+      ↔ (NoneHolds (JudgeTable request issuer who book)
+      × ((n : Name) × LowestDenied request issuer who book k n × UnresolvedFrom (asBook (records book)) n r))
   -- No other number is ever returned.
-  pub numbers : List·Memᴰ (numberIn word) (0 ∷ 1 ∷ 2 ∷ 3 ∷ 4 ∷ 15 ∷ 5 ∷ 6 ∷ 7 ∷ 20 ∷ 21 ∷ [])
+  pub numbers : List·Memᴰ (numberIn word) (0 ∷ 1 ∷ 2 ∷ 3 ∷ 4 ∷ 15 ∷ 5 ∷ 6 ∷ 7 ∷ 12 ∷ 20 ∷ 21 ∷ 22 ∷ [])
   -- Field c is always 0.
   pub c-unused : fieldC word ≡ 0
-  -- Field b is 0 except for 20 and 21.
+  -- Field b is 0 except for 20, 21 and 22.
   pub b-unused : numberIn word ≤ 19 → fieldB word ≡ 0
   -- Field a is 0 if the number is 0.
   pub a-unused : numberIn word ≡ 0 → fieldA word ≡ 0
@@ -171,7 +179,7 @@ pub record IssuersWord (request : List ℕ) (who : Applicant) (book buffer : Lis
   -- 30, anyone: exactly when no row holds and no requested name is restricted.
   pub anyone-exactly :
       (numberIn word ≡ 30)
-      ↔ (NoneHolds (ListTable request who book buffer) × All (Unrestricted (caaRecords (records book))) (requestedNames request))
+      ↔ (NoneHolds (ListTable request who book buffer) × All (Unrestricted (asBook (records book))) (requestedNames request))
   -- 30 changes no octet of the buffer.
   pub anyone-unchanged : numberIn word ≡ 30 → after ≡ buffer
   -- After 30, caa_judge_for permits every well-formed issuer domain name.
@@ -179,7 +187,7 @@ pub record IssuersWord (request : List ℕ) (who : Applicant) (book buffer : Lis
   -- 31, a list: exactly when no row holds and some requested name is restricted.
   pub listed-exactly :
       (numberIn word ≡ 31)
-      ↔ (NoneHolds (ListTable request who book buffer) × (All (Unrestricted (caaRecords (records book))) (requestedNames request) → ⊥))
+      ↔ (NoneHolds (ListTable request who book buffer) × (All (Unrestricted (asBook (records book))) (requestedNames request) → ⊥))
   -- The list can be read: b names in a octets at the start of the buffer.
   pub list-there : numberIn word ≡ 31 → (ns : List (List ℕ)) × Lists word after ns
   -- Reading b entries, each a length octet and that many octets, gives these names and uses all a octets.
@@ -193,8 +201,8 @@ pub record IssuersWord (request : List ℕ) (who : Applicant) (book buffer : Lis
   pub none-twice : (ns : List (List ℕ)) → Lists word after ns → Distinct ns
   -- The names are in the order of the records that govern the restricted name with the lowest number.
   pub in-order : (ns : List (List ℕ)) → Lists word after ns → (k : ℕ) (n : Name) (gs : List CaaRecord) →
-      LowestNot (Unrestricted (caaRecords (records book))) (requestedNames request) k n →
-      GoverningRecords (caaRecords (records book)) n gs → (a b : List ℕ) → List·Memᴰ a ns → List·Memᴰ b ns →
+      LowestNot (Unrestricted (asBook (records book))) (requestedNames request) k n →
+      GoverningRecords (asBook (records book)) n gs → (a b : List ℕ) → List·Memᴰ a ns → List·Memᴰ b ns →
       Before a b ns ↔ GrantedBefore who gs a b
   -- The octets after the list are unchanged.
   pub rest-stays : numberIn word ≡ 31 → drop (fieldA word) after ≡ drop (fieldA word) buffer
@@ -206,7 +214,7 @@ pub record IssuersWord (request : List ℕ) (who : Applicant) (book buffer : Lis
   pub room-asked-enough : numberIn word ≡ 8 → (other : List ℕ) → fieldA word ≤ length other →
       (numberIn (caaPermittedIssuersFor request who book other .word) ≡ 31) × (fieldA (caaPermittedIssuersFor request who book other .word) ≡ fieldA word)
   -- No other number is ever returned.
-  pub numbers : List·Memᴰ (numberIn word) (1 ∷ 2 ∷ 3 ∷ 15 ∷ 5 ∷ 6 ∷ 7 ∷ 8 ∷ 30 ∷ 31 ∷ [])
+  pub numbers : List·Memᴰ (numberIn word) (1 ∷ 2 ∷ 3 ∷ 15 ∷ 5 ∷ 6 ∷ 7 ∷ 12 ∷ 8 ∷ 30 ∷ 31 ∷ [])
   -- Field c is always 0.
   pub c-unused : fieldC word ≡ 0
   -- Field b is 0 except for 31.

@@ -2,14 +2,14 @@
 use Prim.Native.Nat.{ℕ}
 use mathlib.Core.Path.{_≡_}
 use mathlib.Core.List.{List}
-use Rattle.spec_refusal.specs.declared.Refusal.the-variants.{RequestTooLong, BadName, TooManyNames, BadIssuer, BookTooLong, BadRecord, TooManyRecords, NoRoom, BadLine, LineTooLong, BadData}
+use Rattle.spec_refusal.specs.declared.Refusal.the-variants.{RequestTooLong, BadName, TooManyNames, BadIssuer, BookTooLong, BadRecord, TooManyRecords, NoRoom, BadLine, LineTooLong, BadData, AliasConflict}
 use Rattle.spec_refusal.specs.Refusal.{number}
 use Rattle.spec_packed.specs.Packed.{numberIn, fieldA, fieldB, fieldC}
 use Rattle.spec_line.specs.declared.LineAnswer.the-variants.{Length, Refused as LineRefused}
 use Rattle.spec_line.specs.Calls.{writeLine, parseLine}
 use Rattle.spec_octets.specs.Octets.{Octets}
 use Rattle.spec_applicant.specs.Applicant.{Applicant}
-use Rattle.spec_rule.specs.declared.Judgement.the-variants.{Permitted, UnknownCritical, NotGranted, Refused}
+use Rattle.spec_rule.specs.declared.Judgement.the-variants.{Permitted, UnknownCritical, NotGranted, TooManyAliases, Refused}
 use Rattle.spec_rule.specs.declared.PermittedIssuers.the-variants.{Anyone, Listed, Refused as ListRefused}
 use Rattle.spec_rule.specs.Verdicts.{denial}
 use Rattle.spec_rule.specs.Calls.{AnswerCode, judge, judgementCode, listIssuers, permittedIssuersCode}
@@ -42,7 +42,7 @@ abbrev pub Read-line-unpacks : Type 0
 Read-line-unpacks = (s buffer : List ℕ) → Unpacked (packedLine (parseLine s buffer .answer)) (lineCode (parseLine s buffer .answer))
 
 -- Packed answers, worked out by hand: the number, plus the place or the first value times 256, plus the second value times 4294967296.
--- Names 7, 2 and 1, records 4, 5 and 3, 32 octets, a list of 2 names in 32 octets, a line of 36 octets.
+-- Names 7, 2, 1 and 3, records 4, 6, 5, 3 and 1, 32 octets, a list of 2 names in 32 octets, a line of 36 octets.
 abbrev pub Packed-answers : Type 0
 Packed-answers =
     (packedJudgement Permitted ≡ 0)
@@ -53,9 +53,12 @@ Packed-answers =
     × (packedJudgement (Refused BookTooLong) ≡ 5)
     × (packedJudgement (Refused (BadRecord (record { 0 = 4 }))) ≡ 1030)
     × (packedJudgement (Refused TooManyRecords) ≡ 262151)
+    × (packedJudgement (Refused (AliasConflict (record { 0 = 6 }))) ≡ 1548)
     × (packedJudgement (UnknownCritical (denial 2 5)) ≡ 21474837012)
     × (packedJudgement (NotGranted (denial 1 3)) ≡ 12884902165)
+    × (packedJudgement (TooManyAliases (denial 3 1)) ≡ 4294968086)
     × (packedIssuers (ListRefused (BadName (record { 0 = 7 }))) ≡ 1794)
+    × (packedIssuers (ListRefused (AliasConflict (record { 0 = 6 }))) ≡ 1548)
     × (packedIssuers (ListRefused (NoRoom 32)) ≡ 8200)
     × (packedIssuers Anyone ≡ 30)
     × (packedIssuers (Listed 2 32) ≡ 8589942815)
@@ -75,10 +78,12 @@ abbrev pub Largest-answers : Type 0
 Largest-answers =
     PackedAs (packedJudgement (UnknownCritical (denial 249 1023))) 4393751607572 20 249 1023
     × PackedAs (packedJudgement (NotGranted (denial 249 1023))) 4393751607573 21 249 1023
+    × PackedAs (packedJudgement (TooManyAliases (denial 249 1023))) 4393751607574 22 249 1023
     × PackedAs (packedJudgement (Refused (BadName (record { 0 = 249 })))) 63746 2 249 0
     × PackedAs (packedJudgement (Refused TooManyNames)) 64003 3 250 0
     × PackedAs (packedJudgement (Refused (BadRecord (record { 0 = 1023 })))) 261894 6 1023 0
     × PackedAs (packedJudgement (Refused TooManyRecords)) 262151 7 1024 0
+    × PackedAs (packedJudgement (Refused (AliasConflict (record { 0 = 1023 })))) 261900 12 1023 0
     × PackedAs (packedIssuers (Listed 1024 49152)) 4398059094047 31 49152 1024
     × PackedAs (packedIssuers (ListRefused (NoRoom 49152))) 12582920 8 49152 0
     × PackedAs (packedLine (Length 16384)) 4194304 0 16384 0

@@ -10,11 +10,11 @@ use Rattle.spec_desk.specs.Theorems.{Line-words, Line-examples}
 
 pub line-words : Line-words
 unfolding answerText
-line-words = (λ k r. simp append-assoc, λ k r. simp append-assoc, λ r. simp append-assoc)
+line-words = (λ k r. simp append-assoc, λ k r. simp append-assoc, λ k r. simp append-assoc, λ r. simp append-assoc)
 
 pub line-examples : Line-examples
 unfolding answerText decimal number place deskLine maxNames maxRecords
-line-examples = (refl, refl, refl, refl, refl, refl, refl, refl, refl, refl, λ request issuer who book. refl)
+line-examples = (refl, refl, refl, refl, refl, refl, refl, refl, refl, refl, refl, refl, λ request issuer who book. refl)
 
 pub judged : Judged
 unfolding deskLine

@@ -1,6 +1,6 @@
 -- The desk program's lines from the contents of its files, by computing.
 use mathlib.Core.Path.{refl}
-use Rattle.spec_limits.specs.Limits.{maxAccountOctets, maxLabelOctets, maxIssuerOctets, maxNameOctets, maxRequestOctets, maxNames, maxBookOctets, maxRecords}
+use Rattle.spec_limits.specs.Limits.{maxAccountOctets, maxAliases, maxLabelOctets, maxIssuerOctets, maxNameOctets, maxRequestOctets, maxNames, maxBookOctets, maxRecords}
 use Rattle.spec_octets.specs.Reader.{number}
 use Rattle.spec_name.specs.Names.{name}
 use Rattle.spec_octets.specs.Octets.{isDigit, isUpper, isLower, isLetterOrDigit, isBlank, lower, equalIgnoringCase, isParameterOctet}
@@ -8,7 +8,7 @@ use Rattle.spec_octets.specs.Label.{isLetterDigitHyphen, isLabel, isHostLabel}
 use Rattle.spec_request.specs.Request.{isWildcard, base, isRequestable, requestedName, nameItems, requestedNames, requestRefusal}
 use Rattle.spec_issuer.specs.Issuer.{isIssuer, issuerRefusal}
 use Rattle.spec_record.specs.Property.{readProperty, property, isCritical, tagOf}
-use Rattle.spec_record.specs.Records.{isCaa, isLaidOut, resourceRecord, recordItems, records, bookRefusal}
+use Rattle.spec_record.specs.Records.{isCaa, isAlias, target, isLaidOut, resourceRecord, recordItems, records, layoutRefusal, clashes, conflictRefusal, bookRefusal}
 use Rattle.spec_value.specs.IssueValues.{isDomainName, isParameterTag, isParameter, areParameters, issueValue}
 use Rattle.spec_octets.specs.WrittenDecimal.{decimal}
 use Rattle.spec_refusal.specs.Refusal.{number as refusalNumber, place}
@@ -25,8 +25,8 @@ use Rattle.spec_desk.specs.Theorems.{Desk-lines}
 pub desk-lines : Desk-lines
 unfolding maxLabelOctets maxIssuerOctets maxNameOctets maxRequestOctets maxNames maxBookOctets maxRecords isDigit isUpper isLower
     isLetterOrDigit isBlank lower equalIgnoringCase isLetterDigitHyphen isLabel isHostLabel isWildcard base isIssuer readProperty property
-    isCritical tagOf isCaa isDomainName isParameterOctet isParameterTag isParameter areParameters issueValue parameterIn parametersIn admits lookup relevantSet
+    isCritical tagOf isCaa isAlias target maxAliases isDomainName isParameterOctet isParameterTag isParameter areParameters issueValue parameterIn parametersIn admits lookup relevantSet
     isUnknownCritical governing grantee authorization verdict name isRequestable requestedName nameItems requestedNames requestRefusal
-    issuerRefusal maxAccountOctets isAccount isMethod isApplicant applicantRefusal isLaidOut resourceRecord recordItems records bookRefusal number authorizations judge
+    issuerRefusal maxAccountOctets isAccount isMethod isApplicant applicantRefusal isLaidOut resourceRecord recordItems records layoutRefusal clashes conflictRefusal bookRefusal number authorizations judge
     decimal refusalNumber place answerText deskLine
-desk-lines = (refl, refl, refl, refl, refl, refl, refl, refl, refl)
+desk-lines = (refl, refl, refl, refl, refl, refl, refl, refl, refl, refl, refl)

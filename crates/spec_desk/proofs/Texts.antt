@@ -13,12 +13,12 @@ use Rattle.spec_octets.specs.Pieces.{split, join}
 use Rattle.spec_octets.proofs.ListLaws.{told-apart, All-imp, All-head, all-true}
 use Rattle.spec_octets.proofs.PieceLaws.{pieces-join}
 use Rattle.spec_refusal.specs.declared.Refusal.{Refusal}
-use Rattle.spec_refusal.specs.declared.Refusal.the-variants.{RequestTooLong, BadName, TooManyNames, BadIssuer, BookTooLong, BadRecord, TooManyRecords, NoRoom, BadLine, LineTooLong, BadData, BadAccountOrMethod}
+use Rattle.spec_refusal.specs.declared.Refusal.the-variants.{RequestTooLong, BadName, TooManyNames, BadIssuer, BookTooLong, BadRecord, TooManyRecords, AliasConflict, NoRoom, BadLine, LineTooLong, BadData, BadAccountOrMethod}
 use Rattle.spec_refusal.specs.Refusal.{number, place}
 use Rattle.spec_refusal.proofs.Table.{number-and-place-tell}
 use Rattle.spec_rule.specs.declared.Denial.{Denial}
 use Rattle.spec_rule.specs.declared.Judgement.{Judgement}
-use Rattle.spec_rule.specs.declared.Judgement.the-variants.{Permitted, UnknownCritical, NotGranted, Refused}
+use Rattle.spec_rule.specs.declared.Judgement.the-variants.{Permitted, UnknownCritical, NotGranted, TooManyAliases, Refused}
 use Rattle.spec_rule.specs.Verdicts.{denial}
 use Rattle.spec_rule.specs.Calls.{judge, judgementCode}
 use Rattle.spec_octets.specs.WrittenDecimal.{decimal}
@@ -84,6 +84,7 @@ pub text-tells : Text-tells
 unfolding answerText judgementCode isLetterOrDigit isUpper isLower isDigit
 text-tells Permitted = refl
 text-tells (UnknownCritical d) = denial-tells 20 (text "20") (text "verdict 20 name ") refl (letters (text "20") refl) (λ ws. refl) d
+text-tells (TooManyAliases d) = denial-tells 22 (text "22") (text "verdict 22 name ") refl (letters (text "22") refl) (λ ws. refl) d
 text-tells (NotGranted d) = denial-tells 21 (text "21") (text "verdict 21 name ") refl (letters (text "21") refl) (λ ws. refl) d
 text-tells (Refused r) = refusal-tells (number r) (place r)
 
@@ -96,6 +97,7 @@ number-range BadIssuer = (omega arith, omega arith)
 number-range BookTooLong = (omega arith, omega arith)
 number-range (BadRecord r) = (omega arith, omega arith)
 number-range TooManyRecords = (omega arith, omega arith)
+number-range (AliasConflict r) = (omega arith, omega arith)
 number-range (NoRoom n) = (omega arith, omega arith)
 number-range BadLine = (omega arith, omega arith)
 number-range LineTooLong = (omega arith, omega arith)
@@ -111,18 +113,27 @@ unfolding judgementCode
 told-one Permitted Permitted n v = refl
 told-one Permitted (UnknownCritical e) n v = absurd (omega arith)
 told-one Permitted (NotGranted e) n v = absurd (omega arith)
+told-one Permitted (TooManyAliases e) n v = absurd (omega arith)
 told-one Permitted (Refused s) n v = absurd (omega (arith, number-range s .0))
 told-one (UnknownCritical d) Permitted n v = absurd (omega arith)
 told-one (UnknownCritical d) (UnknownCritical e) n v = ap UnknownCritical (denial-one d e (cc) (cc))
 told-one (UnknownCritical d) (NotGranted e) n v = absurd (omega arith)
+told-one (UnknownCritical d) (TooManyAliases e) n v = absurd (omega arith)
 told-one (UnknownCritical d) (Refused s) n v = absurd (omega (arith, number-range s .1))
 told-one (NotGranted d) Permitted n v = absurd (omega arith)
 told-one (NotGranted d) (UnknownCritical e) n v = absurd (omega arith)
 told-one (NotGranted d) (NotGranted e) n v = ap NotGranted (denial-one d e (cc) (cc))
+told-one (NotGranted d) (TooManyAliases e) n v = absurd (omega arith)
 told-one (NotGranted d) (Refused s) n v = absurd (omega (arith, number-range s .1))
 told-one (Refused r) Permitted n v = absurd (omega (arith, number-range r .0))
 told-one (Refused r) (UnknownCritical e) n v = absurd (omega (arith, number-range r .1))
 told-one (Refused r) (NotGranted e) n v = absurd (omega (arith, number-range r .1))
+told-one (Refused r) (TooManyAliases e) n v = absurd (omega (arith, number-range r .1))
+told-one (TooManyAliases d) Permitted n v = absurd (omega arith)
+told-one (TooManyAliases d) (UnknownCritical e) n v = absurd (omega arith)
+told-one (TooManyAliases d) (NotGranted e) n v = absurd (omega arith)
+told-one (TooManyAliases d) (TooManyAliases e) n v = ap TooManyAliases (denial-one d e (cc) (cc))
+told-one (TooManyAliases d) (Refused s) n v = absurd (omega (arith, number-range s .1))
 told-one (Refused r) (Refused s) n v = ap Refused (number-and-place-tell r s n (cc))
 
 pub lines-differ : Lines-differ

@@ -7,7 +7,7 @@ use Rattle.spec_refusal.specs.Refusal.{number, place}
 use Rattle.spec_applicant.specs.Applicant.{Applicant}
 use Rattle.spec_rule.specs.declared.Denial.{Denial}
 use Rattle.spec_rule.specs.declared.Judgement.{Judgement}
-use Rattle.spec_rule.specs.declared.Judgement.the-variants.{Permitted, UnknownCritical, NotGranted, Refused}
+use Rattle.spec_rule.specs.declared.Judgement.the-variants.{Permitted, UnknownCritical, NotGranted, TooManyAliases, Refused}
 use Rattle.spec_rule.specs.Calls.{judge}
 use Rattle.spec_octets.specs.WrittenDecimal.{decimal}
 
@@ -26,6 +26,7 @@ unfoldable pub answerText : Judgement → List ℕ
 answerText Permitted = text "verdict 0"
 answerText (UnknownCritical d) = denialText (text "verdict 20 name ") d
 answerText (NotGranted d) = denialText (text "verdict 21 name ") d
+answerText (TooManyAliases d) = denialText (text "verdict 22 name ") d
 answerText (Refused r) = numbered (text "refused ") (number r) (text " at ") (place r)
 
 abbrev pub judgementLine : Judgement → List ℕ

@@ -40,3 +40,7 @@ maxTagOctets = 255
 -- An account text, and a method text, of a request (RFC 8657).
 unfoldable pub maxAccountOctets : ℕ
 maxAccountOctets = 255
+
+-- The aliases that one lookup follows.
+unfoldable pub maxAliases : ℕ
+maxAliases = 8

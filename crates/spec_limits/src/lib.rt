@@ -20,3 +20,5 @@ pub const MAX_LINE_OCTETS: usize = 16384;
 pub const MAX_TAG_OCTETS: usize = 255;
 
 pub const MAX_ACCOUNT_OCTETS: usize = 255;
+
+pub const MAX_ALIASES: usize = 8;

@@ -3,7 +3,7 @@ use Prim.Native.Nat.{_^_, _<_}
 use native.Mathlib.Omega.{arith}
 use mathlib.Core.Path.{refl}
 use Rattle.spec_refusal.specs.declared.Refusal.{Refusal}
-use Rattle.spec_refusal.specs.declared.Refusal.the-variants.{RequestTooLong, BadName, TooManyNames, BadIssuer, BookTooLong, BadRecord, TooManyRecords, NoRoom, BadLine, LineTooLong, BadData, BadAccountOrMethod}
+use Rattle.spec_refusal.specs.declared.Refusal.the-variants.{RequestTooLong, BadName, TooManyNames, BadIssuer, BookTooLong, BadRecord, TooManyRecords, AliasConflict, NoRoom, BadLine, LineTooLong, BadData, BadAccountOrMethod}
 use Rattle.spec_refusal.specs.Refusal.{number, place}
 use Rattle.spec_packed.specs.Packed.{packed, packedRefusal}
 use Rattle.spec_packed.specs.Theorems.{Unpacks, Fields-apart, Refusal-unpacks, Packed-bits, Packed-example, Packed-refusals}
@@ -25,6 +25,7 @@ number-small BadIssuer = omega arith
 number-small BookTooLong = omega arith
 number-small (BadRecord r) = omega arith
 number-small TooManyRecords = omega arith
+number-small (AliasConflict r) = omega arith
 number-small (NoRoom n) = omega arith
 number-small BadLine = omega arith
 number-small LineTooLong = omega arith

@@ -2,24 +2,24 @@
 use Prim.Native.Nat.{ℕ}
 use native.Mathlib.Omega.{arith}
 use mathlib.Core.Path.{_≡_, refl, _∙_}
-use mathlib.Core.Logic.{_↔_, _⊎_, inl, inr}
-use mathlib.Core.Bool.{true, false, and-eq-true-iff, false≢true}
+use mathlib.Core.Logic.{_↔_, Iff·trans, Iff·and}
+use mathlib.Core.Bool.{Bool, true, false, not, _||_, and-eq-true-iff, false≢true}
 use mathlib.Core.List.{List, _++_, append-assoc}
 use mathlib.Core.Option.{Option, none, some}
-use lib.Dec.{eqb}
 use lib.ListN.{length}
-use borrow.Author.Tests.{eqb-true}
 use Rattle.spec_octets.specs.Reader.{inOctets}
-use Rattle.spec_octets.proofs.ListLaws.{true-or-false, all-true}
+use Rattle.spec_octets.proofs.ListLaws.{all-true}
 use Rattle.spec_octets.proofs.ReaderLaws.{given-some}
 use Rattle.spec_octets.proofs.Fields.{number-field, octets-field, then-read, then-stand, given-read}
 use Rattle.spec_name.specs.Names.{wire}
 use Rattle.spec_name.proofs.NameField.{name-field}
 use Rattle.spec_record.specs.Property.{Property, property}
-use Rattle.spec_record.specs.Records.{Record, wireRecord, isCaa, isCaaData, isLaidOut, resourceRecord, GoodData, GoodRecord}
+use Rattle.spec_record.specs.Records.{Record, wireRecord, target, isSome, isCaaData, isLaidOut, resourceRecord, GoodData, GoodRecord}
 use Rattle.spec_record.specs.Theorems.{Record-is-its-fields, Record-example}
 use Rattle.spec_record.specs.Pinned.{Record-form}
 use Rattle.spec_record.proofs.PropertyLaws.{property-is-its-parts}
+use Rattle.spec_record.proofs.AliasLaws.{target-is-its-name}
+use Rattle.spec_record.proofs.KindLaws.{caa-exactly, alias-exactly}
 
 pub caa-data : (d : List ℕ) → isCaaData (property d) ≡ true → (p : Property) × (property d ≡ some p) × (isCaaData (some p) ≡ true)
 caa-data d = go (property d)
@@ -28,22 +28,28 @@ caa-data d = go (property d)
     go none e = absurd (false≢true e)
     go (some p) e = (p, refl, e)
 
-laid-out : (type class : ℕ) (d : List ℕ) → (isLaidOut type class d ≡ true) ↔ GoodData type class d
-unfolding isLaidOut isCaa
-laid-out type class d = (found, λ h. go h (true-or-false (isCaa type class)))
-  where
-    found : isLaidOut type class d ≡ true → GoodData type class d
-    found h caa one =
-        let (p, e, tag) = caa-data d (rw (caa, one) at h) in
-        let (written, long) = property-is-its-parts d p .0 e in
-        (p, written, long, all-true _ _ .0 tag)
+some-there : {A : Type 0} (o : Option A) → isSome o ≡ true → (a : A) × (o ≡ some a)
+some-there none e = absurd (false≢true e)
+some-there (some a) e = (a, refl)
 
-    go : GoodData type class d → (isCaa type class ≡ true) ⊎ (isCaa type class ≡ false) → isLaidOut type class d ≡ true
-    go h (inl e) =
-        let (caa, one) = and-eq-true-iff (eqb type 257) (eqb class 1) .0 e in
-        let (p, written, long, tag) = h (eqb-true type 257 caa) (eqb-true class 1 one) in
-        rw (e, property-is-its-parts d p .1 (written, long)) (all-true _ _ .1 tag)
-    go h (inr e) = rw e
+-- one clause of the data rule: `t` tests type and class, `good` the data
+clause : {T C G : Type 0} (t good : Bool) → (t ≡ true) ↔ (T × C) → (good ≡ true) ↔ G → (not t || good ≡ true) ↔ (T → C → G)
+clause true good kind law = (λ e x y. law .0 e, λ h. let (x, y) = kind .0 refl in law .1 (h x y))
+clause false good kind law = (λ e x y. absurd (false≢true (kind .1 (x, y))), λ h. refl)
+
+pub laid-out : (type class : ℕ) (d : List ℕ) → (isLaidOut type class d ≡ true) ↔ GoodData type class d
+unfolding isLaidOut
+laid-out type class d =
+    Iff·trans (and-eq-true-iff _ _)
+    (Iff·and
+    (clause _ _ (caa-exactly type class) (
+      λ h. let (p, e, tag) = caa-data d h in let (written, long) = property-is-its-parts d p .0 e in (p, written, long, all-true _ _ .0 tag),
+      λ h. rw (property-is-its-parts d (h .0) .1 (h .1, h .2)) (all-true _ _ .1 (h .3)),
+    ))
+    (clause _ _ (alias-exactly type class) (
+      λ h. let (t, e) = some-there (target d) h in let (written, good) = target-is-its-name d t .0 e in (t, written, good),
+      λ h. rw (target-is-its-name d (h .0) .1 (h .1, h .2)),
+    )))
 
 -- the fields, each before all that follows it
 abbrev fields : Record → List ℕ → List ℕ

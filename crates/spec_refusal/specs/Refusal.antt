@@ -3,7 +3,7 @@
 use Prim.Native.Nat.{ℕ}
 use Rattle.spec_limits.specs.Limits.{maxNames, maxRecords}
 use Rattle.spec_refusal.specs.declared.Refusal.{Refusal}
-use Rattle.spec_refusal.specs.declared.Refusal.the-variants.{RequestTooLong, BadName, TooManyNames, BadIssuer, BookTooLong, BadRecord, TooManyRecords, NoRoom, BadLine, LineTooLong, BadData, BadAccountOrMethod}
+use Rattle.spec_refusal.specs.declared.Refusal.the-variants.{RequestTooLong, BadName, TooManyNames, BadIssuer, BookTooLong, BadRecord, TooManyRecords, NoRoom, BadLine, LineTooLong, BadData, AliasConflict, BadAccountOrMethod}
 
 unfoldable pub number : Refusal → ℕ
 number RequestTooLong = 1
@@ -17,6 +17,7 @@ number (NoRoom n) = 8
 number BadLine = 9
 number LineTooLong = 10
 number BadData = 11
+number (AliasConflict r) = 12
 number BadAccountOrMethod = 15
 
 unfoldable pub place : Refusal → ℕ
@@ -31,4 +32,5 @@ place (NoRoom n) = n
 place BadLine = 0
 place LineTooLong = 0
 place BadData = 0
+place (AliasConflict r) = r .0
 place BadAccountOrMethod = 0

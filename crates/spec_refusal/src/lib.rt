@@ -25,6 +25,8 @@ pub enum Refusal {
     // A line, or its CAA data, is over its limit.
     LineTooLong,
     BadData,
+    // The owner of this record has an alias and a CAA record, or two aliases.
+    AliasConflict(RecordNo),
     // The account text, the method text or both break a rule.
     BadAccountOrMethod,
 }
@@ -51,6 +53,7 @@ pub fn number_of(r: Refusal) -> u64
         Refusal::BadLine => 9,
         Refusal::LineTooLong => 10,
         Refusal::BadData => 11,
+        Refusal::AliasConflict(_) => 12,
         Refusal::BadAccountOrMethod => 15,
     }
 }
@@ -71,6 +74,7 @@ pub fn place_of(r: Refusal) -> usize
         Refusal::BadLine => 0,
         Refusal::LineTooLong => 0,
         Refusal::BadData => 0,
+        Refusal::AliasConflict(k) => k.0,
         Refusal::BadAccountOrMethod => 0,
     }
 }

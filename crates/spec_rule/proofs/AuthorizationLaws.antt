@@ -25,9 +25,9 @@ use Rattle.spec_value.proofs.NamedParameters.{parameters-by-the-grammar}
 use Rattle.spec_applicant.specs.Applicant.{Applicant}
 use Rattle.spec_applicant.specs.Admission.{admits}
 use Rattle.spec_applicant.proofs.Admissions.{admits-exactly}
-use Rattle.spec_rule.specs.RelevantSet.{CaaRecord, Lookup, empty, found, relevantSet}
-use Rattle.spec_rule.specs.Authorizations.{Authorization, unrestricted, forbidden, granted, isIssueTag, isIssueWildTag, isUnknownTag, propertyTag, isUnknownCritical, isIssue, isIssueWild, orElse, governing, granteeOfValue, grantee, consSome, grantees, governedBy, unlessForbidden, authorizationFrom, authorization, permits}
-use Rattle.spec_rule.specs.Meaning.{Tagged, UnknownCriticalRecord, Governs, Grants, Relevant, Unrestricted, GrantedTo, PermittedTo, ForbiddenBy, GovernedFrom, GoverningRecords}
+use Rattle.spec_rule.specs.RelevantSet.{CaaRecord, Book, Lookup, empty, found, endless, relevantSet}
+use Rattle.spec_rule.specs.Authorizations.{Authorization, unrestricted, forbidden, granted, unresolved, isIssueTag, isIssueWildTag, isUnknownTag, propertyTag, isUnknownCritical, isIssue, isIssueWild, orElse, governing, granteeOfValue, grantee, consSome, grantees, governedBy, unlessForbidden, authorizationFrom, authorization, permits}
+use Rattle.spec_rule.specs.Meaning.{Tagged, UnknownCriticalRecord, Governs, Grants, Relevant, Unrestricted, GrantedTo, PermittedTo, ForbiddenBy, GovernedFrom, GoverningRecords, UnresolvedFrom}
 
 -- each test of a tag passes one tag only
 only :
@@ -131,11 +131,12 @@ module _ (who : Applicant) where
   granted-permits (g ∷ gs) d h = any-same (lowered d) (grantees who (g ∷ gs)) .1 (grantees-exactly (g ∷ gs) (lowered d) .1 h)
 
   -- what an answer says of the name
-  module _ (book : List CaaRecord) (n : Name) where
+  module _ (book : Book) (n : Name) where
     abbrev pub Says : Authorization → Type 0
     Says unrestricted = Unrestricted book n
     Says (forbidden r) = ForbiddenBy book n r
     Says (granted r ns) = GovernedFrom book n r × ((gs : List CaaRecord) × GoverningRecords book n gs × (ns ≡ grantees who gs))
+    Says (unresolved r) = UnresolvedFrom book n r
 
     pub authorization-says : Says (authorization who book n)
     unfolding authorization
@@ -154,6 +155,7 @@ module _ (who : Applicant) where
         of : (l : Lookup) → relevantSet book (base n) ≡ l → Says (authorizationFrom who (isWildcard n) l)
         of empty e = inl e
         of (found rs) e = among rs e (select isUnknownCritical rs) (governing (isWildcard n) rs) refl refl
+        of (endless r) e = e
 
     -- the governing records alone decide, where there is no unknown critical record
     pub governed : (gs : List CaaRecord) → GoverningRecords book n gs → authorization who book n ≡ governedBy who gs
@@ -176,6 +178,10 @@ module _ (who : Applicant) where
       λ (rs, c, e, f, k). rw (e, first-selects (critical-selects rs) f .1, k),
     )
 
+    pub unresolved-exactly : (r : ℕ) → (authorization who book n ≡ unresolved r) ↔ UnresolvedFrom book n r
+    unfolding authorization
+    unresolved-exactly r = (λ e. rw e at authorization-says, λ e. rw e)
+
     pub granted-governs : (r : ℕ) (ns : List (List ℕ)) → authorization who book n ≡ granted r ns → Says (granted r ns)
     granted-governs r ns e = rw e at authorization-says
 
@@ -185,13 +191,14 @@ module _ (who : Applicant) where
         let (zs, h) = first-selects s f in
         (grantees who (c ∷ zs), governed (c ∷ zs) (rs, e, none-critical, rw h at s) ∙ ap (λ m. granted m (grantees who (c ∷ zs))) k)
 
-  module _ (book : List CaaRecord) (n : Name) (d : List ℕ) where
+  module _ (book : Book) (n : Name) (d : List ℕ) where
     pub permits-exactly : (permits d (authorization who book n) ≡ true) ↔ PermittedTo book n who d
     permits-exactly = (permitted (authorization who book n) (authorization-says book n), ⊎-elim open-to-all granted-to)
       where
         permitted : (a : Authorization) → Says book n a → permits d a ≡ true → PermittedTo book n who d
         permitted unrestricted s e = inl s
         permitted (forbidden r) s e = absurd (false≢true e)
+        permitted (unresolved r) s e = absurd (false≢true e)
         permitted (granted r ns) (g, (gs, (rs, re, c, sel), k)) e =
             inr (rs, re, c, any-of-kept sel (grantees-exactly gs (lowered d) .0 (rw k at (any-same (lowered d) ns .0 e))))
 

@@ -111,43 +111,83 @@ placed-row {c} law only same = one-check c
     (λ r h. inl (law (h .0) .1 (h .2) ∙ ap some (sym (h .1))))
     (λ r h. List·Memᴰ·head (ap number (h .1) ∙ same (h .0)))
 
--- a check of a sequence of items: too many octets, which is checked first, a malformed item, too many items
+-- a check of octets: too many, which is checked first, and later rows, which give their refusal where there are not too many
+pub limited-rows :
+    {c : Option Refusal} {long : Refusal} {size limit : ℕ} {Later : Refusal → Type 0} {i : ℕ} {ns : List ℕ} →
+    (c ≡ some long) ↔ (limit < size) → ((r : Refusal) → c ≡ some r → (r ≡ long) ⊎ Later r) → ((r : Refusal) → Later r → size ≤ limit → c ≡ some r) →
+    ((r : Refusal) → Later r → List·Memᴰ (number r) ns) → number long ≡ i → before (i ∷ []) ns ≡ true →
+    Keeps (c ∷ []) (λ r. ((r ≡ long) × (limit < size)) ⊎ Later r) (i ∷ ns)
+limited-rows {c} {long} {size} {limit} {Later} {i} {ns} over faults fits there is-i sorted =
+    one-check c (λ r e. ⊎-elim (λ f. inl (f, over .0 (e ∙ ap some f))) inr (faults r e)) reached numbered
+  where
+    reached : (r : Refusal) → ((r ≡ long) × (limit < size)) ⊎ Later r → Reached c r
+    reached r (inl (e, h)) = inl (over .1 h ∙ ap some (sym e))
+    reached r (inr h) = ⊎-elim
+        (λ t. inl (fits r h (leb-true size limit t)))
+        (λ t. inr (long, over .1 (leb-false size limit t), earlier sorted (List·Memᴰ·head {xs = []} is-i) (there r h)))
+        (true-or-false (leb size limit))
+
+    numbered : (r : Refusal) → ((r ≡ long) × (limit < size)) ⊎ Later r → List·Memᴰ (number r) (i ∷ ns)
+    numbered r (inl (e, h)) = List·Memᴰ·head (ap number e ∙ is-i)
+    numbered r (inr h) = List·Memᴰ·tail (there r h)
+
+-- a row without a place, and one with a place: how a check gives its refusal
+abbrev pub Row : Refusal → Type 0 → Refusal → Type 0
+Row x row r = (r ≡ x) × row
+
+abbrev pub PlacedRow : (ℕ → Refusal) → (ℕ → Type 0) → Refusal → Type 0
+PlacedRow x row r = (k : ℕ) × (r ≡ x k) × row k
+
+module _ {c : Option Refusal} {size limit : ℕ} where
+  row-due : {x : Refusal} {row : Type 0} → (c ≡ some x) ↔ ((size ≤ limit) × row) → {r : Refusal} → c ≡ some r → r ≡ x → Row x row r
+  row-due law e f = (f, law .0 (e ∙ ap some f) .1)
+
+  row-fits : {x : Refusal} {row : Type 0} → (c ≡ some x) ↔ ((size ≤ limit) × row) → {r : Refusal} → Row x row r → size ≤ limit → c ≡ some r
+  row-fits law (f, h) fits = law .1 (fits, h) ∙ ap some (sym f)
+
+  placed-due :
+      {x : ℕ → Refusal} {row : ℕ → Type 0} → ((k : ℕ) → (c ≡ some (x k)) ↔ ((size ≤ limit) × row k)) → {r : Refusal} → c ≡ some r →
+      (k : ℕ) × (r ≡ x k) → PlacedRow x row r
+  placed-due law e (k, f) = (k, f, law k .0 (e ∙ ap some f) .1)
+
+  placed-fits :
+      {x : ℕ → Refusal} {row : ℕ → Type 0} → ((k : ℕ) → (c ≡ some (x k)) ↔ ((size ≤ limit) × row k)) → {r : Refusal} → PlacedRow x row r →
+      size ≤ limit → c ≡ some r
+  placed-fits law (k, f, h) fits = law k .1 (fits, h) ∙ ap some (sym f)
+
+-- a sequence of items: too many octets, a malformed item, too many items
 pub three-rows :
     {c : Option Refusal} {long many : Refusal} {bad : ℕ → Refusal} {size limit : ℕ} {B : ℕ → Type 0} {O : Type 0} {i j k : ℕ} →
     (c ≡ some long) ↔ (limit < size) → ((n : ℕ) → (c ≡ some (bad n)) ↔ ((size ≤ limit) × B n)) → (c ≡ some many) ↔ ((size ≤ limit) × O) →
     ((r : Refusal) → c ≡ some r → (r ≡ long) ⊎ ((n : ℕ) × (r ≡ bad n)) ⊎ (r ≡ many)) →
     number long ≡ i → ((n : ℕ) → number (bad n) ≡ j) → number many ≡ k → before (i ∷ []) (j ∷ k ∷ []) ≡ true →
-    Keeps (c ∷ []) (λ r. ((r ≡ long) × (limit < size)) ⊎ ((n : ℕ) × (r ≡ bad n) × B n) ⊎ ((r ≡ many) × O)) (i ∷ j ∷ k ∷ [])
-three-rows {c} {long} {many} {bad} {size} {limit} {B} {O} {i} {j} {k} over broken beyond faults is-i is-j is-k sorted =
-    one-check c (λ r e. due r e (faults r e)) reached numbered
-  where
-    Rows : Refusal → Type 0
-    Rows r = ((r ≡ long) × (limit < size)) ⊎ ((n : ℕ) × (r ≡ bad n) × B n) ⊎ ((r ≡ many) × O)
+    Keeps (c ∷ []) (λ r. ((r ≡ long) × (limit < size)) ⊎ PlacedRow bad B r ⊎ Row many O r) (i ∷ j ∷ k ∷ [])
+three-rows over broken beyond faults is-i is-j is-k sorted = limited-rows over
+    (λ r e. ⊎-elim inl (λ f. inr (⊎-elim (λ g. inl (placed-due broken e g)) (λ g. inr (row-due beyond e g)) f)) (faults r e))
+    (λ r. ⊎-elim (placed-fits broken) (row-fits beyond))
+    (λ r. ⊎-elim (λ h. List·Memᴰ·head (ap number (h .1) ∙ is-j (h .0))) (λ h. List·Memᴰ·tail (List·Memᴰ·head (ap number (h .0) ∙ is-k))))
+    is-i sorted
 
-    due : (r : Refusal) → c ≡ some r → (r ≡ long) ⊎ ((n : ℕ) × (r ≡ bad n)) ⊎ (r ≡ many) → Rows r
-    due r e (inl f) = inl (f, over .0 (e ∙ ap some f))
-    due r e (inr (inl (n, f))) = inr (inl (n, f, broken n .0 (e ∙ ap some f) .1))
-    due r e (inr (inr f)) = inr (inr (f, beyond .0 (e ∙ ap some f) .1))
-
-    -- a row behind the first
-    later : (r : Refusal) → List·Memᴰ (number r) (j ∷ k ∷ []) → (size ≤ limit → c ≡ some r) → Reached c r
-    later r there fits = ⊎-elim
-        (λ t. inl (fits (leb-true size limit t)))
-        (λ t. inr (long, over .1 (leb-false size limit t), earlier sorted (List·Memᴰ·head {xs = []} is-i) there))
-        (true-or-false (leb size limit))
-
-    at-j : (r : Refusal) (n : ℕ) → r ≡ bad n → List·Memᴰ (number r) (j ∷ k ∷ [])
-    at-j r n e = List·Memᴰ·head (ap number e ∙ is-j n)
-
-    at-k : (r : Refusal) → r ≡ many → List·Memᴰ (number r) (j ∷ k ∷ [])
-    at-k r e = List·Memᴰ·tail (List·Memᴰ·head (ap number e ∙ is-k))
-
-    reached : (r : Refusal) → Rows r → Reached c r
-    reached r (inl (e, h)) = inl (over .1 h ∙ ap some (sym e))
-    reached r (inr (inl (n, e, h))) = later r (at-j r n e) (λ fits. broken n .1 (fits, h) ∙ ap some (sym e))
-    reached r (inr (inr (e, h))) = later r (at-k r e) (λ fits. beyond .1 (fits, h) ∙ ap some (sym e))
-
-    numbered : (r : Refusal) → Rows r → List·Memᴰ (number r) (i ∷ j ∷ k ∷ [])
-    numbered r (inl (e, h)) = List·Memᴰ·head (ap number e ∙ is-i)
-    numbered r (inr (inl (n, e, h))) = List·Memᴰ·tail (at-j r n e)
-    numbered r (inr (inr (e, h))) = List·Memᴰ·tail (at-k r e)
+-- the same, and an item that clashes with one before it
+pub four-rows :
+    {c : Option Refusal} {long many : Refusal} {bad clash : ℕ → Refusal} {size limit : ℕ} {B C : ℕ → Type 0} {O : Type 0} {i j k l : ℕ} →
+    (c ≡ some long) ↔ (limit < size) → ((n : ℕ) → (c ≡ some (bad n)) ↔ ((size ≤ limit) × B n)) → (c ≡ some many) ↔ ((size ≤ limit) × O) →
+    ((n : ℕ) → (c ≡ some (clash n)) ↔ ((size ≤ limit) × C n)) →
+    ((r : Refusal) → c ≡ some r → (r ≡ long) ⊎ ((n : ℕ) × (r ≡ bad n)) ⊎ (r ≡ many) ⊎ ((n : ℕ) × (r ≡ clash n))) →
+    number long ≡ i → ((n : ℕ) → number (bad n) ≡ j) → number many ≡ k → ((n : ℕ) → number (clash n) ≡ l) →
+    before (i ∷ []) (j ∷ k ∷ l ∷ []) ≡ true →
+    Keeps (c ∷ []) (λ r. ((r ≡ long) × (limit < size)) ⊎ PlacedRow bad B r ⊎ Row many O r ⊎ PlacedRow clash C r) (i ∷ j ∷ k ∷ l ∷ [])
+four-rows over broken beyond clashing faults is-i is-j is-k is-l sorted = limited-rows over
+    (λ r e. ⊎-elim inl
+    (λ f. inr (⊎-elim
+    (λ g. inl (placed-due broken e g))
+    (λ g. inr (⊎-elim (λ h. inl (row-due beyond e h)) (λ h. inr (placed-due clashing e h)) g))
+    f))
+    (faults r e))
+    (λ r. ⊎-elim (placed-fits broken) (⊎-elim (row-fits beyond) (placed-fits clashing)))
+    (λ r. ⊎-elim
+    (λ h. List·Memᴰ·head (ap number (h .1) ∙ is-j (h .0)))
+    (⊎-elim
+    (λ h. List·Memᴰ·tail (List·Memᴰ·head (ap number (h .0) ∙ is-k)))
+    (λ h. List·Memᴰ·tail (List·Memᴰ·tail (List·Memᴰ·head (ap number (h .1) ∙ is-l (h .0)))))))
+    is-i sorted

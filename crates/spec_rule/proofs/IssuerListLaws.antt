@@ -12,7 +12,7 @@ use Rattle.spec_octets.proofs.SelectLaws.{selected}
 use Rattle.spec_octets.proofs.SelectedLists.{selects-have, selects-all, selects-distinct, any-selects}
 use Rattle.spec_octets.proofs.Texts.{same-equal}
 use Rattle.spec_octets.proofs.SmallLetters.{lowered-twice}
-use Rattle.spec_rule.specs.Authorizations.{Authorization, unrestricted, forbidden, granted, permits}
+use Rattle.spec_rule.specs.Authorizations.{Authorization, unrestricted, forbidden, granted, unresolved, permits}
 use Rattle.spec_rule.specs.IssuerLists.{Issuers, anyone, listed, distinct, issuers}
 use Rattle.spec_rule.specs.Meaning.{Before}
 use Rattle.spec_rule.proofs.AuthorizationLaws.{any-same}
@@ -31,6 +31,8 @@ issuers-anyone (unrestricted ∷ says) = (λ e. all-cons refl (issuers-anyone sa
 issuers-anyone (forbidden r ∷ says) =
     (λ e. absurd (listed≢anyone e), λ h. let e = All-head h in let z : _≡_ {A = ℕ} 0 1 = cc in absurd (omega arith))
 issuers-anyone (granted r ns ∷ says) =
+    (λ e. absurd (listed≢anyone e), λ h. let e = All-head h in let z : _≡_ {A = ℕ} 0 1 = cc in absurd (omega arith))
+issuers-anyone (unresolved r ∷ says) =
     (λ e. absurd (listed≢anyone e), λ h. let e = All-head h in let z : _≡_ {A = ℕ} 0 1 = cc in absurd (omega arith))
 
 -- unrestricted names in front change nothing
@@ -53,18 +55,21 @@ module _ (P : List ℕ → Type 0) where
   issuers-all [] ns h e = absurd (listed≢anyone (sym e))
   issuers-all (unrestricted ∷ says) ns h e = issuers-all says ns (All-tail h) e
   issuers-all (forbidden r ∷ says) ns h e = rw (← one-list e) all-nil
+  issuers-all (unresolved r ∷ says) ns h e = rw (← one-list e) all-nil
   issuers-all (granted r ms ∷ says) ns h e = selects-all (issuers-selected r ms says ns e) (distinct-all (All-head h r ms refl))
 
 pub issuers-distinct : (says : List Authorization) (ns : List (List ℕ)) → issuers says ≡ listed ns → Distinct ns
 issuers-distinct [] ns e = absurd (listed≢anyone (sym e))
 issuers-distinct (unrestricted ∷ says) ns e = issuers-distinct says ns e
 issuers-distinct (forbidden r ∷ says) ns e = rw (← one-list e) distinct-nil
+issuers-distinct (unresolved r ∷ says) ns e = rw (← one-list e) distinct-nil
 issuers-distinct (granted r ms ∷ says) ns e = selects-distinct (issuers-selected r ms says ns e) (distinct-distinct ms)
 
 -- letter case does not matter
 permits-lowered : (d : List ℕ) (a : Authorization) → permits (lowered d) a ≡ permits d a
 permits-lowered d unrestricted = refl
 permits-lowered d (forbidden r) = refl
+permits-lowered d (unresolved r) = refl
 permits-lowered d (granted r ns) = rw (lowered-twice d)
 
 all-permit-lowered : (d : List ℕ) (says : List Authorization) → all (permits (lowered d)) says ≡ all (permits d) says
@@ -76,14 +81,15 @@ same-permitted says d h x e = rw (← same-equal d x .0 e) h
 abbrev AnyoneOr : List ℕ → Issuers → Type 0
 AnyoneOr d who = (who ≡ anyone) ⊎ ((ns : List (List ℕ)) × (who ≡ listed ns) × List·Memᴰ d ns)
 
+nobody-listed : (d : List ℕ) → AnyoneOr d (listed []) → false ≡ true
+nobody-listed d (inl e) = absurd (listed≢anyone e)
+nobody-listed d (inr (ns, e, m)) = absurd (List·Memᴰ·not-nil (rw (← one-list e) at m))
+
 pub issuers-permitted : (d : List ℕ) (says : List Authorization) → (all (permits d) says ≡ true) ↔ AnyoneOr (lowered d) (issuers says)
 issuers-permitted d [] = (λ e. inl refl, λ o. refl)
 issuers-permitted d (unrestricted ∷ says) = issuers-permitted d says
-issuers-permitted d (forbidden r ∷ says) = (λ e. absurd (false≢true e), nobody)
-  where
-    nobody : AnyoneOr (lowered d) (listed []) → false ≡ true
-    nobody (inl e) = absurd (listed≢anyone e)
-    nobody (inr (ns, e, m)) = absurd (List·Memᴰ·not-nil (rw (← one-list e) at m))
+issuers-permitted d (forbidden r ∷ says) = (λ e. absurd (false≢true e), nobody-listed (lowered d))
+issuers-permitted d (unresolved r ∷ says) = (λ e. absurd (false≢true e), nobody-listed (lowered d))
 issuers-permitted d (granted r ms ∷ says) = (λ e. inr (those, refl, standing .1 (both .0 e)), passed)
   where
     those : List (List ℕ)

@@ -11,7 +11,7 @@ use Rattle.spec_request.specs.Request.{requestedNames}
 use Rattle.spec_issuer.proofs.Dotted.{issuer-refusals}
 use Rattle.spec_record.specs.Records.{records}
 use Rattle.spec_applicant.specs.Applicant.{Applicant}
-use Rattle.spec_rule.specs.RelevantSet.{CaaRecord, caaRecords}
+use Rattle.spec_rule.specs.RelevantSet.{CaaRecord, Book, asBook}
 use Rattle.spec_rule.specs.Authorizations.{Authorization, unrestricted, grantees, governedBy, authorization, permits}
 use Rattle.spec_rule.specs.IssuerLists.{listed, issuers}
 use Rattle.spec_rule.specs.Calls.{authorizations}
@@ -30,7 +30,7 @@ All-of-map f h (x ∷ xs) = (
   λ k. all-cons (h x .1 (All-head k)) (All-of-map f h xs .1 (All-tail k)),
 )
 
-module _ (who : Applicant) (book : List CaaRecord) where
+module _ (who : Applicant) (book : Book) where
   names-unrestricted : (ns : List Name) → All (λ a. a ≡ unrestricted) (map (authorization who book) ns) ↔ All (Unrestricted book) ns
   names-unrestricted ns = All-of-map (authorization who book) (unrestricted-exactly who book) ns
 
@@ -73,8 +73,8 @@ permitted-issuers request who book r a b = record {
   in-order = order who rs names;
 }
   where
-    rs : List CaaRecord
-    rs = caaRecords (records book)
+    rs : Book
+    rs = asBook (records book)
 
     names : List Name
     names = requestedNames request

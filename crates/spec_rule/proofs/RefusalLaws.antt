@@ -28,12 +28,12 @@ use Rattle.spec_applicant.proofs.Texts.{applicant-refusals}
 use Rattle.spec_rule.specs.declared.Judgement.{Judgement}
 use Rattle.spec_rule.specs.declared.Judgement.the-variants.{Refused}
 use Rattle.spec_rule.specs.declared.PermittedIssuers.the-variants.{Refused as ListRefused}
-use Rattle.spec_rule.specs.RelevantSet.{caaRecords}
+use Rattle.spec_rule.specs.RelevantSet.{asBook}
 use Rattle.spec_rule.specs.IssuerLists.{Issuers, anyone, listed, issuers, entries}
 use Rattle.spec_rule.specs.Calls.{authorizations, firstRefusal, judgeChecks, refusedOr, judge, roomRefusal, listChecks, written, unlessRefused, listIssuers}
 use Rattle.spec_rule.specs.Theorems.{JudgeRow, ListRow, Judge-refusals, List-refusals}
 use Rattle.spec_rule.proofs.VerdictLaws.{verdict-by-the-rule}
-use Rattle.spec_rule.proofs.CheckOrder.{checkedAt, Keeps, first-row, in-front, one-row, placed-row, three-rows}
+use Rattle.spec_rule.proofs.CheckOrder.{checkedAt, Keeps, first-row, in-front, one-row, placed-row, three-rows, four-rows}
 
 -- each input keeps to its rows
 pub request-keeps : (s : List ℕ) → Octets s → Keeps (requestRefusal s ∷ []) (RequestRow s) (1 ∷ 2 ∷ 3 ∷ [])
@@ -48,9 +48,9 @@ pub applicant-keeps : (who : Applicant) → Keeps (applicantRefusal who ∷ []) 
 unfolding number
 applicant-keeps who = let law = applicant-refusals who in one-row (law .0) (law .2) refl
 
-pub book-keeps : (b : List ℕ) → Octets b → Keeps (bookRefusal b ∷ []) (BookRow b) (5 ∷ 6 ∷ 7 ∷ [])
+pub book-keeps : (b : List ℕ) → Octets b → Keeps (bookRefusal b ∷ []) (BookRow b) (5 ∷ 6 ∷ 7 ∷ 12 ∷ [])
 unfolding number checkedAt
-book-keeps b o = let law = book-refusals b o in three-rows (law .0) (law .1) (law .2) (book-faults b) refl (λ k. refl) refl refl
+book-keeps b o = let law = book-refusals b o in four-rows (law .0) (law .1) (law .2) (law .3) (book-faults b) refl (λ k. refl) refl (λ k. refl) refl
 
 -- a judgement is refused by a check, as no verdict is a refusal
 judge-refused : (c : Option Refusal) (j : Judgement) (r : Refusal) → j ≢ Refused r → (refusedOr c j ≡ Refused r) ↔ (c ≡ some r)
@@ -59,10 +59,10 @@ judge-refused (some q) j r n = (λ e. cc, λ e. cc)
 
 -- the numbers of the rows of each call
 abbrev pub judgeNumbers : List ℕ
-judgeNumbers = 1 ∷ 2 ∷ 3 ∷ 4 ∷ 15 ∷ 5 ∷ 6 ∷ 7 ∷ []
+judgeNumbers = 1 ∷ 2 ∷ 3 ∷ 4 ∷ 15 ∷ 5 ∷ 6 ∷ 7 ∷ 12 ∷ []
 
 abbrev pub listNumbers : List ℕ
-listNumbers = 1 ∷ 2 ∷ 3 ∷ 15 ∷ 5 ∷ 6 ∷ 7 ∷ 8 ∷ []
+listNumbers = 1 ∷ 2 ∷ 3 ∷ 15 ∷ 5 ∷ 6 ∷ 7 ∷ 12 ∷ 8 ∷ []
 
 pub judge-keeps :
     (request issuer : List ℕ) (who : Applicant) (book : List ℕ) → Octets request → Octets book →
@@ -75,7 +75,7 @@ pub judge-refusals : Judge-refusals
 unfolding judge authorizations
 judge-refusals request issuer who book o p r =
     Iff·trans
-    (judge-refused _ _ r (verdict-by-the-rule who (caaRecords (records book)) (requestedNames request) issuer .3 r))
+    (judge-refused _ _ r (verdict-by-the-rule who (asBook (records book)) (requestedNames request) issuer .4 r))
     (first-row (judge-keeps request issuer who book o p) r)
 
 -- row 8, whoever is to be written

@@ -1,19 +1,22 @@
 -- With other record numbers only the numbers in the answer change.
-use Prim.Native.Nat.{ℕ, suc}
+use Prim.Native.Nat.{ℕ, zero, suc}
 use mathlib.Core.Path.{_≡_, refl, ap, fun-ext}
 use mathlib.Core.Bool.{Bool, true, false, cond}
 use mathlib.Core.List.{List, [], _∷_, map, map-map}
+use mathlib.Core.Option.{Option, none, some}
+use Rattle.spec_limits.specs.Limits.{maxAliases}
 use Rattle.spec_octets.specs.Lists.{all, select}
 use Rattle.spec_octets.proofs.SelectLaws.{select-map}
 use Rattle.spec_name.specs.Names.{Name, sameName, ancestors}
 use Rattle.spec_request.specs.Request.{isWildcard, base}
 use Rattle.spec_applicant.specs.Applicant.{Applicant}
 use Rattle.spec_rule.specs.declared.Judgement.{Judgement}
-use Rattle.spec_rule.specs.RelevantSet.{CaaRecord, Lookup, empty, found, asLookup, lookup, firstFound, relevantSet}
-use Rattle.spec_rule.specs.Authorizations.{Authorization, unrestricted, forbidden, granted, isUnknownCritical, isIssue, isIssueWild, orElse, governing, grantee, grantees, governedBy, unlessForbidden, authorizationFrom, authorization, permits}
+use Rattle.spec_rule.specs.Aliases.{Alias, aliasesOf, through, followed}
+use Rattle.spec_rule.specs.RelevantSet.{CaaRecord, Book, Lookup, empty, found, endless, asLookup, caaAt, lookedUp, lookup, firstFound, relevantSet}
+use Rattle.spec_rule.specs.Authorizations.{Authorization, unrestricted, forbidden, granted, unresolved, isUnknownCritical, isIssue, isIssueWild, orElse, governing, grantee, grantees, governedBy, unlessForbidden, authorizationFrom, authorization, permits}
 use Rattle.spec_rule.specs.Verdicts.{denied, verdictFrom, verdict}
 use Rattle.spec_rule.specs.IssuerLists.{listed, distinct, issuers}
-use Rattle.spec_rule.specs.Theorems.{renumbered, renumberedAuthorization, renumberedVerdict, Renumbering}
+use Rattle.spec_rule.specs.Theorems.{renumbered, renumberedAlias, renumberedBook, renumberedAuthorization, renumberedVerdict, Renumbering}
 
 module _ (f : ℕ → ℕ) (who : Applicant) where
   abbrev others : List CaaRecord → List CaaRecord
@@ -29,21 +32,47 @@ module _ (f : ℕ → ℕ) (who : Applicant) where
   abbrev otherLookup : Lookup → Lookup
   otherLookup empty = empty
   otherLookup (found rs) = found (others rs)
+  otherLookup (endless r) = endless (f r)
 
   as-lookup : (rs : List CaaRecord) → asLookup (others rs) ≡ otherLookup (asLookup rs)
   as-lookup [] = refl
   as-lookup (r ∷ rs) = refl
 
-  same-lookup : (book : List CaaRecord) (x : Name) → lookup (others book) x ≡ otherLookup (lookup book x)
+  -- aliases: the same ones are followed
+  abbrev otherAliases : List Alias → List Alias
+  otherAliases al = map (renumberedAlias f) al
+
+  same-aliases : (al : List Alias) (x : Name) → aliasesOf (otherAliases al) x ≡ otherAliases (aliasesOf al x)
+  same-aliases al x = select-map (renumberedAlias f) (λ a. sameName (a .owner) x) (λ a. sameName (a .owner) x) (λ a. refl) al
+
+  same-through : (bs : List Alias) (follow : Name → Option Name) (x : Name) → through (otherAliases bs) follow x ≡ through bs follow x
+  same-through [] follow x = refl
+  same-through (a ∷ bs) follow x = refl
+
+  same-followed : (n : ℕ) (al : List Alias) (x : Name) → followed n (otherAliases al) x ≡ followed n al x
+  same-followed zero al x = rw (same-aliases al x) (same-through (aliasesOf al x) (λ t. none) x)
+  same-followed (suc n) al x = rw (same-aliases al x, fun-ext (same-followed n al)) (same-through (aliasesOf al x) (followed n al) x)
+
+  looked-up :
+      (rs : List CaaRecord) (bs : List Alias) (o : Option Name) →
+      lookedUp (others rs) (otherAliases bs) o ≡ otherLookup (lookedUp rs bs o)
+  looked-up rs bs (some y) = rw (same-select (λ r. sameName (r .owner) y) (λ r. refl) rs) (as-lookup (caaAt rs y))
+  looked-up rs [] none = refl
+  looked-up rs (a ∷ bs) none = refl
+
+  same-lookup : (book : Book) (x : Name) → lookup (renumberedBook f book) x ≡ otherLookup (lookup book x)
   unfolding lookup
-  same-lookup book x = rw (same-select _ (λ r. refl) book) (as-lookup (select (λ r. sameName (r .owner) x) book))
+  same-lookup book x =
+      rw (same-aliases (book .aliases) x, same-followed maxAliases (book .aliases) x)
+      (looked-up (book .caa) (aliasesOf (book .aliases) x) (followed maxAliases (book .aliases) x))
 
   first-found : (ls : List Lookup) → firstFound (map otherLookup ls) ≡ otherLookup (firstFound ls)
   first-found [] = refl
   first-found (empty ∷ ls) = first-found ls
   first-found (found rs ∷ ls) = refl
+  first-found (endless r ∷ ls) = refl
 
-  same-set : (book : List CaaRecord) (x : Name) → relevantSet (others book) x ≡ otherLookup (relevantSet book x)
+  same-set : (book : Book) (x : Name) → relevantSet (renumberedBook f book) x ≡ otherLookup (relevantSet book x)
   unfolding relevantSet
   same-set book x =
       rw (fun-ext (same-lookup book), ← map-map otherLookup (lookup book) (ancestors x)) (first-found (map (lookup book) (ancestors x)))
@@ -80,15 +109,16 @@ module _ (f : ℕ → ℕ) (who : Applicant) where
   same-decision wildcard (found rs) =
       rw (same-select isUnknownCritical (λ r. refl) rs, same-governing wildcard rs, governed-by (governing wildcard rs))
       (unless-forbidden (select isUnknownCritical rs) (governedBy who (governing wildcard rs)))
+  same-decision wildcard (endless r) = refl
 
-  same-authorization : (book : List CaaRecord) (n : Name) → authorization who (others book) n ≡ renumberedAuthorization f (authorization who book n)
+  same-authorization : (book : Book) (n : Name) → authorization who (renumberedBook f book) n ≡ renumberedAuthorization f (authorization who book n)
   unfolding authorization
   same-authorization book n = rw (same-set book (base n)) (same-decision (isWildcard n) (relevantSet book (base n)))
 
   abbrev otherwise : List Authorization → List Authorization
   otherwise said = map (renumberedAuthorization f) said
 
-  same-authorizations : (book : List CaaRecord) (ns : List Name) → map (authorization who (others book)) ns ≡ otherwise (map (authorization who book) ns)
+  same-authorizations : (book : Book) (ns : List Name) → map (authorization who (renumberedBook f book)) ns ≡ otherwise (map (authorization who book) ns)
   same-authorizations book ns = rw (fun-ext (same-authorization book), map-map)
 
   -- the verdict, and the issuers
@@ -96,11 +126,13 @@ module _ (f : ℕ → ℕ) (who : Applicant) where
   same-permits d unrestricted = refl
   same-permits d (forbidden r) = refl
   same-permits d (granted r ns) = refl
+  same-permits d (unresolved r) = refl
 
   same-denied : (k : ℕ) (a : Authorization) → denied k (renumberedAuthorization f a) ≡ renumberedVerdict f (denied k a)
   same-denied k unrestricted = refl
   same-denied k (forbidden r) = refl
   same-denied k (granted r ns) = refl
+  same-denied k (unresolved r) = refl
 
   same-verdict :
       (k : ℕ) (d : List ℕ) (said : List Authorization) → verdictFrom k d (otherwise said) ≡ renumberedVerdict f (verdictFrom k d said)
@@ -120,6 +152,7 @@ module _ (f : ℕ → ℕ) (who : Applicant) where
   same-issuers [] = refl
   same-issuers (unrestricted ∷ rest) = same-issuers rest
   same-issuers (forbidden r ∷ rest) = refl
+  same-issuers (unresolved r ∷ rest) = refl
   same-issuers (granted r ns ∷ rest) = ap (λ p. listed (select p (distinct ns))) (fun-ext (all-permit rest))
 
 pub renumbering : Renumbering

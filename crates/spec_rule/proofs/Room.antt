@@ -3,7 +3,7 @@ use Prim.Native.Nat.{ℕ, _+_, _≤_}
 use native.Mathlib.Omega.{arith}
 use mathlib.Core.Path.{_≡_, refl, ap}
 use mathlib.Core.Logic.{Iff·rfl}
-use mathlib.Core.Bool.{Bool, not}
+use mathlib.Core.Bool.{Bool, not, true≢false}
 use mathlib.Core.List.{List, [], _∷_, map}
 use mathlib.Core.Option.{Option, none, some}
 use lib.ListN.{length, drop, length-append, length-map}
@@ -15,8 +15,8 @@ use Rattle.spec_request.specs.Request.{requestedNames, base}
 use Rattle.spec_record.specs.Records.{Record, wireRecord, records}
 use Rattle.spec_record.proofs.Book.{book-is-its-records}
 use Rattle.spec_applicant.specs.Applicant.{Applicant}
-use Rattle.spec_rule.specs.RelevantSet.{CaaRecord, caaRecords, found, relevantSet}
-use Rattle.spec_rule.specs.Authorizations.{Authorization, unrestricted, forbidden, granted, grantee, consSome, grantees, authorization, permits}
+use Rattle.spec_rule.specs.RelevantSet.{CaaRecord, Book, asBook, empty, found, relevantSet}
+use Rattle.spec_rule.specs.Authorizations.{Authorization, unrestricted, forbidden, granted, unresolved, grantee, consSome, grantees, authorization, permits}
 use Rattle.spec_rule.specs.IssuerLists.{listed, distinct, issuers}
 use Rattle.spec_rule.specs.Calls.{authorizations}
 use Rattle.spec_rule.specs.Meaning.{CaaRecordsOf, at-end, is-caa, is-other, Grants}
@@ -73,18 +73,19 @@ grantees-less who (g ∷ gs) = go (grantee who g) refl (grantees-less who gs)
     go (some d) e h = omega (arith, grantee-less who g d (grantee-exactly who g d .0 e))
 
 -- all that a name grants comes from records of the book, each once
-module _ (who : Applicant) (book : List CaaRecord) where
-  relevant-less : (x : Name) (rs : List CaaRecord) → relevantSet book x ≡ found rs → sum valueSize rs ≤ sum valueSize book
+module _ (who : Applicant) (book : Book) where
+  relevant-less : (x : Name) (rs : List CaaRecord) → relevantSet book x ≡ found rs → sum valueSize rs ≤ sum valueSize (book .caa)
   relevant-less x rs e =
-      let (k, near) = nearest-name-decides book x .0 rs .0 e in
-      selects-less valueSize (a-lookup book (drop k x) .1 rs .0 (near .1) .0)
+      let (k, near) = nearest-name-decides book x .0 (found rs) (λ (h : found rs ≡ empty). true≢false (cc)) .0 e in
+      let (y, ends, selects, some-set) = a-lookup book (drop k x) .1 rs .0 (near .1) in
+      selects-less valueSize selects
 
-  granted-less : (n : Name) (r : ℕ) (ns : List (List ℕ)) → authorization who book n ≡ granted r ns → sum nameSize ns ≤ sum valueSize book
+  granted-less : (n : Name) (r : ℕ) (ns : List (List ℕ)) → authorization who book n ≡ granted r ns → sum nameSize ns ≤ sum valueSize (book .caa)
   granted-less n r ns e =
       let (gs, (rs, relevant, harmless, governing), same) = granted-governs who book n r ns e .1 in
       rw same (omega (arith, grantees-less who gs, selects-less valueSize governing, relevant-less (base n) rs relevant))
 
-  issuers-less : (names : List Name) (ns : List (List ℕ)) → issuers (map (authorization who book) names) ≡ listed ns → sum nameSize ns ≤ sum valueSize book
+  issuers-less : (names : List Name) (ns : List (List ℕ)) → issuers (map (authorization who book) names) ≡ listed ns → sum nameSize ns ≤ sum valueSize (book .caa)
   issuers-less [] ns e = let z : _≡_ {A = ℕ} 0 1 = cc in absurd (omega arith)
   issuers-less (n ∷ names) ns e = go (authorization who book n) refl e (issuers-less names ns)
     where
@@ -93,9 +94,10 @@ module _ (who : Applicant) (book : List CaaRecord) where
 
       go :
           (a : Authorization) → authorization who book n ≡ a → issuers (a ∷ rest) ≡ listed ns →
-          (issuers rest ≡ listed ns → sum nameSize ns ≤ sum valueSize book) → sum nameSize ns ≤ sum valueSize book
+          (issuers rest ≡ listed ns → sum nameSize ns ≤ sum valueSize (book .caa)) → sum nameSize ns ≤ sum valueSize (book .caa)
       go unrestricted a e later = later e
       go (forbidden r) a e later = let same : [] ≡ ns = cc in rw (← same) (omega arith)
+      go (unresolved r) a e later = let same : [] ≡ ns = cc in rw (← same) (omega arith)
       go (granted r ms) a e later =
           let kept : select (λ m. all (permits m) rest) (distinct ms) ≡ ns = cc in
           rw (← kept) (omega (arith, select-less nameSize (λ m. all (permits m) rest) (distinct ms), distinct-less ms, granted-less n r ms a))
@@ -116,11 +118,11 @@ records-length (r ∷ rs) = omega (arith, length-append (wireRecord r) (flatten 
 pub room-of-the-book : Room-of-the-book
 unfolding authorizations
 room-of-the-book request who book octets accepted ns e =
-    let (whole, good, few, short) = book-is-its-records book octets (records book) .0 (accepted, refl) in
+    let (whole, good, few, short, apart) = book-is-its-records book octets (records book) .0 (accepted, refl) in
     omega (
       arith,
       total-sum ns,
-      issuers-less who (caaRecords (records book)) (requestedNames request) ns e,
+      issuers-less who (asBook (records book)) (requestedNames request) ns e,
       caa-less (caa-records (records book) good),
       records-length (records book),
       ap length whole,

@@ -14,14 +14,14 @@ use Rattle.spec_request.specs.Request.{requestedNames}
 use Rattle.spec_record.specs.Records.{records}
 use Rattle.spec_applicant.specs.Applicant.{Applicant}
 use Rattle.spec_rule.specs.declared.Judgement.{Judgement}
-use Rattle.spec_rule.specs.declared.Judgement.the-variants.{Permitted, UnknownCritical, NotGranted, Refused}
-use Rattle.spec_rule.specs.RelevantSet.{CaaRecord, caaRecords}
-use Rattle.spec_rule.specs.Authorizations.{Authorization, unrestricted, forbidden, granted, authorization, permits}
+use Rattle.spec_rule.specs.declared.Judgement.the-variants.{Permitted, UnknownCritical, NotGranted, TooManyAliases, Refused}
+use Rattle.spec_rule.specs.RelevantSet.{Book, asBook}
+use Rattle.spec_rule.specs.Authorizations.{Authorization, unrestricted, forbidden, granted, unresolved, authorization, permits}
 use Rattle.spec_rule.specs.Verdicts.{denied, verdictFrom, verdict}
 use Rattle.spec_rule.specs.Calls.{authorizations, judge}
-use Rattle.spec_rule.specs.Meaning.{PermittedTo, ForbiddenBy, GovernedFrom, LowestNot}
+use Rattle.spec_rule.specs.Meaning.{PermittedTo, ForbiddenBy, GovernedFrom, UnresolvedFrom, LowestNot}
 use Rattle.spec_rule.specs.Theorems.{Verdict-by-the-rule, Judge-accepted}
-use Rattle.spec_rule.proofs.AuthorizationLaws.{Says, authorization-says, forbidden-exactly, governs-granted, permits-exactly}
+use Rattle.spec_rule.proofs.AuthorizationLaws.{Says, authorization-says, forbidden-exactly, unresolved-exactly, governs-granted, permits-exactly}
 
 -- every name is of a kind that a test decides, or there is a lowest one that is not
 pub all-or-lowest :
@@ -36,7 +36,7 @@ all-or-lowest {P} p decides (n ∷ ns) = ⊎-elim
     later : P n → (k : ℕ) × (m : Name) × LowestNot P ns k m → (k : ℕ) × (m : Name) × LowestNot P (n ∷ ns) k m
     later h (k, m, (before, after, e, l, hs, q)) = (suc k, m, (n ∷ before, after, ap (_∷_ n) e, ap suc l, all-cons h hs, q))
 
-module _ (who : Applicant) (book : List CaaRecord) (d : List ℕ) where
+module _ (who : Applicant) (book : Book) (d : List ℕ) where
   -- the issuer d may sign for the name
   abbrev Allowed : Name → Type 0
   Allowed n = PermittedTo book n who d
@@ -64,6 +64,7 @@ module _ (who : Applicant) (book : List CaaRecord) (d : List ℕ) where
     Means Permitted = All Allowed ns
     Means (UnknownCritical e) = (n : Name) × LowestNot Allowed ns (e .name .0) n × ForbiddenBy book n (e .rr .0)
     Means (NotGranted e) = (n : Name) × LowestNot Allowed ns (e .name .0) n × GovernedFrom book n (e .rr .0)
+    Means (TooManyAliases e) = (n : Name) × LowestNot Allowed ns (e .name .0) n × UnresolvedFrom book n (e .rr .0)
     Means (Refused r) = ⊥
 
     at-lowest : (k : ℕ) (n : Name) → LowestNot Allowed ns k n → verdict d (map (authorization who book) ns) ≡ denied k (authorization who book n)
@@ -81,6 +82,7 @@ module _ (who : Applicant) (book : List CaaRecord) (d : List ℕ) where
         why k n (before, after, e, l, hs, q) unrestricted s = absurd (q (inl s))
         why k n l (forbidden r) s = (n, l, s)
         why k n l (granted r gs) s = (n, l, s .0)
+        why k n l (unresolved r) s = (n, l, s)
 
 pub verdict-by-the-rule : Verdict-by-the-rule
 unfolding verdict
@@ -88,6 +90,7 @@ verdict-by-the-rule who book ns d = (
   (λ e. rw e at means, all-allowed who book d 0),
   λ k r. (λ e. rw e at means, λ (n, l, f). at-lowest who book d ns k n l ∙ rw (forbidden-exactly who book n r .1 f)),
   λ k r. (λ e. rw e at means, λ (n, l, g). at-lowest who book d ns k n l ∙ rw (governs-granted who book n r g .1)),
+  λ k r. (λ e. rw e at means, λ (n, l, u). at-lowest who book d ns k n l ∙ rw (unresolved-exactly who book n r .1 u)),
   λ r e. rw e at means,
 )
   where
@@ -96,4 +99,4 @@ verdict-by-the-rule who book ns d = (
 
 pub judge-accepted : Judge-accepted
 unfolding judge authorizations
-judge-accepted request issuer who book r i a b = rw (r, i, a, b) (verdict-by-the-rule who (caaRecords (records book)) (requestedNames request) issuer)
+judge-accepted request issuer who book r i a b = rw (r, i, a, b) (verdict-by-the-rule who (asBook (records book)) (requestedNames request) issuer)

@@ -15,7 +15,7 @@ use Rattle.spec_value.specs.IssueValues.{IssueValue, malformed, nameless, named
 use Rattle.spec_value.specs.Parameters.{parametersIn}
 use Rattle.spec_applicant.specs.Applicant.{Applicant}
 use Rattle.spec_applicant.specs.Admission.{admits}
-use Rattle.spec_rule.specs.RelevantSet.{CaaRecord, Lookup, empty, found, relevantSet}
+use Rattle.spec_rule.specs.RelevantSet.{CaaRecord, Book, Lookup, empty, found, endless, relevantSet}
 
 -- What CAA says about one requested name, for one applicant.
 pub data Authorization : Type 0 where
@@ -25,6 +25,8 @@ pub data Authorization : Type 0 where
   forbidden : ℕ → Authorization
   -- Issuance is restricted: the number of the first governing record, and the issuers granted, in lower case and in the order of the records.
   granted : ℕ → List (List ℕ) → Authorization
+  -- The aliases of a name that was looked at do not end: nobody may issue. The number of the first alias.
+  unresolved : ℕ → Authorization
 
 abbrev pub isIssueTag : PropertyTag → Bool
 isIssueTag Issue = true
@@ -103,9 +105,10 @@ unlessForbidden (u ∷ us) a = forbidden (u .number)
 abbrev pub authorizationFrom : Applicant → Bool → Lookup → Authorization
 authorizationFrom who wildcard empty = unrestricted
 authorizationFrom who wildcard (found rs) = unlessForbidden (select isUnknownCritical rs) (governedBy who (governing wildcard rs))
+authorizationFrom who wildcard (endless r) = unresolved r
 
 -- For X and for *.X the search starts at X.
-unfoldable pub authorization : Applicant → List CaaRecord → Name → Authorization
+unfoldable pub authorization : Applicant → Book → Name → Authorization
 authorization who book n = authorizationFrom who (isWildcard n) (relevantSet book (base n))
 
 -- Whether the issuer d may issue for a name with this authorization.
@@ -113,3 +116,4 @@ abbrev pub permits : List ℕ → Authorization → Bool
 permits d unrestricted = true
 permits d (forbidden r) = false
 permits d (granted r ns) = any (same (lowered d)) ns
+permits d (unresolved r) = false

@@ -5,21 +5,21 @@ use Prim.Native.String.{String}
 use mathlib.Core.Path.{_≡_}
 use mathlib.Core.List.{List, [], _∷_, _++_, map}
 use lib.ListN.{replicate}
-use Rattle.spec_refusal.specs.declared.Refusal.the-variants.{BadName, BadIssuer, BookTooLong, BadRecord, NoRoom, BadAccountOrMethod}
+use Rattle.spec_refusal.specs.declared.Refusal.the-variants.{BadName, BadIssuer, BookTooLong, BadRecord, NoRoom, AliasConflict, BadAccountOrMethod}
 use Rattle.spec_octets.specs.Lists.{flatten}
 use Rattle.spec_octets.specs.Octets.{text}
 use Rattle.spec_name.specs.Names.{wire}
 use Rattle.spec_record.specs.Records.{Record, wireRecord}
 use Rattle.spec_record.specs.BookEdges.{ofOctets}
 use Rattle.spec_rule.specs.declared.Judgement.{Judgement}
-use Rattle.spec_rule.specs.declared.Judgement.the-variants.{Permitted, UnknownCritical, NotGranted, Refused}
+use Rattle.spec_rule.specs.declared.Judgement.the-variants.{Permitted, UnknownCritical, NotGranted, TooManyAliases, Refused}
 use Rattle.spec_rule.specs.declared.PermittedIssuers.the-variants.{Anyone, Listed, Refused as ListRefused}
 use Rattle.spec_applicant.specs.Applicant.{Applicant}
 use Rattle.spec_applicant.specs.ApplicantEdges.{withAccount, withMethod}
 use Rattle.spec_applicant.specs.AdmissionEdges.{someone}
 use Rattle.spec_rule.specs.Verdicts.{denial}
 use Rattle.spec_rule.specs.Calls.{judge, Listing, listIssuers}
-use Rattle.spec_rule.specs.Edges.{dotted, caa, ca1, ca2, wholeBook}
+use Rattle.spec_rule.specs.Edges.{dotted, caa, cname, ca1, ca2, wholeBook}
 
 -- A request for these names; and these records as a book.
 abbrev pub asking : List String → List ℕ
@@ -44,6 +44,19 @@ limited =
     bookOf
     (caa "example.com" 0 "issue" "ca2.example.org; accounturi=https://a/2"
     ∷ caa "example.com" 0 "issue" "ca1.example.net; validationmethods=dns-01"
+    ∷ [])
+
+-- A record that grants, and an alias of a name to itself.
+abbrev pub circular : List ℕ
+circular = bookOf (caa "example.com" 0 "issue" "ca1.example.net" ∷ cname "pay.example.com" "pay.example.com" ∷ [])
+
+-- A record that grants; and behind it a CAA record, and an alias of the same owner in other letters.
+abbrev pub conflicting : List ℕ
+conflicting =
+    bookOf
+    (caa "example.com" 0 "issue" "ca1.example.net"
+    ∷ caa "pay.example.com" 0 "issue" "ca2.example.org"
+    ∷ cname "PAY.Example.com" "example.org"
     ∷ [])
 
 -- A refused applicant: its account is empty.
@@ -96,6 +109,22 @@ callEdges =
     ∷ callEdge www ca1 (elsewhere "tb_s") (Refused (BadRecord (record { 0 = 1 })))
     ∷ callEdge www ca1 (elsewhere "tbs") Permitted
     ∷ callEdge www ca1 (bookOf (caa "example.com" 0 "tb_s" "x" ∷ caa "example.com" 0 "issue" "ca1.example.net" ∷ [])) (Refused (BadRecord (record { 0 = 0 })))
+    -- Aliases that don't end deny their name, to everyone. The lowest name that is not permitted decides.
+    ∷ callEdge both ca1 circular (TooManyAliases (denial 1 1))
+    ∷ callEdge both ca2 circular (NotGranted (denial 0 0))
+    ∷ callEdge (asking ("pay.example.com" ∷ "www.example.com" ∷ [])) ca2 circular (TooManyAliases (denial 0 1))
+    -- An alias and a CAA record of one owner, or two aliases, refuse the book, whoever is asked for. Of two owners they do not.
+    ∷ callEdge www ca1 conflicting (Refused (AliasConflict (record { 0 = 2 })))
+    ∷ callEdge www ca1 (bookOf (cname "a.example" "b.example" ∷ cname "c.example" "b.example" ∷ cname "a.example" "b.example" ∷ []))
+    (Refused (AliasConflict (record { 0 = 2 })))
+    ∷ callEdge www ca1
+    (bookOf (caa "example.com" 0 "issue" "ca1.example.net" ∷ cname "pay.example.com" "example.com" ∷ caa "a.pay.example.com" 0 "issue" ";" ∷ [])) Permitted
+    -- They are found last: after a request, an issuer domain name and an account that are refused, a book that is too long and a record that is cut off.
+    ∷ callEdgeFor nobody [] [] conflicting (Refused (BadName (record { 0 = 0 })))
+    ∷ callEdgeFor nobody www [] conflicting (Refused BadIssuer)
+    ∷ callEdgeFor nobody www ca1 conflicting (Refused BadAccountOrMethod)
+    ∷ callEdge www ca1 (conflicting ++ ofOctets 49152) (Refused BookTooLong)
+    ∷ callEdge www ca1 (conflicting ++ (64 ∷ [])) (Refused (BadRecord (record { 0 = 3 })))
     ∷ []
 
 abbrev pub Calls-agree : Type 0
@@ -149,3 +178,12 @@ Lists-agree =
     × (listingFor (withAccount (text "https://a/2")) ("www.example.com" ∷ []) limited 33
     ≡ record { answer = Listed 2 32; buffer = (15 ∷ ca2) ++ ((15 ∷ ca1) ++ replicate 1 95) })
     × (listingFor (withMethod (text "http-01")) ("www.example.com" ∷ []) limited 3 ≡ record { answer = Listed 0 0; buffer = replicate 3 95 })
+    -- Aliases that don't end leave nobody, whether the name comes after another or alone.
+    × (listing ("www.example.com" ∷ "pay.example.com" ∷ []) circular 3 ≡ record { answer = Listed 0 0; buffer = replicate 3 95 })
+    × (listing ("pay.example.com" ∷ []) circular 3 ≡ record { answer = Listed 0 0; buffer = replicate 3 95 })
+    -- An alias and a CAA record of one owner: found before the buffer is looked at, whether it is too short for the list (16 octets) or has room for it,
+    -- and after a refused account and a record that is cut off.
+    × (listing ("www.example.com" ∷ []) conflicting 3 ≡ record { answer = ListRefused (AliasConflict (record { 0 = 2 })); buffer = replicate 3 95 })
+    × (listingFor nobody ("www.example.com" ∷ []) conflicting 3 ≡ record { answer = ListRefused BadAccountOrMethod; buffer = replicate 3 95 })
+    × (listing ("www.example.com" ∷ []) (conflicting ++ (64 ∷ [])) 3 ≡ record { answer = ListRefused (BadRecord (record { 0 = 3 })); buffer = replicate 3 95 })
+    × (listing ("www.example.com" ∷ []) conflicting 16 ≡ record { answer = ListRefused (AliasConflict (record { 0 = 2 })); buffer = replicate 16 95 })

@@ -13,17 +13,17 @@ use Rattle.spec_issuer.specs.Issuer.{issuerRefusal}
 use Rattle.spec_applicant.specs.Applicant.{Applicant, applicantRefusal}
 use Rattle.spec_record.specs.Records.{records, bookRefusal}
 use Rattle.spec_rule.specs.declared.Judgement.{Judgement}
-use Rattle.spec_rule.specs.declared.Judgement.the-variants.{Permitted, UnknownCritical, NotGranted, Refused}
+use Rattle.spec_rule.specs.declared.Judgement.the-variants.{Permitted, UnknownCritical, NotGranted, TooManyAliases, Refused}
 use Rattle.spec_rule.specs.declared.PermittedIssuers.{PermittedIssuers}
 use Rattle.spec_rule.specs.declared.PermittedIssuers.the-variants.{Anyone, Listed, Refused as ListRefused}
-use Rattle.spec_rule.specs.RelevantSet.{caaRecords}
+use Rattle.spec_rule.specs.RelevantSet.{asBook}
 use Rattle.spec_rule.specs.Authorizations.{Authorization, authorization}
 use Rattle.spec_rule.specs.Verdicts.{verdict}
 use Rattle.spec_rule.specs.IssuerLists.{Issuers, anyone, listed, issuers, entries}
 
 -- What CAA says about each requested name, by the records of the book, for the applicant.
 unfoldable pub authorizations : List ℕ → Applicant → List ℕ → List Authorization
-authorizations request who book = map (authorization who (caaRecords (records book))) (requestedNames request)
+authorizations request who book = map (authorization who (asBook (records book))) (requestedNames request)
 
 -- Checks in their order, each a refusal or none: the first refusal is the answer.
 abbrev pub firstRefusal : List (Option Refusal) → Option Refusal
@@ -86,6 +86,7 @@ unfoldable pub judgementCode : Judgement → AnswerCode
 judgementCode Permitted = record { number = 0; values = [] }
 judgementCode (UnknownCritical d) = record { number = 20; values = d .name .0 ∷ d .rr .0 ∷ [] }
 judgementCode (NotGranted d) = record { number = 21; values = d .name .0 ∷ d .rr .0 ∷ [] }
+judgementCode (TooManyAliases d) = record { number = 22; values = d .name .0 ∷ d .rr .0 ∷ [] }
 judgementCode (Refused r) = refusalCode r
 
 unfoldable pub permittedIssuersCode : PermittedIssuers → AnswerCode

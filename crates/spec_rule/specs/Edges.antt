@@ -1,6 +1,6 @@
 -- Edge cases of the rule in one table, both sides of each edge: the rows that the requirements mark P, and rows for the other sentences of
 -- the rule. One theorem covers the table; it is proved by computing.
-use Prim.Native.Nat.{ℕ}
+use Prim.Native.Nat.{ℕ, zero, suc}
 use Prim.Native.Char.{code}
 use Prim.Native.String.{String}
 use mathlib.Core.Path.{_≡_}
@@ -10,15 +10,15 @@ use lib.ListN.{replicate}
 use Rattle.spec_octets.specs.Octets.{text}
 use Rattle.spec_octets.specs.Pieces.{split}
 use Rattle.spec_octets.specs.Decimal.{decimalOctet}
-use Rattle.spec_name.specs.Names.{Name}
+use Rattle.spec_name.specs.Names.{Name, wire}
 use Rattle.spec_issuer.specs.IssuerEdges.{ofLengths}
 use Rattle.spec_record.specs.Property.{wireProperty}
 use Rattle.spec_record.specs.Records.{Record}
 use Rattle.spec_value.specs.IssueValues.{IssueValue, malformed, nameless, named, issueValue}
 use Rattle.spec_applicant.specs.AdmissionEdges.{someone}
-use Rattle.spec_rule.specs.RelevantSet.{caaRecords}
+use Rattle.spec_rule.specs.RelevantSet.{asBook}
 use Rattle.spec_rule.specs.declared.Judgement.the-variants.{NotGranted}
-use Rattle.spec_rule.specs.Authorizations.{Authorization, unrestricted, forbidden, granted, authorization}
+use Rattle.spec_rule.specs.Authorizations.{Authorization, unrestricted, forbidden, granted, unresolved, authorization}
 use Rattle.spec_rule.specs.Verdicts.{denial, verdict}
 use Rattle.spec_rule.specs.IssuerLists.{listed, issuers, entries}
 
@@ -53,7 +53,7 @@ abbrev pub valueEdge : String → IssueValue → Edge
 valueEdge s v = record { ruled = of-value (issueValue (text s)); stated = of-value v }
 
 abbrev pub nameEdge : List Record → String → Authorization → Edge
-nameEdge book n a = record { ruled = of-name (authorization someone (caaRecords book) (dotted n)); stated = of-name a }
+nameEdge book n a = record { ruled = of-name (authorization someone (asBook book) (dotted n)); stated = of-name a }
 
 abbrev pub flagsEdge : String → Option ℕ → Edge
 flagsEdge s f = record { ruled = of-flags (decimalOctet (text s)); stated = of-flags f }
@@ -68,11 +68,33 @@ abbrev pub below : ℕ → Name
 below n = replicate n (text "a") ++ dotted "c"
 
 abbrev pub climbEdge : List Record → ℕ → Authorization → Edge
-climbEdge book n a = record { ruled = of-name (authorization someone (caaRecords book) (below n)); stated = of-name a }
+climbEdge book n a = record { ruled = of-name (authorization someone (asBook book) (below n)); stated = of-name a }
 
 -- A set of one issue record with this value.
 abbrev pub issuing : String → List Record
 issuing v = caa "example.com" 0 "issue" v ∷ []
+
+-- An alias of one name, and the same by text.
+abbrev pub aliased : Name → Name → Record
+aliased owner t = record { owner = owner; type = 5; class = 1; ttl = 3600; rdata = wire t }
+
+abbrev pub cname : String → String → Record
+cname owner t = aliased (dotted owner) (dotted t)
+
+-- The name of one label, the letter k times.
+abbrev pub letters : ℕ → ℕ → Name
+letters letter k = replicate k letter ∷ []
+
+-- n + 1 aliases, each leading to the next: from the owner to one letter, from there to two letters, and so on.
+abbrev pub hops : ℕ → ℕ → ℕ → List Record
+hops letter k zero = []
+hops letter k (suc n) = aliased (letters letter k) (letters letter (suc k)) ∷ hops letter (suc k) n
+
+abbrev pub chain : String → ℕ → ℕ → List Record
+chain owner letter n = aliased (dotted owner) (letters letter 1) ∷ hops letter 1 n
+
+abbrev pub issuingAt : Name → String → Record
+issuingAt owner v = record { owner = owner; type = 257; class = 1; ttl = 3600; rdata = wireProperty (record { flags = 0; tag = text "issue"; value = text v }) }
 
 abbrev pub ca1 : List ℕ
 ca1 = text "ca1.example.net"
@@ -204,6 +226,68 @@ edges =
     -- The critical flag changes nothing for known tags.
     ∷ nameEdge (caa "example.com" 128 "IODEF" "mailto:a@example.com" ∷ []) "example.com" unrestricted
     ∷ nameEdge (caa "example.com" 255 "issuewild" "ca2.example.org" ∷ []) "example.com" unrestricted
+    -- An alias is followed, and the next one too, ignoring case. The records found are those of the end.
+    ∷ nameEdge (cname "www.example.com" "web.example.org" ∷ caa "web.example.org" 0 "issue" "ca1.example.net" ∷ []) "www.example.com"
+    (granted 1 (ca1 ∷ []))
+    ∷ nameEdge
+    (cname "www.example.com" "mid.example.org" ∷ caa "web.example.org" 0 "issue" "ca1.example.net" ∷ cname "mid.example.org" "web.example.org" ∷ [])
+    "www.example.com" (granted 1 (ca1 ∷ []))
+    ∷ nameEdge
+    (cname "WWW.example.com" "MID.example.org" ∷ caa "wEb.example.org" 0 "issue" "ca1.example.net" ∷ cname "mid.EXAMPLE.org" "web.exAmple.org" ∷ [])
+    "www.eXample.com" (granted 1 (ca1 ∷ []))
+    -- The end may be above the name, below it, or the root, and may have an asterisk.
+    ∷ nameEdge
+    (cname "a.b.example.com" "example.com" ∷ caa "b.example.com" 0 "issue" "ca2.example.org" ∷ caa "example.com" 0 "issue" "ca1.example.net" ∷ [])
+    "a.b.example.com" (granted 2 (ca1 ∷ []))
+    ∷ nameEdge (cname "example.com" "b.example.com" ∷ caa "b.example.com" 0 "issue" "ca2.example.org" ∷ []) "example.com" (granted 1 (ca2 ∷ []))
+    ∷ nameEdge (aliased (dotted "www.example.com") [] ∷ rootIssuing ∷ []) "www.example.com" (granted 1 [])
+    ∷ nameEdge (aliased (dotted "www.example.com") [] ∷ aliased [] (dotted "net") ∷ caa "net" 0 "issue" "ca2.example.org" ∷ []) "www.example.com"
+    (granted 2 (ca2 ∷ []))
+    ∷ nameEdge (cname "www.example.com" "*.example.org" ∷ caa "*.example.org" 0 "issue" "ca2.example.org" ∷ []) "www.example.com" (granted 1 (ca2 ∷ []))
+    -- Without CAA records at the end, the search goes on at the parent of the name looked at. The names above the end are not looked at.
+    ∷ nameEdge (cname "www.example.com" "web.example.org" ∷ issuing "ca1.example.net") "www.example.com" (granted 1 (ca1 ∷ []))
+    ∷ nameEdge
+    (cname "www.example.com" "web.example.org" ∷ caa "example.org" 0 "issue" "ca2.example.org" ∷ caa "example.com" 0 "issue" "ca1.example.net" ∷ [])
+    "www.example.com" (granted 2 (ca1 ∷ []))
+    ∷ nameEdge (cname "www.example.com" "web.example.org" ∷ caa "example.org" 0 "issue" "ca2.example.org" ∷ []) "www.example.com" unrestricted
+    ∷ nameEdge (cname "www.example.com" "web.example.org" ∷ other "web.example.org" 1 1 ∷ issuing "ca1.example.net") "www.example.com" (granted 2 (ca1 ∷ []))
+    -- A set of only iodef at the end leaves the name unrestricted.
+    ∷ nameEdge (cname "www.example.com" "web.example.org" ∷ caa "web.example.org" 0 "iodef" "mailto:a@example.com" ∷ issuing ";") "www.example.com"
+    unrestricted
+    -- The alias of a parent counts when the search comes to it, and not before.
+    ∷ nameEdge (cname "example.com" "example.org" ∷ caa "example.org" 0 "issue" "ca2.example.org" ∷ []) "www.example.com" (granted 1 (ca2 ∷ []))
+    ∷ nameEdge (cname "example.com" "example.org" ∷ caa "example.org" 0 "issue" "ca2.example.org" ∷ caa "www.example.com" 0 "issue" "ca1.example.net" ∷ [])
+    "www.example.com" (granted 2 (ca1 ∷ []))
+    -- For *.X the aliases of X are followed.
+    ∷ nameEdge
+    (cname "www.example.com" "web.example.org" ∷ caa "web.example.org" 0 "issue" "ca1.example.net" ∷ caa "web.example.org" 0 "issuewild" "ca2.example.org" ∷ [])
+    "*.www.example.com" (granted 2 (ca2 ∷ []))
+    -- Eight aliases are followed. With a ninth the name is closed to everyone, and the first alias is reported.
+    ∷ nameEdge (chain "x" 97 7 ++ (issuingAt (letters 97 8) "ca1.example.net" ∷ [])) "x" (granted 8 (ca1 ∷ []))
+    ∷ nameEdge (chain "x" 97 8 ++ (issuingAt (letters 97 9) "ca1.example.net" ∷ [])) "x" (unresolved 0)
+    ∷ nameEdge (chain "x" 97 8 ++ (issuingAt (letters 97 9) "ca1.example.net" ∷ [])) "a" (granted 9 (ca1 ∷ []))
+    ∷ nameEdge (chain "x" 97 8) "*.x" (unresolved 0)
+    -- Eight that lead to no CAA record: the search goes on at the parent. With a ninth it does not.
+    ∷ nameEdge (chain "x.y" 97 7 ++ (caa "y" 0 "issue" "ca1.example.net" ∷ [])) "x.y" (granted 8 (ca1 ∷ []))
+    ∷ nameEdge (chain "x.y" 97 8 ++ (caa "y" 0 "issue" "ca1.example.net" ∷ [])) "x.y" (unresolved 0)
+    -- They are counted anew at each name: five from X lead to no CAA record, and five from its parent to one.
+    ∷ nameEdge (chain "x.y" 97 4 ++ (chain "y" 98 4 ++ (issuingAt (letters 98 5) "ca1.example.net" ∷ []))) "x.y" (granted 10 (ca1 ∷ []))
+    -- From a name of 127 labels, the most that a name can have, to another, and to the set there. A set at a third one is not found.
+    ∷ climbEdge (aliased (below 126) (text "b" ∷ below 125) ∷ issuingAt (text "b" ∷ below 125) "ca1.example.net" ∷ []) 126 (granted 1 (ca1 ∷ []))
+    ∷ climbEdge (aliased (below 126) (text "b" ∷ below 125) ∷ issuingAt (text "d" ∷ below 125) "ca1.example.net" ∷ []) 126 unrestricted
+    -- Aliases that lead back.
+    ∷ nameEdge (cname "www.example.com" "www.example.com" ∷ issuing "ca1.example.net") "www.example.com" (unresolved 0)
+    ∷ nameEdge (cname "web.example.com" "www.example.com" ∷ cname "www.example.com" "WEB.example.com" ∷ issuing "ca1.example.net") "www.example.com" (unresolved 1)
+    -- At a parent, after nothing was found at X; and at a parent that the search does not come to.
+    ∷ nameEdge (caa "com" 0 "issue" "ca1.example.net" ∷ cname "example.com" "example.com" ∷ []) "www.example.com" (unresolved 1)
+    ∷ nameEdge (caa "www.example.com" 0 "issue" "ca1.example.net" ∷ cname "example.com" "example.com" ∷ []) "www.example.com" (granted 0 (ca1 ∷ []))
+    -- Records of type 5 and another class, and of other types, are no aliases.
+    ∷ nameEdge
+    (record { owner = dotted "www.example.com"; type = 5; class = 3; ttl = 3600; rdata = wire (dotted "web.example.org") }
+    ∷ caa "web.example.org" 0 "issue" "ca2.example.org" ∷ issuing "ca1.example.net") "www.example.com" (granted 2 (ca1 ∷ []))
+    ∷ nameEdge
+    (record { owner = dotted "www.example.com"; type = 39; class = 1; ttl = 3600; rdata = wire (dotted "web.example.org") }
+    ∷ caa "web.example.org" 0 "issue" "ca2.example.org" ∷ issuing "ca1.example.net") "www.example.com" (granted 2 (ca1 ∷ []))
     -- Flags as text: at most 255.
     ∷ flagsEdge "255" (some 255)
     ∷ flagsEdge "256" none
@@ -222,7 +306,7 @@ wholeBook =
     ∷ []
 
 abbrev pub wholeCase : List String → List Authorization
-wholeCase ns = map (λ n. authorization someone (caaRecords wholeBook) (dotted n)) ns
+wholeCase ns = map (λ n. authorization someone (asBook wholeBook) (dotted n)) ns
 
 abbrev pub Whole-case : Type 0
 Whole-case =

@@ -6,7 +6,7 @@ use lib.ListN.{length}
 use Rattle.spec_octets.specs.Lists.{all, select, flatten}
 use Rattle.spec_octets.specs.Octets.{same}
 use Rattle.spec_octets.specs.Reader.{Reader, _>>=_, octet, octets}
-use Rattle.spec_rule.specs.Authorizations.{Authorization, unrestricted, forbidden, granted, permits}
+use Rattle.spec_rule.specs.Authorizations.{Authorization, unrestricted, forbidden, granted, unresolved, permits}
 
 pub data Issuers : Type 0 where
   anyone : Issuers
@@ -23,6 +23,7 @@ issuers [] = anyone
 issuers (unrestricted ∷ rest) = issuers rest
 issuers (forbidden r ∷ rest) = listed []
 issuers (granted r ns ∷ rest) = listed (select (λ n. all (permits n) rest) (distinct ns))
+issuers (unresolved r ∷ rest) = listed []
 
 -- A name as one length octet and its octets.
 abbrev pub entry : List ℕ → List ℕ

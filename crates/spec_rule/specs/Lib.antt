@@ -1,3 +1,4 @@
+pub mod Aliases
 pub mod RelevantSet
 pub mod Authorizations
 pub mod Verdicts

@@ -1,24 +1,27 @@
 -- The requirements' "rule of issue" (RFC 8659 sections 3 and 4) as statements about records, without the search. The theorems use these.
 use Prim.Native.Nat.{ℕ, suc, _≤_, _<_}
 use mathlib.Core.Path.{_≡_}
-use mathlib.Core.Logic.{_⊎_}
+use mathlib.Core.Logic.{_≢_, _⊎_}
 use mathlib.Core.Bool.{Bool, true, false}
 use mathlib.Core.List.{List, [], _∷_, _++_, map}
 use lib.ListN.{length, drop}
+use Rattle.spec_limits.specs.Limits.{maxAliases}
 use Rattle.spec_octets.specs.Lists.{All, Any, First, Selects}
 use Rattle.spec_octets.specs.Octets.{lowered}
-use Rattle.spec_name.specs.Names.{Name}
+use Rattle.spec_name.specs.Names.{Name, wire, GoodName}
 use Rattle.spec_request.specs.Request.{isWildcard, base}
 use Rattle.spec_issuer.specs.Issuer.{WellFormed}
 use Rattle.spec_record.specs.declared.PropertyTag.{PropertyTag}
 use Rattle.spec_record.specs.declared.PropertyTag.the-variants.{Issue, IssueWild, Unknown}
 use Rattle.spec_record.specs.Property.{Property, wireProperty, isCritical, tagOf}
 use Rattle.spec_record.specs.Records.{Record}
+use Rattle.spec_record.specs.Kinds.{OfKind}
 use Rattle.spec_value.specs.Parameters.{Parameter}
 use Rattle.spec_value.specs.Productions.{valueOf}
 use Rattle.spec_applicant.specs.Applicant.{Applicant}
 use Rattle.spec_applicant.specs.Meaning.{Admits}
-use Rattle.spec_rule.specs.RelevantSet.{CaaRecord, empty, found, lookup, relevantSet}
+use Rattle.spec_rule.specs.Aliases.{Alias, asAlias}
+use Rattle.spec_rule.specs.RelevantSet.{CaaRecord, Book, Lookup, empty, found, endless, lookup, relevantSet}
 
 -- cs are the CAA records of rs, in their order, each with its number. The first record of rs has the number k.
 pub data CaaRecordsOf : ℕ → List Record → List CaaRecord → Type 0 where
@@ -29,14 +32,31 @@ pub data CaaRecordsOf : ℕ → List Record → List CaaRecord → Type 0 where
   is-other : {k : ℕ} {r : Record} {rs : List Record} {cs : List CaaRecord} →
       ((r .type ≡ 257) × (r .class ≡ 1) → ⊥) → CaaRecordsOf (suc k) rs cs → CaaRecordsOf k (r ∷ rs) cs
 
+-- The same for aliases: type 5 and class 1, and the data is one valid name.
+abbrev pub AliasesOf : ℕ → List Record → List Alias → Type 0
+AliasesOf = OfKind 5 1 (λ d t. (d ≡ wire t) × GoodName t) asAlias
+
 -- The owner of the record is x: the whole name, ignoring case.
 abbrev pub OwnedBy : Name → CaaRecord → Type 0
 OwnedBy x r = map lowered (r .owner) ≡ map lowered x
 
--- The relevant set rs is found at x without its first k labels, and no CAA record at any name before that.
-abbrev pub NearestAt : List CaaRecord → Name → ℕ → List CaaRecord → Type 0
-NearestAt book x k rs =
-    (k < length x) × (lookup book (drop k x) ≡ found rs) × ((j : ℕ) → j < k → lookup book (drop j x) ≡ empty)
+-- The same for an alias.
+abbrev pub AliasOf : Name → Alias → Type 0
+AliasOf x a = map lowered (a .owner) ≡ map lowered x
+
+-- Following k aliases leads from x to y. In an accepted book a name has at most one alias, so the first is the only one.
+pub data Leads (al : List Alias) : ℕ → Name → Name → Type 0 where
+  arrived : {x : Name} → Leads al 0 x x
+  onward : {k : ℕ} {x y : Name} {a : Alias} → First (AliasOf x) al a → Leads al k (a .target) y → Leads al (suc k) x y
+
+-- At most 8 aliases lead from x to y, and y has none.
+abbrev pub EndsAt : List Alias → Name → Name → Type 0
+EndsAt al x y = (k : ℕ) × (k ≤ maxAliases) × Leads al k x y × All (λ a. AliasOf y a → ⊥) al
+
+-- The lookup at x without its first k labels gives l, which is not empty. At each name before that it is empty.
+abbrev pub NearestAt : Book → Name → ℕ → Lookup → Type 0
+NearestAt book x k l =
+    (k < length x) × (lookup book (drop k x) ≡ l) × (l ≢ empty) × ((j : ℕ) → j < k → lookup book (drop j x) ≡ empty)
 
 abbrev pub Tagged : PropertyTag → CaaRecord → Type 0
 Tagged t r = tagOf (r .property .tag) ≡ t
@@ -55,7 +75,7 @@ abbrev pub Grants : Applicant → List ℕ → CaaRecord → Type 0
 Grants who d r =
     (n : List ℕ) × (ps : List Parameter) × valueOf n ps (r .property .value) × WellFormed n × (lowered n ≡ d) × Admits who ps
 
-module _ (book : List CaaRecord) (n : Name) where
+module _ (book : Book) (n : Name) where
   -- rs is the relevant set of the requested name n.
   abbrev pub Relevant : List CaaRecord → Type 0
   Relevant rs = relevantSet book (base n) ≡ found rs
@@ -88,6 +108,10 @@ module _ (book : List CaaRecord) (n : Name) where
   -- gs are all governing records of n, in their order.
   abbrev pub GoverningRecords : List CaaRecord → Type 0
   GoverningRecords gs = (rs : List CaaRecord) × Relevant rs × NoneCritical rs × Selects (Governs (isWildcard n) rs) rs gs
+
+  -- The aliases of X, or of the first name above it with anything but an empty lookup, do not end. r is the number of the first of them.
+  abbrev pub UnresolvedFrom : ℕ → Type 0
+  UnresolvedFrom r = relevantSet book (base n) ≡ endless r
 
 -- n is name number k, P holds of every name before it, and not of n.
 abbrev pub LowestNot : (Name → Type 0) → List Name → ℕ → Name → Type 0

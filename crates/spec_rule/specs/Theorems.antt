@@ -1,5 +1,5 @@
 -- What the definitions of this crate mean. Each statement is proved under its name in proofs/.
-use Prim.Native.Nat.{ℕ, _+_, _≤_, _<_}
+use Prim.Native.Nat.{ℕ, suc, _+_, _≤_, _<_}
 use mathlib.Core.Path.{_≡_}
 use mathlib.Core.Logic.{_↔_, _≢_, _⊎_}
 use mathlib.Core.List.{List, [], _∷_, _++_, map, List·Memᴰ}
@@ -8,7 +8,8 @@ use lib.ListN.{length, take, drop}
 use Rattle.spec_refusal.specs.declared.Refusal.{Refusal}
 use Rattle.spec_refusal.specs.declared.Refusal.the-variants.{NoRoom}
 use Rattle.spec_refusal.specs.Order.{rank}
-use Rattle.spec_octets.specs.Lists.{All, Any, Distinct, Selects}
+use Rattle.spec_limits.specs.Limits.{maxAliases}
+use Rattle.spec_octets.specs.Lists.{All, Any, First, Distinct, Selects}
 use Rattle.spec_octets.specs.Octets.{Octets, lowered}
 use Rattle.spec_octets.specs.Items.{whole, items}
 use Rattle.spec_name.specs.Names.{Name}
@@ -21,62 +22,83 @@ use Rattle.spec_applicant.specs.Theorems.{ApplicantRow}
 use Rattle.spec_record.specs.Records.{Record, records, bookRefusal, GoodRecord}
 use Rattle.spec_record.specs.Theorems.{BookRow}
 use Rattle.spec_rule.specs.declared.Judgement.{Judgement}
-use Rattle.spec_rule.specs.declared.Judgement.the-variants.{Permitted, UnknownCritical, NotGranted, Refused}
+use Rattle.spec_rule.specs.declared.Judgement.the-variants.{Permitted, UnknownCritical, NotGranted, TooManyAliases, Refused}
 use Rattle.spec_rule.specs.declared.PermittedIssuers.the-variants.{Anyone, Listed, Refused as ListRefused}
-use Rattle.spec_rule.specs.RelevantSet.{CaaRecord, empty, found, caaRecords, lookup, relevantSet}
-use Rattle.spec_rule.specs.Authorizations.{Authorization, unrestricted, forbidden, granted, authorization}
+use Rattle.spec_rule.specs.Aliases.{Alias, aliases}
+use Rattle.spec_rule.specs.RelevantSet.{CaaRecord, Book, Lookup, empty, found, endless, caaRecords, asBook, lookup, relevantSet}
+use Rattle.spec_rule.specs.Authorizations.{Authorization, unrestricted, forbidden, granted, unresolved, authorization}
 use Rattle.spec_rule.specs.Verdicts.{denial, verdict}
 use Rattle.spec_rule.specs.IssuerLists.{Issuers, anyone, listed, issuers, entries, readEntry}
 use Rattle.spec_rule.specs.Calls.{authorizations, judge, Listing, listIssuers, AnswerCode, judgementCode}
-use Rattle.spec_rule.specs.Meaning.{CaaRecordsOf, OwnedBy, NearestAt, UnknownCriticalRecord, Relevant, Unrestricted, PermittedTo, ForbiddenBy, GovernedFrom, GoverningRecords, LowestNot, Before, GrantedBefore}
+use Rattle.spec_rule.specs.Meaning.{CaaRecordsOf, AliasesOf, OwnedBy, AliasOf, Leads, EndsAt, NearestAt, UnknownCriticalRecord, Relevant, Unrestricted, PermittedTo, ForbiddenBy, GovernedFrom, GoverningRecords, UnresolvedFrom, LowestNot, Before, GrantedBefore}
 
 -- The CAA records are those of type 257 and class 1, numbered from 0 over all records.
 abbrev pub Caa-records : Type 0
 Caa-records = (rs : List Record) → All GoodRecord rs → CaaRecordsOf 0 rs (caaRecords rs)
 
--- A lookup finds all CAA records of that owner, in the order of the book.
+-- The aliases are those of type 5 and class 1, numbered in the same way.
+abbrev pub Alias-records : Type 0
+Alias-records = (rs : List Record) → All GoodRecord rs → AliasesOf 0 rs (aliases rs)
+
+-- A lookup finds all CAA records, in the order of the book, of the name at which following aliases ends. It reports the first alias exactly
+-- when nine can be followed.
 abbrev pub A-lookup : Type 0
 A-lookup =
-    (book : List CaaRecord) (x : Name) →
-    ((lookup book x ≡ empty) ↔ All (λ r. OwnedBy x r → ⊥) book)
-    × ((rs : List CaaRecord) → (lookup book x ≡ found rs) ↔ (Selects (OwnedBy x) book rs × (rs ≢ [])))
+    (book : Book) (x : Name) →
+    ((lookup book x ≡ empty) ↔ ((y : Name) × EndsAt (book .aliases) x y × All (λ r. OwnedBy y r → ⊥) (book .caa)))
+    × ((rs : List CaaRecord) → (lookup book x ≡ found rs)
+    ↔ ((y : Name) × EndsAt (book .aliases) x y × Selects (OwnedBy y) (book .caa) rs × (rs ≢ [])))
+    × ((r : ℕ) → (lookup book x ≡ endless r)
+    ↔ ((y : Name) × Leads (book .aliases) (suc maxAliases) x y × ((a : Alias) × First (AliasOf x) (book .aliases) a × (a .number ≡ r))))
 
--- The relevant set is what is found at the first of X, its parent, .. that has a CAA record. The root is not among these names.
+-- Without aliases in the book, a lookup finds all CAA records of that owner, in the order of the book.
+abbrev pub Lookup-without-aliases : Type 0
+Lookup-without-aliases =
+    (book : Book) (x : Name) → book .aliases ≡ [] →
+    ((lookup book x ≡ empty) ↔ All (λ r. OwnedBy x r → ⊥) (book .caa))
+    × ((rs : List CaaRecord) → (lookup book x ≡ found rs) ↔ (Selects (OwnedBy x) (book .caa) rs × (rs ≢ [])))
+    × ((r : ℕ) → lookup book x ≢ endless r)
+
+-- The relevant set is what is found at the first of X, its parent, .. where the lookup is not empty. The root is not among these names, and
+-- no name above the end of an alias is.
 abbrev pub Nearest-name-decides : Type 0
 Nearest-name-decides =
-    (book : List CaaRecord) (x : Name) →
-    ((rs : List CaaRecord) → (relevantSet book x ≡ found rs) ↔ ((k : ℕ) × NearestAt book x k rs))
+    (book : Book) (x : Name) →
+    ((l : Lookup) → l ≢ empty → (relevantSet book x ≡ l) ↔ ((k : ℕ) × NearestAt book x k l))
     × ((relevantSet book x ≡ empty) ↔ ((k : ℕ) → k < length x → lookup book (drop k x) ≡ empty))
 
 -- Permitted exactly when every name is unrestricted or granted to the issuer. Otherwise: the lowest name that isn't, and why.
-abbrev pub Verdict-on : Applicant → List CaaRecord → List Name → List ℕ → Judgement → Type 0
+abbrev pub Verdict-on : Applicant → Book → List Name → List ℕ → Judgement → Type 0
 Verdict-on who book ns d v =
     ((v ≡ Permitted) ↔ All (λ n. PermittedTo book n who d) ns)
     × ((k r : ℕ) → (v ≡ UnknownCritical (denial k r)) ↔ ((n : Name) × LowestNot (λ m. PermittedTo book m who d) ns k n × ForbiddenBy book n r))
     × ((k r : ℕ) → (v ≡ NotGranted (denial k r)) ↔ ((n : Name) × LowestNot (λ m. PermittedTo book m who d) ns k n × GovernedFrom book n r))
+    × ((k r : ℕ) → (v ≡ TooManyAliases (denial k r)) ↔ ((n : Name) × LowestNot (λ m. PermittedTo book m who d) ns k n × UnresolvedFrom book n r))
     × ((r : Refusal) → v ≢ Refused r)
 
 abbrev pub Verdict-by-the-rule : Type 0
 Verdict-by-the-rule =
-    (who : Applicant) (book : List CaaRecord) (ns : List Name) (d : List ℕ) → Verdict-on who book ns d (verdict d (map (authorization who book) ns))
+    (who : Applicant) (book : Book) (ns : List Name) (d : List ℕ) → Verdict-on who book ns d (verdict d (map (authorization who book) ns))
 
--- The verdict in the requirements' numbers: 0; 20 and 21 with the numbers of name and record. No other number is a verdict.
+-- The verdict in the requirements' numbers: 0; 20, 21 and 22 with the numbers of name and record. No other number is a verdict.
 abbrev pub Verdict-numbers : Type 0
 Verdict-numbers =
-    (who : Applicant) (book : List CaaRecord) (ns : List Name) (d : List ℕ) (v : Judgement) → Verdict-on who book ns d v →
+    (who : Applicant) (book : Book) (ns : List Name) (d : List ℕ) (v : Judgement) → Verdict-on who book ns d v →
     ((judgementCode v ≡ record { number = 0; values = [] }) ↔ All (λ n. PermittedTo book n who d) ns)
     × ((k r : ℕ) → (judgementCode v ≡ record { number = 20; values = k ∷ r ∷ [] })
     ↔ ((n : Name) × LowestNot (λ m. PermittedTo book m who d) ns k n × ForbiddenBy book n r))
     × ((k r : ℕ) → (judgementCode v ≡ record { number = 21; values = k ∷ r ∷ [] })
     ↔ ((n : Name) × LowestNot (λ m. PermittedTo book m who d) ns k n × GovernedFrom book n r))
-    × ((judgementCode v .number ≡ 0) ⊎ (judgementCode v .number ≡ 20) ⊎ (judgementCode v .number ≡ 21))
+    × ((k r : ℕ) → (judgementCode v ≡ record { number = 22; values = k ∷ r ∷ [] })
+    ↔ ((n : Name) × LowestNot (λ m. PermittedTo book m who d) ns k n × UnresolvedFrom book n r))
+    × ((judgementCode v .number ≡ 0) ⊎ (judgementCode v .number ≡ 20) ⊎ (judgementCode v .number ≡ 21) ⊎ (judgementCode v .number ≡ 22))
 
 -- An accepted request, issuer domain name and book are judged by their names and records.
 abbrev pub Judge-accepted : Type 0
 Judge-accepted =
     (request issuer : List ℕ) (who : Applicant) (book : List ℕ) →
     requestRefusal request ≡ none → issuerRefusal issuer ≡ none → applicantRefusal who ≡ none → bookRefusal book ≡ none →
-    Verdict-on who (caaRecords (records book)) (requestedNames request) issuer (judge request issuer who book)
+    Verdict-on who (asBook (records book)) (requestedNames request) issuer (judge request issuer who book)
 
 -- The output needs n octets, and the buffer has fewer.
 abbrev pub Row-8 : List ℕ → Applicant → List ℕ → List ℕ → ℕ → Type 0
@@ -113,15 +135,15 @@ List-refusals =
 
 -- The requirements' third demand, on who may issue, stated over the verdict: what the permitted issuers are, for an accepted request and book.
 pub record PermittedIssuersAre (request : List ℕ) (who : Applicant) (book : List ℕ) (answer : Issuers) : Type 0 where
-  pub anyone-exactly : (answer ≡ anyone) ↔ All (Unrestricted (caaRecords (records book))) (requestedNames request)
+  pub anyone-exactly : (answer ≡ anyone) ↔ All (Unrestricted (asBook (records book))) (requestedNames request)
   pub permitted-exactly : (d : List ℕ) → WellFormed d →
       (judge request d who book ≡ Permitted) ↔ ((answer ≡ anyone) ⊎ ((ns : List (List ℕ)) × (answer ≡ listed ns) × List·Memᴰ (lowered d) ns))
   pub well-formed : (ns : List (List ℕ)) → answer ≡ listed ns → All (λ n. WellFormed n × (lowered n ≡ n)) ns
   pub none-twice : (ns : List (List ℕ)) → answer ≡ listed ns → Distinct ns
   -- The order is that of the records that govern the restricted name with the lowest number.
   pub in-order : (ns : List (List ℕ)) → answer ≡ listed ns → (k : ℕ) (n : Name) (gs : List CaaRecord) →
-      LowestNot (Unrestricted (caaRecords (records book))) (requestedNames request) k n →
-      GoverningRecords (caaRecords (records book)) n gs → (a b : List ℕ) → List·Memᴰ a ns → List·Memᴰ b ns →
+      LowestNot (Unrestricted (asBook (records book))) (requestedNames request) k n →
+      GoverningRecords (asBook (records book)) n gs → (a b : List ℕ) → List·Memᴰ a ns → List·Memᴰ b ns →
       Before a b ns ↔ GrantedBefore who gs a b
 
 abbrev pub Permitted-issuers : Type 0
@@ -152,8 +174,16 @@ Unknown-critical-lists-nobody =
     (request : List ℕ) (who : Applicant) (book buffer : List ℕ) →
     requestRefusal request ≡ none → applicantRefusal who ≡ none → bookRefusal book ≡ none →
     Any
-    (λ n. (rs : List CaaRecord) × Relevant (caaRecords (records book)) n rs × Any UnknownCriticalRecord rs)
+    (λ n. (rs : List CaaRecord) × Relevant (asBook (records book)) n rs × Any UnknownCriticalRecord rs)
     (requestedNames request) →
+    listIssuers request who book buffer ≡ record { answer = Listed 0 0; buffer = buffer }
+
+-- So do aliases that don't end, where the lookup of a requested name decides by them.
+abbrev pub Unresolved-lists-nobody : Type 0
+Unresolved-lists-nobody =
+    (request : List ℕ) (who : Applicant) (book buffer : List ℕ) →
+    requestRefusal request ≡ none → applicantRefusal who ≡ none → bookRefusal book ≡ none →
+    Any (λ n. (r : ℕ) × UnresolvedFrom (asBook (records book)) n r) (requestedNames request) →
     listIssuers request who book buffer ≡ record { answer = Listed 0 0; buffer = buffer }
 
 -- The list never needs more octets than the book has.
@@ -177,7 +207,7 @@ ListsNames l ns = (count octets : ℕ) × (l .answer ≡ Listed count octets) ×
 
 -- The requirements' third demand, on who may issue, stated over the call: what a caller learns from the answer and the octets of the buffer.
 pub record ListingTells (request : List ℕ) (who : Applicant) (book buffer : List ℕ) (l : Listing) : Type 0 where
-  pub anyone-exactly : (l .answer ≡ Anyone) ↔ All (Unrestricted (caaRecords (records book))) (requestedNames request)
+  pub anyone-exactly : (l .answer ≡ Anyone) ↔ All (Unrestricted (asBook (records book))) (requestedNames request)
   pub permitted-exactly : (d : List ℕ) → WellFormed d →
       (judge request d who book ≡ Permitted) ↔ ((l .answer ≡ Anyone) ⊎ ((ns : List (List ℕ)) × ListsNames l ns × List·Memᴰ (lowered d) ns))
   pub answered : (l .answer ≡ Anyone) ⊎ ((count octets : ℕ) × (l .answer ≡ Listed count octets))
@@ -188,8 +218,8 @@ pub record ListingTells (request : List ℕ) (who : Applicant) (book buffer : Li
   pub none-twice : (ns : List (List ℕ)) → ListsNames l ns → Distinct ns
   -- The order is that of the records that govern the restricted name with the lowest number.
   pub in-order : (ns : List (List ℕ)) → ListsNames l ns → (k : ℕ) (n : Name) (gs : List CaaRecord) →
-      LowestNot (Unrestricted (caaRecords (records book))) (requestedNames request) k n →
-      GoverningRecords (caaRecords (records book)) n gs → (a b : List ℕ) → List·Memᴰ a ns → List·Memᴰ b ns →
+      LowestNot (Unrestricted (asBook (records book))) (requestedNames request) k n →
+      GoverningRecords (asBook (records book)) n gs → (a b : List ℕ) → List·Memᴰ a ns → List·Memᴰ b ns →
       Before a b ns ↔ GrantedBefore who gs a b
   pub length-stays : length (l .buffer) ≡ length buffer
   pub rest-stays : (count octets : ℕ) → l .answer ≡ Listed count octets → drop octets (l .buffer) ≡ drop octets buffer
@@ -224,20 +254,28 @@ Room-needed =
 abbrev pub renumbered : (ℕ → ℕ) → CaaRecord → CaaRecord
 renumbered f r = record { number = f (r .number); owner = r .owner; property = r .property }
 
+abbrev pub renumberedAlias : (ℕ → ℕ) → Alias → Alias
+renumberedAlias f a = record { number = f (a .number); owner = a .owner; target = a .target }
+
+abbrev pub renumberedBook : (ℕ → ℕ) → Book → Book
+renumberedBook f book = record { caa = map (renumbered f) (book .caa); aliases = map (renumberedAlias f) (book .aliases) }
+
 abbrev pub renumberedAuthorization : (ℕ → ℕ) → Authorization → Authorization
 renumberedAuthorization f unrestricted = unrestricted
 renumberedAuthorization f (forbidden r) = forbidden (f r)
 renumberedAuthorization f (granted r ns) = granted (f r) ns
+renumberedAuthorization f (unresolved r) = unresolved (f r)
 
 abbrev pub renumberedVerdict : (ℕ → ℕ) → Judgement → Judgement
 renumberedVerdict f Permitted = Permitted
 renumberedVerdict f (UnknownCritical d) = UnknownCritical (denial (d .name .0) (f (d .rr .0)))
 renumberedVerdict f (NotGranted d) = NotGranted (denial (d .name .0) (f (d .rr .0)))
+renumberedVerdict f (TooManyAliases d) = TooManyAliases (denial (d .name .0) (f (d .rr .0)))
 renumberedVerdict f (Refused r) = Refused r
 
 abbrev pub Renumbering : Type 0
 Renumbering =
-    (f : ℕ → ℕ) (who : Applicant) (book : List CaaRecord) (ns : List Name) →
-    (map (authorization who (map (renumbered f) book)) ns ≡ map (renumberedAuthorization f) (map (authorization who book) ns))
-    × ((d : List ℕ) → verdict d (map (authorization who (map (renumbered f) book)) ns) ≡ renumberedVerdict f (verdict d (map (authorization who book) ns)))
-    × (issuers (map (authorization who (map (renumbered f) book)) ns) ≡ issuers (map (authorization who book) ns))
+    (f : ℕ → ℕ) (who : Applicant) (book : Book) (ns : List Name) →
+    (map (authorization who (renumberedBook f book)) ns ≡ map (renumberedAuthorization f) (map (authorization who book) ns))
+    × ((d : List ℕ) → verdict d (map (authorization who (renumberedBook f book)) ns) ≡ renumberedVerdict f (verdict d (map (authorization who book) ns)))
+    × (issuers (map (authorization who (renumberedBook f book)) ns) ≡ issuers (map (authorization who book) ns))

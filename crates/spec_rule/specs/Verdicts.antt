@@ -3,9 +3,9 @@ use Prim.Native.Nat.{ℕ, suc}
 use mathlib.Core.Bool.{cond}
 use mathlib.Core.List.{List, [], _∷_}
 use Rattle.spec_rule.specs.declared.Judgement.{Judgement}
-use Rattle.spec_rule.specs.declared.Judgement.the-variants.{Permitted, UnknownCritical, NotGranted}
+use Rattle.spec_rule.specs.declared.Judgement.the-variants.{Permitted, UnknownCritical, NotGranted, TooManyAliases}
 use Rattle.spec_rule.specs.declared.Denial.{Denial}
-use Rattle.spec_rule.specs.Authorizations.{Authorization, unrestricted, forbidden, granted, permits}
+use Rattle.spec_rule.specs.Authorizations.{Authorization, unrestricted, forbidden, granted, unresolved, permits}
 
 abbrev pub denial : ℕ → ℕ → Denial
 denial k r = record { name = record { 0 = k }; rr = record { 0 = r } }
@@ -15,6 +15,7 @@ abbrev pub denied : ℕ → Authorization → Judgement
 denied k unrestricted = Permitted
 denied k (forbidden r) = UnknownCritical (denial k r)
 denied k (granted r ns) = NotGranted (denial k r)
+denied k (unresolved r) = TooManyAliases (denial k r)
 
 -- The first name that is not permitted decides. k is the number of the first name in the list.
 abbrev pub verdictFrom : ℕ → List ℕ → List Authorization → Judgement

@@ -16,6 +16,8 @@ pub enum Judgement {
     UnknownCritical(Denial),
     // The name is restricted, and not granted to this issuer.
     NotGranted(Denial),
+    // A name that was looked at has too many aliases to follow.
+    TooManyAliases(Denial),
     Refused(Refusal),
 }
 

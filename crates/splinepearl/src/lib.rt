@@ -6,7 +6,7 @@ ghost use mathlib.Core.Path.{_≡_};
 ghost use Rattle.spec_answers.specs.Door.{caaJudgeFor, caaPermittedIssuersFor, caaWriteLine, caaReadLine};
 ghost use Rattle.spec_answers.specs.LineAnswers.{packedLine};
 
-// May this issuer issue, for this account and by this method? 0: permitted. 20 and 21: name number in a, record number in b. A refusal: its place (spec_refusal) in a.
+// May this issuer issue, for this account and by this method? 0: permitted. 20, 21 and 22: name number in a, record number in b. A refusal: its place (spec_refusal) in a.
 #[no_mangle]
 pub extern "C" fn caa_judge_for(
     request: &[u8],
@@ -28,6 +28,11 @@ pub extern "C" fn caa_judge_for(
             let name = d.name;
             let rr = d.rr;
             spec_packed::pack(21, name.0 as u64, rr.0 as u64, 0)
+        }
+        Judgement::TooManyAliases(d) => {
+            let name = d.name;
+            let rr = d.rr;
+            spec_packed::pack(22, name.0 as u64, rr.0 as u64, 0)
         }
         Judgement::Refused(r) => spec_packed::pack_refusal(r),
     }

@@ -26,7 +26,7 @@ pub fn permitted_issuers<'a>(
 /// A name in wire form.
 pub fn name(text: &str) -> Vec<u8> {
     let mut wire = Vec::new();
-    for label in text.split('.') {
+    for label in text.split('.').filter(|label| !label.is_empty()) {
         wire.push(label.len() as u8);
         wire.extend(label.bytes());
     }
@@ -60,6 +60,11 @@ pub fn record(owner: &str, rr_type: u16, data: &[u8]) -> Vec<u8> {
 /// A CAA record without flags.
 pub fn caa(owner: &str, tag: &str, value: &str) -> Vec<u8> {
     record(owner, 257, &data(0, tag, value.as_bytes()))
+}
+
+/// An alias: a CNAME record.
+pub fn cname(owner: &str, target: &str) -> Vec<u8> {
+    record(owner, 5, &name(target))
 }
 
 /// The book of the requirements' whole case.

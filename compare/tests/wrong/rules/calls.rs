@@ -5,6 +5,7 @@ use compare::buffer::put_at_front;
 use compare::{Answer, Permitted, Word};
 
 use super::book::taken_as;
+use super::conflicts;
 use super::mistake::Mistake;
 use super::rule::{same_up_to_128_octets, standings, Standing};
 
@@ -16,8 +17,12 @@ pub fn judge(
     book: &[u8],
 ) -> Result<Answer, Word> {
     let book: &[u8] = &taken_as(request, book);
-    if let refused @ Answer::Refused(_) = compare::judge(request, issuer, account, method, book) {
-        return Ok(refused);
+    let right = match compare::judge(request, issuer, account, method, book) {
+        Answer::Refused(refusal) => Some(refusal),
+        _ => None,
+    };
+    if let Some(refusal) = conflicts::refused(right, request, book) {
+        return Ok(Answer::Refused(refusal));
     }
     let applicant = Applicant { account, method };
     let mut against = Vec::new();
@@ -25,6 +30,9 @@ pub fn judge(
         match standing {
             Standing::Forbidden { record } => {
                 against.push(Answer::UnknownCritical { name, record });
+            }
+            Standing::TooManyAliases { record } => {
+                against.push(Answer::TooManyAliases { name, record });
             }
             Standing::Governed { record, grantees } => {
                 if !grantees.iter().any(|grantee| is_same(grantee, issuer)) {
@@ -39,6 +47,9 @@ pub fn judge(
     }
     if Mistake::UnknownCriticalIsToldFirst.is_made() {
         against.sort_by_key(|answer| !matches!(answer, Answer::UnknownCritical { .. }));
+    }
+    if Mistake::TooManyAliasesAreToldFirst.is_made() {
+        against.sort_by_key(|answer| !matches!(answer, Answer::TooManyAliases { .. }));
     }
     Ok(against.first().copied().unwrap_or(Answer::Permitted))
 }
@@ -65,10 +76,12 @@ pub fn permitted_issuers(
 ) -> Result<Permitted, Word> {
     let book: &[u8] = &taken_as(request, book);
     let mut enough = vec![0; book.len()];
-    if let refused @ Permitted::Refused(_) =
-        compare::permitted_issuers(request, account, method, book, &mut enough)
-    {
-        return Ok(refused);
+    let right = match compare::permitted_issuers(request, account, method, book, &mut enough) {
+        Permitted::Refused(refusal) => Some(refusal),
+        _ => None,
+    };
+    if let Some(refusal) = conflicts::refused(right, request, book) {
+        return Ok(Permitted::Refused(refusal));
     }
     let applicant = Applicant { account, method };
     let Some(listed) = listed(standings(request, applicant, book)) else {
@@ -128,7 +141,9 @@ fn grants_of_restricted(standings: Vec<Standing<'_>>) -> Vec<Vec<&[u8]>> {
             Standing::Open => {}
             Standing::Forbidden { .. }
                 if !grants.is_empty() && Mistake::UnknownCriticalBehindIsIgnored.is_made() => {}
-            Standing::Forbidden { .. } => grants.push(Vec::new()),
+            Standing::TooManyAliases { .. }
+                if !grants.is_empty() && Mistake::TooManyAliasesBehindAreIgnored.is_made() => {}
+            Standing::Forbidden { .. } | Standing::TooManyAliases { .. } => grants.push(Vec::new()),
             Standing::Governed { grantees, .. } => grants.push(grantees),
         }
     }

@@ -32,7 +32,62 @@ mistakes! {
         FirstOctetOfATagIsNotLookedAt,
         LastOctetOfATagIsNotLookedAt,
         TagsOfClass3AreLookedInto,
-        TagsAreLookedIntoBehindTheLayout;
+        TagsAreLookedIntoBehindTheLayout,
+        TargetsAreNotLookedInto,
+        TargetsAreLookedIntoBehindTheLayout,
+        TargetsOfRelevantNamesAloneAreLookedInto,
+        TargetsOfTheRootAreNotLookedInto,
+        TargetsOfClass3AreLookedInto,
+        OctetsBehindATargetAreLetPass,
+        EmptyTargetsAreLetPass,
+        CompressedTargetsAreLetPass,
+        TargetsOf256OctetsAreLetPass,
+        TargetsOf255OctetsAreRefused,
+        TargetsHaveToBeHostNames,
+        RootAsTargetIsRefused;
+    IN_THE_CONFLICTS:
+        ConflictsAreLetPass,
+        TwoAliasesAreLetPass,
+        EqualAliasesAreLetPass,
+        AliasBehindCaaIsLetPass,
+        CaaBehindAliasIsLetPass,
+        ConflictsOfTheRootAreLetPass,
+        ConflictsOfRelevantNamesAloneCount,
+        ConflictsAreFoundByLetterCase,
+        NeighboursAloneConflict,
+        CaaTwiceIsAConflict,
+        AliasBesideOtherTypesIsAConflict,
+        AliasOfClass3IsAConflict,
+        EarlierRecordIsTold,
+        LastConflictIsTold,
+        ConflictOfTheEarliestRecordIsTold,
+        ConflictsAreToldInReadingOrder;
+    IN_THE_ALIASES:
+        AliasesAreNotFollowed,
+        AliasesOfXAloneAreFollowed,
+        AliasesAboveXAloneAreFollowed,
+        AliasesOf3NamesAreFollowed,
+        AliasesOf40NamesAreFollowed,
+        AliasesOf100NamesAreFollowed,
+        AliasOfTheStarIsFollowed,
+        AliasesOfAnyClassCount,
+        DnamesCount,
+        OneAliasIsFollowed,
+        SevenAliasesAreFollowed,
+        NineAliasesAreFollowed,
+        AliasesAreCountedFromLookToLook,
+        LoopsLeadNowhere,
+        TooManyAliasesLeadNowhere,
+        TooManyAliasesAreOpen,
+        TargetsAreFollowedByLetterCase,
+        TargetsAreFollowedUpTo128Octets,
+        SetsOfTargetsAreFoundByLetterCase,
+        RootAsTargetIsPassedOver,
+        AliasOfTheRootIsNotFollowed,
+        AliasOfTheRootIsLookedAt,
+        TargetIsClimbed,
+        ClimbGoesOnFromTheTarget,
+        TargetWithoutSetEndsTheClimb;
     IN_THE_LOOK:
         OwnersAreComparedByTail,
         OwnersAreComparedUpTo128Octets,
@@ -122,7 +177,12 @@ mistakes! {
         LastGoverningIsTold,
         LastUnknownCriticalIsTold,
         LastNameIsTold,
-        UnknownCriticalIsToldFirst;
+        UnknownCriticalIsToldFirst,
+        TooManyAliasesAreToldFirst,
+        LastAliasIsTold,
+        LastFollowedAliasIsTold,
+        LowestAliasIsTold,
+        AliasOfXIsTold;
     IN_THE_LIST:
         NamesWithLongLabelsAreListed,
         LongNamesAreListed,
@@ -137,7 +197,8 @@ mistakes! {
         FirstNameDecides,
         OneOpenNameIsAnyone,
         EmptyIsAnyone,
-        UnknownCriticalBehindIsIgnored;
+        UnknownCriticalBehindIsIgnored,
+        TooManyAliasesBehindAreIgnored;
 }
 
 thread_local! {

@@ -1,7 +1,9 @@
 //! The rule of issue with one mistake.
 
+mod aliases;
 mod book;
 mod calls;
+mod conflicts;
 mod limits;
 mod mistake;
 mod rule;
@@ -20,7 +22,7 @@ const LIST: Other = Other {
     ..Other::NOTHING
 };
 
-fn all_are_found_out(other: Other, groups: [&[Mistake]; 5]) {
+fn all_are_found_out(other: Other, groups: [&[Mistake]; 7]) {
     let is_missed = |mistake: &Mistake| {
         mistake.is_made_from_now_on();
         !is_found_at_random(other)
@@ -45,6 +47,8 @@ fn mistakes_in_judging_are_found_out() {
         JUDGE,
         [
             Mistake::IN_THE_BOOK,
+            Mistake::IN_THE_CONFLICTS,
+            Mistake::IN_THE_ALIASES,
             Mistake::IN_THE_LOOK,
             Mistake::IN_THE_SET,
             Mistake::IN_THE_LIMITS,
@@ -59,6 +63,8 @@ fn mistakes_in_listing_are_found_out() {
         LIST,
         [
             Mistake::IN_THE_BOOK,
+            Mistake::IN_THE_CONFLICTS,
+            Mistake::IN_THE_ALIASES,
             Mistake::IN_THE_LOOK,
             Mistake::IN_THE_SET,
             Mistake::IN_THE_LIMITS,

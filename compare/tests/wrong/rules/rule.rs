@@ -1,5 +1,7 @@
 //! The rule of issue once more, with room for mistakes. Names are in wire form.
 
+use std::iter::successors;
+
 use compare::applicant::Applicant;
 use compare::book::{read_property, read_raw_record, Property};
 use compare::limits::{ISSUER_OCTETS, LABEL_OCTETS};
@@ -7,12 +9,16 @@ use compare::request::read_requested_name;
 use compare::value::{leading_blanks, IssueValue};
 use compare::{read_issuer, read_value};
 
+use super::aliases::{alias_of, aliases, follow, owner_of, Alias, Led};
 use super::limits::limits_are_met;
 use super::mistake::Mistake;
 
 pub enum Standing<'a> {
     Open,
     Forbidden {
+        record: usize,
+    },
+    TooManyAliases {
         record: usize,
     },
     Governed {
@@ -28,15 +34,22 @@ pub fn standings<'a>(
     book: &'a [u8],
 ) -> Vec<Standing<'a>> {
     let records = caa_records(book, applicant);
+    let aliases = aliases(book);
     let mut standings = Vec::new();
     let mut rest = request;
     while let Some((requested, behind)) = read_requested_name(rest) {
         let name = &rest[..rest.len() - behind.len()];
-        let start = match requested.wildcard && !Mistake::StarIsLookedAt.is_made() {
+        let star_is_followed =
+            Mistake::AliasOfTheStarIsFollowed.is_made() && alias_of(&aliases, name).is_some();
+        let star_counts = Mistake::StarIsLookedAt.is_made() || star_is_followed;
+        let start = match requested.wildcard && !star_counts {
             true => &name[2..],
             false => name,
         };
-        standings.push(standing(&relevant_set(&records, start), requested.wildcard));
+        standings.push(match relevant_set(&records, &aliases, start) {
+            Ok(set) => standing(&set, requested.wildcard),
+            Err(record) => Standing::TooManyAliases { record },
+        });
         rest = behind;
     }
     standings
@@ -57,10 +70,9 @@ fn caa_records<'a>(book: &'a [u8], applicant: Applicant<'a>) -> Vec<Record<'a>> 
         let class_counts = raw.class == 1 || Mistake::OtherClassesCount.is_made();
         let is_caa = raw.rtype == 257 && class_counts;
         if let Some(property) = read_property(raw.rdata).filter(|_| is_caa) {
-            let labels: usize = raw.owner.labels().map(|label| 1 + label.len()).sum();
             records.push(Record {
                 number: numbered,
-                owner: &rest[..labels + 1],
+                owner: owner_of(rest, &raw),
                 property,
                 applicant,
             });
@@ -73,27 +85,75 @@ fn caa_records<'a>(book: &'a [u8], applicant: Applicant<'a>) -> Vec<Record<'a>> 
     records
 }
 
-fn relevant_set<'r, 'a>(records: &'r [Record<'a>], name: &[u8]) -> Vec<&'r Record<'a>> {
+/// The record that is told where there are too many aliases.
+fn relevant_set<'r, 'a>(
+    records: &'r [Record<'a>],
+    aliases: &[Alias],
+    name: &[u8],
+) -> Result<Vec<&'r Record<'a>>, usize> {
     let mut set = Vec::new();
     let mut place = name;
+    let mut counted = 0;
     for looked_at in 0.. {
         let at_root = place == [0];
-        if at_root && !Mistake::RootIsLookedAt.is_made() || is_given_up(looked_at) {
-            return set;
+        let root_counts = Mistake::RootIsLookedAt.is_made()
+            || Mistake::AliasOfTheRootIsLookedAt.is_made() && alias_of(aliases, place).is_some();
+        if at_root && !root_counts || is_given_up(looked_at) {
+            return Ok(set);
         }
-        let found = || records.iter().filter(|record| is_same(record.owner, place));
+        let target = match follow(aliases, place, looked_at, &mut counted) {
+            Led::To(target) => Some(target),
+            Led::Nowhere => None,
+            Led::ToOpen => return Ok(Vec::new()),
+            Led::TooFar(record) => {
+                let of_x = alias_of(aliases, name).map(|alias| alias.number);
+                let told = of_x.filter(|_| Mistake::AliasOfXIsTold.is_made());
+                return Err(told.unwrap_or(record));
+            }
+        };
+        let is_led = target.is_some_and(|target| target != place);
+        let owned_by = |target: &[u8]| -> Vec<&'r Record<'a>> {
+            let by_letter_case = Mistake::SetsOfTargetsAreFoundByLetterCase.is_made() && is_led;
+            let is_owned = |record: &&Record| match by_letter_case {
+                true => record.owner == target,
+                false => is_same(record.owner, target),
+            };
+            records.iter().filter(is_owned).collect()
+        };
+        let mut found = target.map(owned_by).unwrap_or_default();
         let is_grant =
-            |record: &Record| ["issue", "issuewild"].iter().any(|tag| record.has_tag(tag));
-        if !Mistake::SetsWithoutGrantsArePassed.is_made() || found().any(is_grant) {
-            set.extend(found());
+            |record: &&Record| ["issue", "issuewild"].iter().any(|tag| record.has_tag(tag));
+        if Mistake::SetsWithoutGrantsArePassed.is_made() && !found.iter().any(is_grant) {
+            found.clear();
         }
+        if let Some(target) = target.filter(|_| found.is_empty() && is_led) {
+            if Mistake::TargetIsClimbed.is_made() {
+                found = ancestors(target)
+                    .map(owned_by)
+                    .find(|found| !found.is_empty())
+                    .unwrap_or_default();
+            }
+            if Mistake::TargetWithoutSetEndsTheClimb.is_made() {
+                return Ok(set);
+            }
+            if Mistake::ClimbGoesOnFromTheTarget.is_made() && looked_at < 200 {
+                place = target;
+            }
+        }
+        set.extend(found);
         let is_found = !set.is_empty() && !Mistake::AllParentsCount.is_made();
-        if is_found || at_root || Mistake::ParentsAreNotLookedAt.is_made() {
-            return set;
+        if is_found || place == [0] || Mistake::ParentsAreNotLookedAt.is_made() {
+            return Ok(set);
         }
         place = &place[1 + usize::from(place[0])..];
     }
-    set
+    Ok(set)
+}
+
+/// The name itself, its parent, and so on up to its top label.
+fn ancestors(name: &[u8]) -> impl Iterator<Item = &[u8]> {
+    successors(Some(name), |name| Some(&name[1 + usize::from(name[0])..]))
+        .take_while(|name| *name != [0])
 }
 
 /// Whether the climb ends after so many names.

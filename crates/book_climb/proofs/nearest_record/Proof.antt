@@ -9,10 +9,10 @@ use Rattle.book_climb.proofs.nearest_record.Statement.{statement}
 use Rattle.book_climb.proofs.nearest_record.Tie as tie
 
 abbrev Inv-loop : tie.InvT-loop
-Inv-loop book table links heads name c₀ c = Climbing book table links heads name (c .at)
+Inv-loop book table links heads onward name c₀ c = Climbing book table links heads onward name (c .at)
 
 abbrev μ-loop : tie.MeasureT-loop
-μ-loop book table links heads name c₀ c = length name - c .at
+μ-loop book table links heads onward name c₀ c = length name - c .at
 
 loop-holds : tie.Need-loop-holds Inv-loop μ-loop
 loop-holds c = search (needs, climb-start)
@@ -32,8 +32,8 @@ part-x-start c = search (needs, at-before, parent-inside)
 part-x-end : tie.Need-part-x-end Inv-loop μ-loop
 part-x-end c = search needs
 
-first-owned-requires : tie.Need-first-owned-requires Inv-loop μ-loop
-first-owned-requires c κs = search needs
+look-up-requires : tie.Need-look-up-requires Inv-loop μ-loop
+look-up-requires c κs = search needs
 
 enum-known-r : tie.Need-enum-known-r Inv-loop μ-loop
 enum-known-r c = search needs
@@ -62,7 +62,7 @@ nearest-record-spec =
     sub-x
     part-x-start
     part-x-end
-    first-owned-requires
+    look-up-requires
     enum-known-r
     returns-2
     enum-told

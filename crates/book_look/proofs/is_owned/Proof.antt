@@ -1,15 +1,15 @@
 -- `is_owned` meets its contract.
 use borrow.Author.Tests.{not-true, not-false}
 use borrow.Author.Needs.{needs}
-use Rattle.book_look.proofs.ChainWalk.{not-caa, caa-owned}
+use Rattle.book_look.proofs.ChainWalk.{not-of-kind, kind-owned}
 use Rattle.book_look.proofs.is_owned.Statement.{statement}
 use Rattle.book_look.proofs.is_owned.Tie as tie
 
-is-caa-at-requires : tie.Need-is-caa-at-requires
-is-caa-at-requires c κs = search needs
+is-of-kind-requires : tie.Need-is-of-kind-requires
+is-of-kind-requires c κs = search needs
 
 returns : tie.Need-returns
-returns c = search (needs, not-caa, not-true)
+returns c = search (needs, not-of-kind, not-true)
 
 owner-at-requires : tie.Need-owner-at-requires
 owner-at-requires c κs = search needs
@@ -18,9 +18,9 @@ same-ignoring-case-requires : tie.Need-same-ignoring-case-requires
 same-ignoring-case-requires c κs = search needs
 
 returns-2 : tie.Need-returns-2
-returns-2 c = search (needs, caa-owned, not-false)
+returns-2 c = search (needs, kind-owned, not-false)
 
 pub is-owned-spec : {M : Type 1} → statement M
 is-owned-spec =
     tie.close
-    (tie.spec is-caa-at-requires returns owner-at-requires same-ignoring-case-requires returns-2)
+    (tie.spec is-of-kind-requires returns owner-at-requires same-ignoring-case-requires returns-2)

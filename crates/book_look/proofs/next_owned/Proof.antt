@@ -3,16 +3,16 @@ use Prim.Native.Nat.{_-_}
 use mathlib.Core.Path.{_≡_}
 use lib.ListN.{length}
 use borrow.Author.Needs.{needs}
-use Rattle.book_places.specs.Sets.{ownedFrom, firstOf}
+use Rattle.book_places.specs.Sets.{ownedOf, firstOf}
 use Rattle.book_look.proofs.ChainWalk.{none-owned, one-owned, passed-over, less-left}
 use Rattle.book_look.proofs.next_owned.Statement.{statement}
 use Rattle.book_look.proofs.next_owned.Tie as tie
 
 abbrev Inv-loop : tie.InvT-loop
-Inv-loop book table links x from i₀ i = firstOf (ownedFrom book table links x from) ≡ firstOf (ownedFrom book table links x i)
+Inv-loop book table links x from kind i₀ i = firstOf (ownedOf kind book table links x from) ≡ firstOf (ownedOf kind book table links x i)
 
 abbrev μ-loop : tie.MeasureT-loop
-μ-loop book table links x from i₀ i = length links - i
+μ-loop book table links x from kind i₀ i = length links - i
 
 loop-holds : tie.Need-loop-holds Inv-loop μ-loop
 loop-holds c = search needs

@@ -1,6 +1,6 @@
 -- `put_judgement` meets its contract, by cases of the judgement.
 use borrow.Author.Needs.{needs}
-use Rattle.desk_judgement.proofs.Answers.{permitted-put, critical-put, not-granted-put, refused-put}
+use Rattle.desk_judgement.proofs.Answers.{permitted-put, critical-put, not-granted-put, too-many-put, refused-put}
 use Rattle.desk_judgement.proofs.put_judgement.Statement.{statement}
 use Rattle.desk_judgement.proofs.put_judgement.Tie as tie
 
@@ -34,6 +34,15 @@ put-denial-requires-2 c κs = search needs
 enum-known-j-3 : tie.Need-enum-known-j-3
 enum-known-j-3 c = search needs
 
+slice-aggregate-put-denial-3 : tie.Need-slice-aggregate-put-denial-3
+slice-aggregate-put-denial-3 c = search needs
+
+put-denial-requires-3 : tie.Need-put-denial-requires-3
+put-denial-requires-3 c κs = search needs
+
+enum-known-j-4 : tie.Need-enum-known-j-4
+enum-known-j-4 c = search needs
+
 number-of-requires : tie.Need-number-of-requires
 number-of-requires c κs = search needs
 
@@ -59,7 +68,10 @@ returns-3 : tie.Need-returns-3
 returns-3 c = search (needs, not-granted-put)
 
 returns-4 : tie.Need-returns-4
-returns-4 c = search (needs, refused-put)
+returns-4 c = search (needs, too-many-put)
+
+returns-5 : tie.Need-returns-5
+returns-5 c = search (needs, refused-put)
 
 pub put-judgement-spec : {M : Type 1} → statement M
 put-judgement-spec =
@@ -75,6 +87,9 @@ put-judgement-spec =
     slice-aggregate-put-denial-2
     put-denial-requires-2
     enum-known-j-3
+    slice-aggregate-put-denial-3
+    put-denial-requires-3
+    enum-known-j-4
     number-of-requires
     place-of-requires
     slice-aggregate-put-numbered
@@ -83,4 +98,5 @@ put-judgement-spec =
     returns
     returns-2
     returns-3
-    returns-4)
+    returns-4
+    returns-5)

@@ -9,9 +9,9 @@ index-book-requires c κs = search needs
 
 judge-names-requires : tie.Need-judge-names-requires
 judge-names-requires c κs =
-    let indexed = c .before .before .before .before .before .before .before .before .before .before in
-    let start = indexed .before .before .before .before .before .before .before .before .before .before .before .before .before in
-    made-ready _ _ _ _ _ _ _ _ (start .pre) _ _ _ (indexed .index-book .ensures .0) (indexed .index-book .ensures .1 .0) (indexed .index-book .ensures .1 .1)
+    let indexed = c .before .before .before .before .before .before .before .before .before .before .before .before .before in
+    let start = indexed .before .before .before .before .before .before .before .before .before .before .before .before .before .before .before in
+    made-ready _ _ _ _ _ _ _ _ _ (start .pre) _ _ _ _ (indexed .index-book .ensures .0) (indexed .index-book .ensures .1 .0) (indexed .index-book .ensures .1 .1 .0) (indexed .index-book .ensures .1 .1 .1)
 
 same-length : tie.Need-same-length
 same-length c = search needs
@@ -24,6 +24,9 @@ same-length-3 c = search needs
 
 same-length-4 : tie.Need-same-length-4
 same-length-4 c = search needs
+
+same-length-5 : tie.Need-same-length-5
+same-length-5 c = search needs
 
 returns : tie.Need-returns
 returns c = search needs
@@ -38,4 +41,5 @@ judge-in-spec =
     same-length-2
     same-length-3
     same-length-4
+    same-length-5
     returns)

@@ -11,12 +11,12 @@ use Rattle.judge_call.proofs.judge_names.Statement.{statement}
 use Rattle.judge_call.proofs.judge_names.Tie as tie
 
 abbrev Inv-loop : tie.InvT-loop
-Inv-loop request issuer account method book table links heads asked₀ at₀ k₀ asked at k =
-    Judged (record { account = account; method = method }) request issuer book table links heads at k
+Inv-loop request issuer account method book table links heads onward asked₀ at₀ k₀ asked at k =
+    Judged (record { account = account; method = method }) request issuer book table links heads onward at k
     × Asked (record { account = account; method = method }) issuer book table links asked
 
 abbrev μ-loop : tie.MeasureT-loop
-μ-loop request issuer account method book table links heads asked₀ at₀ k₀ asked at k = length request - at
+μ-loop request issuer account method book table links heads onward asked₀ at₀ k₀ asked at k = length request - at
 
 loop-holds : tie.Need-loop-holds Inv-loop μ-loop
 loop-holds c = search (needs, names-start)
@@ -85,7 +85,7 @@ enum-told-3 c = search needs
 same-length-2 : tie.Need-same-length-2 Inv-loop μ-loop
 same-length-2 c =
     let walk = c .before .before .before .before .before .before .before .before .before .before .before .before .before .before .before in
-    let start = walk .before .before .before .before .before .before .before .before .before .before in
+    let start = walk .before .before .before .before .before .before .before .before .before .before .before in
     search (needs, same-notes _ _ _ _ _ _ _ (walk .loop .inv .1) (start .pre .1))
 
 returns-2 : tie.Need-returns-2 Inv-loop μ-loop

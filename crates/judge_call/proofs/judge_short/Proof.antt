@@ -17,6 +17,9 @@ slice-aggregate-judge-in-2 c = search needs
 slice-aggregate-judge-in-3 : tie.Need-slice-aggregate-judge-in-3
 slice-aggregate-judge-in-3 c = search needs
 
+slice-aggregate-judge-in-4 : tie.Need-slice-aggregate-judge-in-4
+slice-aggregate-judge-in-4 c = search needs
+
 judge-in-requires : tie.Need-judge-in-requires
 unfolding maxRecords fewRecords shortBook noRecord
 judge-in-requires c κs = lent-short _ _ _ _ _ (search needs) _ _ _ (search needs) refl refl refl
@@ -34,6 +37,7 @@ judge-short-spec =
     slice-aggregate-judge-in
     slice-aggregate-judge-in-2
     slice-aggregate-judge-in-3
+    slice-aggregate-judge-in-4
     judge-in-requires
     same-length
     returns)

@@ -31,13 +31,16 @@ same-length-5 c = search needs
 same-length-6 : tie.Need-same-length-6
 same-length-6 c = search needs
 
+same-length-7 : tie.Need-same-length-7
+same-length-7 c = search needs
+
 returns : tie.Need-returns
 returns c =
     let put = c .before .before in
     let listed = put .before .before .before .before .before .before .before .before in
-    let indexed = listed .before .before .before .before .before .before .before .before .before .before .before .before in
-    let start = indexed .before .before .before .before .before .before .before .before .before .before .before .before .before .before in
-    put .put-list .ensures _ _ (found _ _ _ _ _ _ _ _ (start .pre) _ _ _ (indexed .index-book .ensures .0) (indexed .index-book .ensures .1 .0) (indexed .index-book .ensures .1 .1) _ _ _ (listed .find-permitted .ensures .0) (listed .find-permitted .ensures .1 .0) (listed .find-permitted .ensures .1 .1))
+    let indexed = listed .before .before .before .before .before .before .before .before .before .before .before .before .before .before .before in
+    let start = indexed .before .before .before .before .before .before .before .before .before .before .before .before .before .before .before .before in
+    put .put-list .ensures _ _ (found _ _ _ _ _ _ _ _ _ (start .pre) _ _ _ _ (indexed .index-book .ensures .0) (indexed .index-book .ensures .1 .0) (indexed .index-book .ensures .1 .1 .0) (indexed .index-book .ensures .1 .1 .1) _ _ _ (listed .find-permitted .ensures .0) (listed .find-permitted .ensures .1 .0) (listed .find-permitted .ensures .1 .1))
 
 pub list-in-spec : {M : Type 1} → statement M
 list-in-spec =
@@ -52,4 +55,5 @@ list-in-spec =
     same-length-4
     same-length-5
     same-length-6
+    same-length-7
     returns)

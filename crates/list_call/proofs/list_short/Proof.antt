@@ -20,6 +20,9 @@ slice-aggregate-list-in-3 c = search needs
 slice-aggregate-list-in-4 : tie.Need-slice-aggregate-list-in-4
 slice-aggregate-list-in-4 c = search needs
 
+slice-aggregate-list-in-5 : tie.Need-slice-aggregate-list-in-5
+slice-aggregate-list-in-5 c = search needs
+
 list-in-requires : tie.Need-list-in-requires
 unfolding maxRecords fewRecords shortBook noRecord
 list-in-requires c κs = lent-short _ _ _ _ (search needs) _ _ _ (search needs) refl refl refl
@@ -41,6 +44,7 @@ list-short-spec =
     slice-aggregate-list-in-2
     slice-aggregate-list-in-3
     slice-aggregate-list-in-4
+    slice-aggregate-list-in-5
     list-in-requires
     same-length
     same-length-2

@@ -22,7 +22,7 @@ returns : tie.Need-returns
 unfolding maxNames
 returns c =
     let noted = c .before .before .before in
-    parts _ _ _ _ _ _ _ _ (nobody-found _ _ _ _ _ _ _ _ _ refl _ _ (noted .note-questions .ensures .0) (noted .note-questions .ensures .1) (search needs))
+    parts _ _ _ _ _ _ _ _ _ (nobody-found _ _ _ _ _ _ _ _ _ _ refl _ _ (noted .note-questions .ensures .0) (noted .note-questions .ensures .1) (search needs))
 
 slice-aggregate-ask-once : tie.Need-slice-aggregate-ask-once
 slice-aggregate-ask-once c = search needs
@@ -48,7 +48,7 @@ returns-2 c =
     let kept = c .before .before .before .before in
     let asked = kept .before .before .before .before .before in
     let noted = asked .before .before .before .before .before .before in
-    parts _ _ _ _ _ _ _ _ (all-found _ _ _ _ _ _ _ _ _ refl _ _ (noted .note-questions .ensures .0) (noted .note-questions .ensures .1) (asked .before .before .before .noted .given .0 .0) (search needs) _ (asked .ask-once .ensures .0) _ (asked .ask-once .ensures .1) _ _ _ (kept .ask-sets .ensures .0) (kept .ask-sets .ensures .1 .0) (kept .ask-sets .ensures .1 .1))
+    parts _ _ _ _ _ _ _ _ _ (all-found _ _ _ _ _ _ _ _ _ _ refl _ _ (noted .note-questions .ensures .0) (noted .note-questions .ensures .1) (asked .before .before .before .noted .given .0 .0) (search needs) _ (asked .ask-once .ensures .0) _ (asked .ask-once .ensures .1) _ _ _ (kept .ask-sets .ensures .0) (kept .ask-sets .ensures .1 .0) (kept .ask-sets .ensures .1 .1))
 
 pub find-permitted-spec : {M : Type 1} → statement M
 find-permitted-spec =

@@ -2,7 +2,7 @@
 use Prim.Native.Nat.{_-_}
 use native.Mathlib.Omega.{arith}
 use borrow.Author.Needs.{needs}
-use Rattle.list_kept.proofs.AskedLoop.{asked-parts, Asking, ask-start, names-length, rounds-length, ask-done, ask-past, unrestricted-passed, forbidden-found, governed-kept}
+use Rattle.list_kept.proofs.AskedLoop.{asked-parts, Asking, ask-start, names-length, rounds-length, ask-done, ask-past, unrestricted-passed, forbidden-found, unresolved-found, governed-kept}
 use Rattle.list_kept.proofs.ask_sets.Statement.{statement}
 use Rattle.list_kept.proofs.ask_sets.Tie as tie
 
@@ -61,6 +61,18 @@ same-length-4 c = search (needs, names-length, rounds-length)
 returns-2 : tie.Need-returns-2 Inv-loop μ-loop
 returns-2 c = asked-parts _ _ _ _ _ _ _ (search (needs, forbidden-found))
 
+enum-told-3 : tie.Need-enum-told-3 Inv-loop μ-loop
+enum-told-3 c = search needs
+
+same-length-5 : tie.Need-same-length-5 Inv-loop μ-loop
+same-length-5 c = search (needs, names-length, rounds-length)
+
+same-length-6 : tie.Need-same-length-6 Inv-loop μ-loop
+same-length-6 c = search (needs, names-length, rounds-length)
+
+returns-3 : tie.Need-returns-3 Inv-loop μ-loop
+returns-3 c = asked-parts _ _ _ _ _ _ _ (search (needs, unresolved-found))
+
 enum-known-g : tie.Need-enum-known-g Inv-loop μ-loop
 enum-known-g c = search needs
 
@@ -73,14 +85,14 @@ loop-less-2 c = search needs
 loop-again-2 : tie.Need-loop-again-2 Inv-loop μ-loop
 loop-again-2 c = search (needs, governed-kept)
 
-same-length-5 : tie.Need-same-length-5 Inv-loop μ-loop
-same-length-5 c = search (needs, names-length, rounds-length)
+same-length-7 : tie.Need-same-length-7 Inv-loop μ-loop
+same-length-7 c = search (needs, names-length, rounds-length)
 
-same-length-6 : tie.Need-same-length-6 Inv-loop μ-loop
-same-length-6 c = search (needs, names-length, rounds-length)
+same-length-8 : tie.Need-same-length-8 Inv-loop μ-loop
+same-length-8 c = search (needs, names-length, rounds-length)
 
-returns-3 : tie.Need-returns-3 Inv-loop μ-loop
-returns-3 c = asked-parts _ _ _ _ _ _ _ (search (needs, ask-done))
+returns-4 : tie.Need-returns-4 Inv-loop μ-loop
+returns-4 c = asked-parts _ _ _ _ _ _ _ (search (needs, ask-done))
 
 pub ask-sets-spec : {M : Type 1} → statement M
 ask-sets-spec =
@@ -104,10 +116,14 @@ ask-sets-spec =
     same-length-3
     same-length-4
     returns-2
+    enum-told-3
+    same-length-5
+    same-length-6
+    returns-3
     enum-known-g
     keep-granted-requires
     loop-less-2
     loop-again-2
-    same-length-5
-    same-length-6
-    returns-3)
+    same-length-7
+    same-length-8
+    returns-4)

@@ -9,10 +9,10 @@ use Rattle.list_sets.proofs.note_questions.Statement.{statement}
 use Rattle.list_sets.proofs.note_questions.Tie as tie
 
 abbrev Inv-loop : tie.InvT-loop
-Inv-loop request book table links heads numbers₀ n₀ at₀ numbers n at = Noting request book table links heads numbers₀ numbers n at
+Inv-loop request book table links heads onward numbers₀ n₀ at₀ numbers n at = Noting request book table links heads onward numbers₀ numbers n at
 
 abbrev μ-loop : tie.MeasureT-loop
-μ-loop request book table links heads numbers₀ n₀ at₀ numbers n at = length request - at
+μ-loop request book table links heads onward numbers₀ n₀ at₀ numbers n at = length request - at
 
 loop-holds : tie.Need-loop-holds Inv-loop μ-loop
 loop-holds c = search (needs, note-start)
@@ -30,7 +30,7 @@ same-length : tie.Need-same-length Inv-loop μ-loop
 same-length c = search (needs, note-length)
 
 returns : tie.Need-returns Inv-loop μ-loop
-returns c = halves _ _ _ _ _ _ (search (needs, bad-name))
+returns c = halves _ _ _ _ _ _ _ (search (needs, bad-name))
 
 sub-nearest-record : tie.Need-sub-nearest-record Inv-loop μ-loop
 sub-nearest-record c = search (needs, base-first)
@@ -60,7 +60,7 @@ same-length-2 : tie.Need-same-length-2 Inv-loop μ-loop
 same-length-2 c = search (needs, note-length)
 
 returns-2 : tie.Need-returns-2 Inv-loop μ-loop
-returns-2 c = halves _ _ _ _ _ _ (search (needs, no-room))
+returns-2 c = halves _ _ _ _ _ _ _ (search (needs, no-room))
 
 question-number-requires : tie.Need-question-number-requires Inv-loop μ-loop
 question-number-requires c κs = search needs
@@ -71,7 +71,7 @@ cast-numbers c = search (needs, number-fits)
 mul-numbers : tie.Need-mul-numbers Inv-loop μ-loop
 mul-numbers c =
     let at-loop = c .before .before .before .before .before .before .before .before .before .before .before .before in
-    omega (arith, at-loop .loop .inv .same-length, c .before .if1 .left, at-loop .before .before .before .before .before .before .before .good .1 .1 .1 .1 .1 .0 .1)
+    omega (arith, at-loop .loop .inv .same-length, c .before .if1 .left, at-loop .before .before .before .before .before .before .before .before .good .1 .1 .1 .1 .1 .1 .0 .1)
 
 slice-write-numbers : tie.Need-slice-write-numbers Inv-loop μ-loop
 slice-write-numbers c = search needs
@@ -79,7 +79,7 @@ slice-write-numbers c = search needs
 add-n : tie.Need-add-n Inv-loop μ-loop
 add-n c =
     let at-loop = c .before .before .before .before .before .before .before .before .before .before .before .before in
-    omega (arith, at-loop .loop .inv .same-length, c .before .if1 .left, at-loop .before .before .before .before .before .before .before .good .1 .1 .1 .1 .1 .0 .1)
+    omega (arith, at-loop .loop .inv .same-length, c .before .if1 .left, at-loop .before .before .before .before .before .before .before .before .good .1 .1 .1 .1 .1 .1 .0 .1)
 
 loop-less-2 : tie.Need-loop-less-2 Inv-loop μ-loop
 loop-less-2 c = search (needs, left-less)
@@ -91,7 +91,7 @@ same-length-3 : tie.Need-same-length-3 Inv-loop μ-loop
 same-length-3 c = search (needs, note-length)
 
 returns-3 : tie.Need-returns-3 Inv-loop μ-loop
-returns-3 c = halves _ _ _ _ _ _ (search (needs, note-over))
+returns-3 c = halves _ _ _ _ _ _ _ (search (needs, note-over))
 
 pub note-questions-spec : {M : Type 1} → statement M
 note-questions-spec =

@@ -38,6 +38,9 @@ enum-told-7 c = search needs
 enum-told-8 : tie.Need-enum-told-8
 enum-told-8 c = search needs
 
+enum-known-r-4 : tie.Need-enum-known-r-4
+enum-known-r-4 c = search needs
+
 enum-told-9 : tie.Need-enum-told-9
 enum-told-9 c = search needs
 
@@ -89,6 +92,10 @@ returns-12 : tie.Need-returns-12
 unfolding place maxNames maxRecords
 returns-12 c = search needs
 
+returns-13 : tie.Need-returns-13
+unfolding place maxNames maxRecords
+returns-13 c = search needs
+
 pub place-of-spec : {M : Type 1} → statement M
 place-of-spec =
     tie.close
@@ -104,6 +111,7 @@ place-of-spec =
     enum-told-6
     enum-told-7
     enum-told-8
+    enum-known-r-4
     enum-told-9
     returns
     returns-2
@@ -116,4 +124,5 @@ place-of-spec =
     returns-9
     returns-10
     returns-11
-    returns-12)
+    returns-12
+    returns-13)

@@ -1,6 +1,6 @@
 -- `caa_judge_for` meets its contract, case by case of the judgement.
 use borrow.Author.Needs.{needs}
-use Rattle.splinepearl.proofs.PackedAnswers.{permitted-packed, critical-packed, not-granted-packed, refused-packed}
+use Rattle.splinepearl.proofs.PackedAnswers.{permitted-packed, critical-packed, not-granted-packed, too-many-packed, refused-packed}
 use Rattle.splinepearl.proofs.caa_judge_for.Statement.{statement}
 use Rattle.splinepearl.proofs.caa_judge_for.Tie as tie
 
@@ -22,6 +22,12 @@ enum-known-d-2 c = search needs
 pack-requires-2 : tie.Need-pack-requires-2
 pack-requires-2 c κs = search needs
 
+enum-known-d-3 : tie.Need-enum-known-d-3
+enum-known-d-3 c = search needs
+
+pack-requires-3 : tie.Need-pack-requires-3
+pack-requires-3 c κs = search needs
+
 enum-known-r : tie.Need-enum-known-r
 enum-known-r c = search needs
 
@@ -38,7 +44,10 @@ returns-3 : tie.Need-returns-3
 returns-3 c = search (needs, not-granted-packed)
 
 returns-4 : tie.Need-returns-4
-returns-4 c = search (needs, refused-packed)
+returns-4 c = search (needs, too-many-packed)
+
+returns-5 : tie.Need-returns-5
+returns-5 c = search (needs, refused-packed)
 
 pub caa-judge-for-spec : {M : Type 1} → statement M
 caa-judge-for-spec =
@@ -50,9 +59,12 @@ caa-judge-for-spec =
     pack-requires
     enum-known-d-2
     pack-requires-2
+    enum-known-d-3
+    pack-requires-3
     enum-known-r
     pack-refusal-requires
     returns
     returns-2
     returns-3
-    returns-4)
+    returns-4
+    returns-5)

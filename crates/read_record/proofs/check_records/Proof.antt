@@ -1,17 +1,18 @@
--- `check_book` meets its contract. The loop's invariant: k records are read, and the next begins at `at`.
+-- `check_records` meets its contract. The loop's invariant: k records are read, the next begins at `at`, and `aliased` says whether there is an alias
+-- among those read.
 use Prim.Native.Nat.{_-_}
 use lib.ListN.{length}
 use borrow.Author.Needs.{needs}
 use Rattle.spec_limits.specs.Limits.{maxBookOctets, maxRecords}
-use Rattle.read_record.proofs.BookWalk.{BookRead, book-too-long, book-start, book-whole, too-many-records, bad-record, record-passed, less-left}
-use Rattle.read_record.proofs.check_book.Statement.{statement}
-use Rattle.read_record.proofs.check_book.Tie as tie
+use Rattle.read_record.proofs.BookWalk.{BookRead, book-too-long, book-start, book-without-aliases, book-with-aliases, too-many-records, bad-record, record-passed, less-left}
+use Rattle.read_record.proofs.check_records.Statement.{statement}
+use Rattle.read_record.proofs.check_records.Tie as tie
 
 abbrev Inv-loop : tie.InvT-loop
-Inv-loop b at₀ k₀ at k = BookRead b k at
+Inv-loop b at₀ k₀ aliased₀ at k aliased = BookRead b k at aliased
 
 abbrev μ-loop : tie.MeasureT-loop
-μ-loop b at₀ k₀ at k = length b - at
+μ-loop b at₀ k₀ aliased₀ at k aliased = length b - at
 
 returns : tie.Need-returns Inv-loop μ-loop
 unfolding maxBookOctets
@@ -37,6 +38,12 @@ returns-3 : tie.Need-returns-3 Inv-loop μ-loop
 unfolding maxBookOctets maxRecords
 returns-3 c = search (needs, bad-record)
 
+is-alias-requires : tie.Need-is-alias-requires Inv-loop μ-loop
+is-alias-requires c κs = search needs
+
+either-requires : tie.Need-either-requires Inv-loop μ-loop
+either-requires c κs = search needs
+
 add-k : tie.Need-add-k Inv-loop μ-loop
 unfolding maxRecords
 add-k c = search needs
@@ -50,10 +57,14 @@ loop-again c = search (needs, record-passed)
 
 returns-4 : tie.Need-returns-4 Inv-loop μ-loop
 unfolding maxBookOctets
-returns-4 c = search (needs, book-whole)
+returns-4 c = search (needs, book-with-aliases)
 
-pub check-book-spec : {M : Type 1} → statement M
-check-book-spec =
+returns-5 : tie.Need-returns-5 Inv-loop μ-loop
+unfolding maxBookOctets
+returns-5 c = search (needs, book-without-aliases)
+
+pub check-records-spec : {M : Type 1} → statement M
+check-records-spec =
     tie.close
     (tie.spec
     Inv-loop
@@ -65,7 +76,10 @@ check-book-spec =
     enum-known-r
     enum-told
     returns-3
+    is-alias-requires
+    either-requires
     add-k
     loop-less
     loop-again
-    returns-4)
+    returns-4
+    returns-5)
