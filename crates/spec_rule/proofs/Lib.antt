@@ -2,6 +2,7 @@ pub mod Table
 pub mod Following
 pub mod Lookups
 pub mod Nearest
+pub mod LabelsTakenOff
 pub mod Renumber
 pub mod AuthorizationLaws
 pub mod VerdictLaws
