@@ -41,15 +41,18 @@ module _ (book : Book) where
       let (k, near) = nearest-name-decides book x .0 l h .0 e in
       rw (counted x k l near) near
 
-  -- a name that anything is found for is decided where the count says, and nowhere else
+  -- a name for which anything is found is decided where the count says, and nowhere else
   module _ (n : Name) where
-    pub decided-found : (rs : List CaaRecord) → relevantSet book (base n) ≡ found rs → DecidedAt book n (labelsOff book (base n))
+    abbrev pub takenOff : ℕ
+    takenOff = labelsOff book (base n)
+
+    pub decided-found : (rs : List CaaRecord) → relevantSet book (base n) ≡ found rs → DecidedAt book n takenOff
     decided-found rs e = (found rs, nearest-counted (base n) (found rs) (λ (h : found rs ≡ empty). true≢false (cc)) e)
 
-    pub decided-endless : (r : ℕ) → relevantSet book (base n) ≡ endless r → DecidedAt book n (labelsOff book (base n))
+    pub decided-endless : (r : ℕ) → relevantSet book (base n) ≡ endless r → DecidedAt book n takenOff
     decided-endless r e = (endless r, nearest-counted (base n) (endless r) (λ (h : endless r ≡ empty). true≢false (cc)) e)
 
-    pub decided-there : {u : ℕ} → DecidedAt book n u → labelsOff book (base n) ≡ u
+    pub decided-there : {u : ℕ} → DecidedAt book n u → takenOff ≡ u
     decided-there {u} (l, near) = counted (base n) u l near
 
 pub labels-taken-off : Labels-taken-off
