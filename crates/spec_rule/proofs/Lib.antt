@@ -1,4 +1,5 @@
 pub mod Table
+pub mod UpTable
 pub mod Following
 pub mod Lookups
 pub mod Nearest

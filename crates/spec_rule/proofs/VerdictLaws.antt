@@ -10,18 +10,18 @@ use Rattle.spec_octets.specs.Lists.{All, all-nil, all-cons}
 use Rattle.spec_octets.proofs.ListLaws.{true-or-false}
 use Rattle.spec_octets.proofs.SelectLaws.{fails}
 use Rattle.spec_name.specs.Names.{Name}
-use Rattle.spec_request.specs.Request.{base, requestedNames}
+use Rattle.spec_request.specs.Request.{requestedNames}
 use Rattle.spec_record.specs.Records.{records}
 use Rattle.spec_applicant.specs.Applicant.{Applicant}
 use Rattle.spec_rule.specs.declared.Judgement.{Judgement}
 use Rattle.spec_rule.specs.declared.Judgement.the-variants.{Permitted, UnknownCritical, NotGranted, TooManyAliases, Refused}
-use Rattle.spec_rule.specs.RelevantSet.{Book, asBook, labelsOff}
+use Rattle.spec_rule.specs.RelevantSet.{Book, asBook}
 use Rattle.spec_rule.specs.Authorizations.{Authorization, unrestricted, forbidden, granted, unresolved, authorization, permits}
 use Rattle.spec_rule.specs.Verdicts.{decision, denied, verdictFrom, verdict}
 use Rattle.spec_rule.specs.Calls.{decisions, judge}
 use Rattle.spec_rule.specs.Meaning.{PermittedTo, ForbiddenBy, GovernedFrom, UnresolvedFrom, DecidedAt, LowestNot}
 use Rattle.spec_rule.specs.Theorems.{Verdict-by-the-rule, Judge-accepted}
-use Rattle.spec_rule.proofs.LabelsTakenOff.{decided-found, decided-endless, decided-there}
+use Rattle.spec_rule.proofs.LabelsTakenOff.{takenOff, decided-found, decided-endless, decided-there}
 use Rattle.spec_rule.proofs.AuthorizationLaws.{Says, authorization-says, forbidden-exactly, unresolved-exactly, governs-granted, permits-exactly}
 
 -- every name is of a kind that a test decides, or there is a lowest one that is not
@@ -53,7 +53,7 @@ module _ (who : Applicant) (book : Book) (d : List ℕ) where
   -- the names before it are passed, each with its number
   lowest-denied :
       (n : Name) (after : List Name) → (Allowed n → ⊥) → (before : List Name) → All Allowed before → (j k : ℕ) → k ≡ j + length before →
-      verdictFrom j d (map (decision who book) (before ++ (n ∷ after))) ≡ denied k (labelsOff book (base n)) (authorization who book n)
+      verdictFrom j d (map (decision who book) (before ++ (n ∷ after))) ≡ denied k (takenOff book n) (authorization who book n)
   unfolding decision
   lowest-denied n after q [] h j k e =
       let i : j ≡ k = omega arith in
@@ -72,7 +72,7 @@ module _ (who : Applicant) (book : Book) (d : List ℕ) where
 
     at-lowest :
         (k : ℕ) (n : Name) → LowestNot Allowed ns k n →
-        verdict d (map (decision who book) ns) ≡ denied k (labelsOff book (base n)) (authorization who book n)
+        verdict d (map (decision who book) ns) ≡ denied k (takenOff book n) (authorization who book n)
     unfolding verdict
     at-lowest k n (before, after, e, l, hs, q) = rw e (lowest-denied n after q before hs 0 k (omega arith))
 
@@ -83,7 +83,7 @@ module _ (who : Applicant) (book : Book) (d : List ℕ) where
         (λ (k, n, l). rw (at-lowest k n l) (why k n l (authorization who book n) (authorization-says who book n)))
         (all-or-lowest (λ m. permits d (authorization who book m)) allowed ns)
       where
-        why : (k : ℕ) (n : Name) → LowestNot Allowed ns k n → (a : Authorization) → Says who book n a → Means (denied k (labelsOff book (base n)) a)
+        why : (k : ℕ) (n : Name) → LowestNot Allowed ns k n → (a : Authorization) → Says who book n a → Means (denied k (takenOff book n) a)
         why k n (before, after, e, l, hs, q) unrestricted s = absurd (q (inl s))
         why k n l (forbidden r) s = (n, l, s, decided-found book n (s .0) (s .2))
         why k n l (granted r gs) s = (n, l, s .0, decided-found book n (s .0 .0) (s .0 .2))
