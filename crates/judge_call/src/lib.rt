@@ -14,6 +14,7 @@ use spec_refusal::RecordNo;
 use spec_refusal::Refusal;
 use spec_rule::Denial;
 use spec_rule::Judgement;
+use spec_rule::LabelsOff;
 ghost use mathlib.Core.Path.{_≡_};
 ghost use mathlib.Core.Option.{none};
 ghost use Rattle.spec_rule.specs.Calls.{firstRefusal, judgeChecks, judge};
@@ -27,7 +28,7 @@ const NOTES: usize = 2 * MAX_RECORDS;
 
 const SHORT_NOTES: usize = 2 * FEW_RECORDS;
 
-// Judges one name, given its relevant set.
+// Judges one name, given its relevant set and how many labels were taken off to reach it.
 fn judge_by_set(
     issuer: &[u8],
     account: &[u8],
@@ -37,14 +38,15 @@ fn judge_by_set(
     links: &[u16],
     name: NameNo,
     set: RecordNo,
+    up: LabelsOff,
     wildcard: bool,
 ) -> Judgement
-    ensures { λ r. ⌜ r ≡ verdictBySet (record { account = now (account .entry); method = now (method .entry) }) (now (issuer .entry)) (now (book .entry)) (now (table .entry)) (now (links .entry)) (name .0) set wildcard ⌝ }
+    ensures { λ r. ⌜ r ≡ verdictBySet (record { account = now (account .entry); method = now (method .entry) }) (now (issuer .entry)) (now (book .entry)) (now (table .entry)) (now (links .entry)) (name .0) set (up .0) wildcard ⌝ }
 {
     match book_authorization::set_authorization(book, table, links, set, wildcard) {
         NameAuthorization::Unrestricted => Judgement::Permitted,
-        NameAuthorization::Forbidden(rr) => Judgement::UnknownCritical(Denial { name, rr }),
-        NameAuthorization::Unresolved(rr) => Judgement::TooManyAliases(Denial { name, rr }),
+        NameAuthorization::Forbidden(rr) => Judgement::UnknownCritical(Denial { name, rr, up }),
+        NameAuthorization::Unresolved(rr) => Judgement::TooManyAliases(Denial { name, rr, up }),
         NameAuthorization::Governed(g) => {
             let governing = g.set;
             let from = governing.0;
@@ -53,7 +55,7 @@ fn judge_by_set(
             if book_set::any_grants(book, table, links, from, tag, issuer, account, method) {
                 return Judgement::Permitted;
             }
-            Judgement::NotGranted(Denial { name, rr })
+            Judgement::NotGranted(Denial { name, rr, up })
         }
     }
 }
@@ -86,14 +88,9 @@ fn judge_names(
         let name = NameNo(k);
         at = next;
         k += 1;
-        let FirstRecord::At(set) = book_climb::nearest_record(
-            book,
-            table,
-            links,
-            heads,
-            onward,
-            &request[base..next],
-        ) else {
+        let nearest = book_climb::nearest(book, table, links, heads, onward, &request[base..next]);
+        let found = nearest.found;
+        let FirstRecord::At(set) = found else {
             continue;
         };
         let question = book_authorization::question_number(set, n.wildcard);
@@ -109,6 +106,7 @@ fn judge_names(
             links,
             name,
             set,
+            LabelsOff(nearest.up),
             n.wildcard,
         );
         let Judgement::Permitted = judgement else {

@@ -40,17 +40,17 @@ add-k : tie.Need-add-k Inv-loop μ-loop
 unfolding maxNames
 add-k c = search (needs, few)
 
-sub-nearest-record : tie.Need-sub-nearest-record Inv-loop μ-loop
-sub-nearest-record c = search (needs, base-first)
+sub-nearest : tie.Need-sub-nearest Inv-loop μ-loop
+sub-nearest c = search (needs, base-first)
 
-part-nearest-record-start : tie.Need-part-nearest-record-start Inv-loop μ-loop
-part-nearest-record-start c = search (needs, base-first)
+part-nearest-start : tie.Need-part-nearest-start Inv-loop μ-loop
+part-nearest-start c = search (needs, base-first)
 
-part-nearest-record-end : tie.Need-part-nearest-record-end Inv-loop μ-loop
-part-nearest-record-end c = search (needs, next-inside)
+part-nearest-end : tie.Need-part-nearest-end Inv-loop μ-loop
+part-nearest-end c = search (needs, next-inside)
 
-nearest-record-requires : tie.Need-nearest-record-requires Inv-loop μ-loop
-nearest-record-requires c κs = search needs
+nearest-requires : tie.Need-nearest-requires Inv-loop μ-loop
+nearest-requires c κs = search needs
 
 enum-known-set : tie.Need-enum-known-set Inv-loop μ-loop
 enum-known-set c = search needs
@@ -119,10 +119,10 @@ judge-names-spec =
     same-length
     returns
     add-k
-    sub-nearest-record
-    part-nearest-record-start
-    part-nearest-record-end
-    nearest-record-requires
+    sub-nearest
+    part-nearest-start
+    part-nearest-end
+    nearest-requires
     enum-known-set
     enum-told-2
     loop-less

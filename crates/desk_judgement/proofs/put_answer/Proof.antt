@@ -1,8 +1,8 @@
--- `put_judgement` meets its contract, by cases of the judgement.
+-- `put_answer` meets its contract, by cases of the judgement.
 use borrow.Author.Needs.{needs}
-use Rattle.desk_judgement.proofs.Answers.{permitted-put, critical-put, not-granted-put, too-many-put, refused-put}
-use Rattle.desk_judgement.proofs.put_judgement.Statement.{statement}
-use Rattle.desk_judgement.proofs.put_judgement.Tie as tie
+use Rattle.desk_judgement.proofs.Answers.{permitted-put, permitted-few, critical-put, not-granted-put, too-many-put, refused-put}
+use Rattle.desk_judgement.proofs.put_answer.Statement.{statement}
+use Rattle.desk_judgement.proofs.put_answer.Tie as tie
 
 enum-told : tie.Need-enum-told
 enum-told c = search needs
@@ -59,7 +59,7 @@ put-numbered-requires : tie.Need-put-numbered-requires
 put-numbered-requires c κs = search needs
 
 returns : tie.Need-returns
-returns c = search (needs, permitted-put)
+returns c = search (needs, permitted-put, permitted-few)
 
 returns-2 : tie.Need-returns-2
 returns-2 c = search (needs, critical-put)
@@ -73,8 +73,8 @@ returns-4 c = search (needs, too-many-put)
 returns-5 : tie.Need-returns-5
 returns-5 c = search (needs, refused-put)
 
-pub put-judgement-spec : {M : Type 1} → statement M
-put-judgement-spec =
+pub put-answer-spec : {M : Type 1} → statement M
+put-answer-spec =
     tie.close
     (tie.spec
     enum-told
