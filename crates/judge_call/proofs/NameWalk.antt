@@ -7,11 +7,10 @@ use mathlib.Core.Logic.{_⊎_, inl, inr}
 use mathlib.Core.Bool.{Bool, true, false, cond}
 use mathlib.Core.List.{List, map}
 use mathlib.Core.Option.{none}
-use lib.ListN.{length, take, drop, getD, set as put}
+use lib.ListN.{length, take, drop}
 use denote.Enum.Declared.{tagOf as variant}
 use Rattle.spec_limits.specs.Limits.{maxNames}
-use Rattle.spec_octets.specs.Lists.{All, any}
-use Rattle.spec_octets.specs.Octets.{same, lowered}
+use Rattle.spec_octets.specs.Lists.{All}
 use Rattle.spec_octets.proofs.ListLaws.{All-head, All-tail}
 use Rattle.spec_refusal.specs.Checks.{checked}
 use Rattle.spec_refusal.proofs.Checked.{refused, accepted}
@@ -35,7 +34,7 @@ use Rattle.spec_rule.specs.declared.Judgement.{Judgement}
 use Rattle.spec_rule.specs.declared.Judgement.the-variants.{Permitted, Refused}
 use Rattle.spec_rule.specs.RelevantSet.{asBook, labelsOff}
 use Rattle.spec_rule.proofs.Judgement.{the-type}
-use Rattle.spec_rule.specs.Authorizations.{Authorization, unrestricted, forbidden, granted, unresolved, authorization, permits}
+use Rattle.spec_rule.specs.Authorizations.{Authorization, authorization, permits}
 use Rattle.spec_rule.specs.Verdicts.{Decision, decision, denied, verdictFrom, verdict}
 use Rattle.spec_rule.specs.Calls.{decisions, firstRefusal, judgeChecks, judge}
 use Rattle.read_inputs.proofs.CheckLaws.{none-refuses}
@@ -44,13 +43,13 @@ use Rattle.book_places.specs.declared.FirstRecord.the-variants.{At, Nothing}
 use Rattle.book_places.specs.declared.Nearest.{Nearest}
 use Rattle.book_places.specs.Table.{roomFor}
 use Rattle.book_places.specs.Sets.{nearestRecord, labelsOffAt}
-use Rattle.book_places.specs.NameAuthorizations.{questionNumber, bySet, nameAuthorization, meaning}
+use Rattle.book_places.specs.NameAuthorizations.{bySet, nameAuthorization, meaning}
 use Rattle.book_places.proofs.ChainedRecords.{chains-fit}
 use Rattle.book_places.proofs.ClimbLaws.{labels-off-by-offset}
 use Rattle.book_places.proofs.AuthorizationLaws.{authorization-by-offset}
 use Rattle.book_places.proofs.Bounds.{nearest-below}
-use Rattle.judge_call.specs.Asked.{Ready, verdictBySet, Asked}
-use Rattle.judge_call.proofs.AskedLaws.{note-inside, permitted-before, now-asked}
+use Rattle.judge_call.specs.Asked.{Ready, verdictBySet}
+use Rattle.judge_call.proofs.AskedLaws.{permits-it}
 
 -- what `let Judgement::Permitted = j else` knows
 abbrev pub NotPermitted : Judgement → Type 0
@@ -64,16 +63,6 @@ never-permitted (inr (inr (inr e))) = absurd (omega arith)
 
 -- the verdict on one name, and what follows it
 module _ (issuer : List ℕ) (k u : ℕ) (behind : Judgement) where
-  permits-it : (a : Authorization) → Permitted ≡ cond (permits issuer a) Permitted (denied k u a) → permits issuer a ≡ true
-  permits-it unrestricted e = refl
-  permits-it (forbidden r) e = let z : _≡_ {A = ℕ} 0 1 = cc in absurd (omega arith)
-  permits-it (unresolved r) e = let z : _≡_ {A = ℕ} 0 1 = cc in absurd (omega arith)
-  permits-it (granted r ns) e = go (any (same (lowered issuer)) ns) e
-    where
-      go : (t : Bool) → Permitted ≡ cond t Permitted (denied k u (granted r ns)) → t ≡ true
-      go true f = refl
-      go false f = let z : _≡_ {A = ℕ} 0 1 = cc in absurd (omega arith)
-
   denies-it :
       (a : Authorization) (j : Judgement) → j ≡ cond (permits issuer a) Permitted (denied k u a) → NotPermitted j →
       j ≡ cond (permits issuer a) behind (denied k u a)
@@ -189,34 +178,16 @@ module _ (who : Applicant) (request issuer book table links heads onward : List 
             name-unrestricted e = passed (by-name Nothing e)
 
             module _ (set : RecordNo) (e : p .found ≡ At set) where
-              set-below : set .0 < roomFor book
+              pub set-below : set .0 < roomFor book
               set-below =
                   omega (arith, rw (sym found-there ∙ e) at (nearest-below links book table heads onward (take (r .next - r .base) (drop (r .base) request))), ap length (w .ready .chained), chains-fit book .0)
 
-              pub question-inside :
-                  (v : Bool) (n : ℕ) → n ≡ questionNumber set v → (asked : List Bool) → Asked who issuer book table links asked → n < length asked
-              question-inside v = note-inside who issuer book table links set v set-below
+              -- j is the verdict by the set
+              module _ (j : Judgement) (q : j ≡ verdictBySet who issuer book table links k set (p .up) (r .wildcard)) where
+                pub name-denied : NotPermitted j → j ≡ judge request issuer who book
+                unfolding verdictBySet
+                name-denied h = denies-it issuer k (p .up) behind (by (At set)) j q h ∙ sym (by-name (At set) e)
 
-              permitted-passed : permits issuer (by (At set)) ≡ true → (k′ : ℕ) → k′ ≡ k + 1 → Judged (r .next) k′
-              permitted-passed h = passed (by-name (At set) e ∙ rw h)
-
-              -- n is the number of the question
-              module _ (n : ℕ) (i : n ≡ questionNumber set (r .wildcard)) (asked : List Bool) (notes : Asked who issuer book table links asked) where
-                pub asked-before : getD asked n false ≡ true → (k′ : ℕ) → k′ ≡ k + 1 → Judged (r .next) k′
-                asked-before h = permitted-passed (permitted-before who issuer book table links set (r .wildcard) set-below n i asked notes h)
-
-                -- j is the verdict by the set
-                module _ (j : Judgement) (q : j ≡ verdictBySet who issuer book table links k set (p .up) (r .wildcard)) where
-                  permitted : j ≡ Permitted → permits issuer (by (At set)) ≡ true
-                  unfolding verdictBySet
-                  permitted h = permits-it issuer k (p .up) behind (by (At set)) (sym h ∙ q)
-
-                  pub name-denied : NotPermitted j → j ≡ judge request issuer who book
-                  unfolding verdictBySet
-                  name-denied h = denies-it issuer k (p .up) behind (by (At set)) j q h ∙ sym (by-name (At set) e)
-
-                  pub name-permitted : j ≡ Permitted → (k′ : ℕ) → k′ ≡ k + 1 → Judged (r .next) k′
-                  name-permitted h = permitted-passed (permitted h)
-
-                  pub name-noted : j ≡ Permitted → Asked who issuer book table links (put asked n true)
-                  name-noted h = now-asked who issuer book table links set (r .wildcard) set-below n i asked notes (permitted h)
+                pub name-permitted : j ≡ Permitted → (k′ : ℕ) → k′ ≡ k + 1 → Judged (r .next) k′
+                unfolding verdictBySet
+                name-permitted h = passed (by-name (At set) e ∙ rw (permits-it issuer k (p .up) (by (At set)) (sym h ∙ q)))

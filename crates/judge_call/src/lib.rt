@@ -21,7 +21,7 @@ ghost use Rattle.spec_rule.specs.Calls.{firstRefusal, judgeChecks, judge};
 ghost use Rattle.judge_call.specs.Asked.{Ready, verdictBySet, Asked, Lent, HeadsLent};
 ghost use Prim.Native.Nat.{_≤_, _<_};
 ghost use lib.ListN.{length};
-ghost use Rattle.book_places.specs.Table.{shortBook};
+ghost use Rattle.book_places.specs.Table.{shortBook, roomFor};
 
 // Two notes for each record: the set that begins with this record permits the issuer for X; and it does so for *.X.
 const NOTES: usize = 2 * MAX_RECORDS;
@@ -60,6 +60,47 @@ fn judge_by_set(
     }
 }
 
+// The same, and notes if the set permits the issuer. Where that is noted already, the set is not asked again.
+fn judge_once(
+    issuer: &[u8],
+    account: &[u8],
+    method: &[u8],
+    book: &[u8],
+    table: &[u16],
+    links: &[u16],
+    name: NameNo,
+    set: RecordNo,
+    up: LabelsOff,
+    wildcard: bool,
+    asked: &mut [bool],
+) -> Judgement
+    requires { ⌜ Asked (record { account = now account; method = now method }) (now issuer) (now book) (now table) (now links) (now asked) × (set .0 < roomFor (now book)) ⌝ }
+    ensures answer { λ r. ⌜ r ≡ verdictBySet (record { account = now (account .entry); method = now (method .entry) }) (now (issuer .entry)) (now (book .entry)) (now (table .entry)) (now (links .entry)) (name .0) set (up .0) wildcard ⌝ }
+    ensures notes { λ r. ⌜ Asked (record { account = now (account .entry); method = now (method .entry) }) (now (issuer .entry)) (now (book .entry)) (now (table .entry)) (now (links .entry)) (now (asked .exit)) ⌝ }
+{
+    let question = book_authorization::question_number(set, wildcard);
+    if asked[question] {
+        return Judgement::Permitted;
+    }
+    let judgement = judge_by_set(
+        issuer,
+        account,
+        method,
+        book,
+        table,
+        links,
+        name,
+        set,
+        up,
+        wildcard,
+    );
+    let Judgement::Permitted = judgement else {
+        return judgement;
+    };
+    asked[question] = true;
+    judgement
+}
+
 // Judges the names one after the other. A set is asked at most once for X and at most once for *.X.
 fn judge_names(
     request: &[u8],
@@ -93,11 +134,7 @@ fn judge_names(
         let FirstRecord::At(set) = found else {
             continue;
         };
-        let question = book_authorization::question_number(set, n.wildcard);
-        if asked[question] {
-            continue;
-        }
-        let judgement = judge_by_set(
+        let judgement = judge_once(
             issuer,
             account,
             method,
@@ -108,11 +145,11 @@ fn judge_names(
             set,
             LabelsOff(nearest.up),
             n.wildcard,
+            asked,
         );
         let Judgement::Permitted = judgement else {
             return judgement;
         };
-        asked[question] = true;
     }
     Judgement::Permitted
 }

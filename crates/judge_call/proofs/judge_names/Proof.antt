@@ -6,7 +6,7 @@ use Rattle.spec_limits.specs.Limits.{maxNames}
 use Rattle.read_request.proofs.RequestPlaces.{next-inside, left-less}
 use Rattle.judge_call.specs.Asked.{Asked}
 use Rattle.judge_call.proofs.AskedLaws.{same-notes}
-use Rattle.judge_call.proofs.NameWalk.{Judged, names-start, few, no-bad-name, base-first, name-unrestricted, question-inside, asked-before, name-denied, name-permitted, name-noted, all-passed}
+use Rattle.judge_call.proofs.NameWalk.{Judged, names-start, few, no-bad-name, base-first, name-unrestricted, set-below, name-denied, name-permitted, all-passed}
 use Rattle.judge_call.proofs.judge_names.Statement.{statement}
 use Rattle.judge_call.proofs.judge_names.Tie as tie
 
@@ -52,8 +52,8 @@ part-nearest-end c = search (needs, next-inside)
 nearest-requires : tie.Need-nearest-requires Inv-loop μ-loop
 nearest-requires c κs = search needs
 
-enum-known-set : tie.Need-enum-known-set Inv-loop μ-loop
-enum-known-set c = search needs
+enum-known-found : tie.Need-enum-known-found Inv-loop μ-loop
+enum-known-found c = search needs
 
 enum-told-2 : tie.Need-enum-told-2 Inv-loop μ-loop
 enum-told-2 c = search needs
@@ -64,41 +64,26 @@ loop-less c = search (needs, left-less)
 loop-again : tie.Need-loop-again Inv-loop μ-loop
 loop-again c = search (needs, name-unrestricted)
 
-question-number-requires : tie.Need-question-number-requires Inv-loop μ-loop
-question-number-requires c κs = search needs
+judge-once-requires : tie.Need-judge-once-requires Inv-loop μ-loop
+judge-once-requires c κs = (search needs, search (needs, set-below))
 
-slice-read-if1 : tie.Need-slice-read-if1 Inv-loop μ-loop
-slice-read-if1 c = search (needs, question-inside)
+enum-told-3 : tie.Need-enum-told-3 Inv-loop μ-loop
+enum-told-3 c = search needs
 
 loop-less-2 : tie.Need-loop-less-2 Inv-loop μ-loop
 loop-less-2 c = search (needs, left-less)
 
 loop-again-2 : tie.Need-loop-again-2 Inv-loop μ-loop
-loop-again-2 c = search (needs, asked-before)
-
-judge-by-set-requires : tie.Need-judge-by-set-requires Inv-loop μ-loop
-judge-by-set-requires c κs = search needs
-
-enum-told-3 : tie.Need-enum-told-3 Inv-loop μ-loop
-enum-told-3 c = search needs
+loop-again-2 c = search (needs, name-permitted)
 
 same-length-2 : tie.Need-same-length-2 Inv-loop μ-loop
 same-length-2 c =
     let walk = c .before .before .before .before .before .before .before .before .before .before .before .before .before .before .before in
     let start = walk .before .before .before .before .before .before .before .before .before .before .before in
-    search (needs, same-notes _ _ _ _ _ _ _ (walk .loop .inv .1) (start .pre .1))
+    search (needs, same-notes, start .pre .1)
 
 returns-2 : tie.Need-returns-2 Inv-loop μ-loop
 returns-2 c = search (needs, name-denied)
-
-slice-write-asked : tie.Need-slice-write-asked Inv-loop μ-loop
-slice-write-asked c = search (needs, question-inside)
-
-loop-less-3 : tie.Need-loop-less-3 Inv-loop μ-loop
-loop-less-3 c = search (needs, left-less)
-
-loop-again-3 : tie.Need-loop-again-3 Inv-loop μ-loop
-loop-again-3 c = search (needs, name-permitted, name-noted)
 
 same-length-3 : tie.Need-same-length-3 Inv-loop μ-loop
 same-length-3 c = search (needs, same-notes)
@@ -123,20 +108,15 @@ judge-names-spec =
     part-nearest-start
     part-nearest-end
     nearest-requires
-    enum-known-set
+    enum-known-found
     enum-told-2
     loop-less
     loop-again
-    question-number-requires
-    slice-read-if1
+    judge-once-requires
+    enum-told-3
     loop-less-2
     loop-again-2
-    judge-by-set-requires
-    enum-told-3
     same-length-2
     returns-2
-    slice-write-asked
-    loop-less-3
-    loop-again-3
     same-length-3
     returns-3)
