@@ -50,6 +50,11 @@ def caa(owner, flags, tag, value=""):
     return record(owner, 257, 1, data(flags, tag, value))
 
 
+def cname(owner, target):
+    """An alias."""
+    return record(owner, 5, 1, name(target))
+
+
 def issue(owner, value):
     return caa(owner, 0, "issue", value)
 
@@ -70,6 +75,10 @@ def critical(name_number, record_number):
 
 def not_granted(name_number, record_number):
     return (21, name_number, record_number)
+
+
+def too_many_aliases(name_number, record_number):
+    return (22, name_number, record_number)
 
 
 def refused(number_, place):
