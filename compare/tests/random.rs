@@ -176,17 +176,20 @@ fn a_verdict_is_that_of_the_first_name_not_permitted() {
         let mut expected = Answer::Permitted;
         for part in &parts {
             expected = match judge(part) {
-                Answer::NotGranted { name, record } => Answer::NotGranted {
+                Answer::NotGranted { name, record, up } => Answer::NotGranted {
                     name: names_before + name,
                     record,
+                    up,
                 },
-                Answer::UnknownCritical { name, record } => Answer::UnknownCritical {
+                Answer::UnknownCritical { name, record, up } => Answer::UnknownCritical {
                     name: names_before + name,
                     record,
+                    up,
                 },
-                Answer::TooManyAliases { name, record } => Answer::TooManyAliases {
+                Answer::TooManyAliases { name, record, up } => Answer::TooManyAliases {
                     name: names_before + name,
                     record,
+                    up,
                 },
                 other => other,
             };
@@ -217,17 +220,20 @@ fn a_record_in_front_moves_the_numbers_and_nothing_else() {
         };
         let judge = |book: &[u8]| judge(&request, &issuer, &account, &method, book);
         let expected = match judge(&book) {
-            Answer::NotGranted { name, record } => Answer::NotGranted {
+            Answer::NotGranted { name, record, up } => Answer::NotGranted {
                 name,
                 record: record + 1,
+                up,
             },
-            Answer::UnknownCritical { name, record } => Answer::UnknownCritical {
+            Answer::UnknownCritical { name, record, up } => Answer::UnknownCritical {
                 name,
                 record: record + 1,
+                up,
             },
-            Answer::TooManyAliases { name, record } => Answer::TooManyAliases {
+            Answer::TooManyAliases { name, record, up } => Answer::TooManyAliases {
                 name,
                 record: record + 1,
+                up,
             },
             other => other,
         };

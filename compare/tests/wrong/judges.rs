@@ -18,9 +18,10 @@ fn wrong_judges_are_found_out() {
         |_, _, _, _, _| Err(Word::number(99)),
         |request, issuer, account, method, book| match judge(request, issuer, account, method, book)
         {
-            Answer::NotGranted { name, record } => Ok(Answer::NotGranted {
+            Answer::NotGranted { name, record, up } => Ok(Answer::NotGranted {
                 name: record,
                 record: name,
+                up,
             }),
             other => Ok(other),
         },
@@ -112,9 +113,10 @@ fn judges_that_leave_out_what_stands_far_behind_are_found_out() {
         // Keeps a record number in one octet.
         |request, issuer, account, method, book| match judge(request, issuer, account, method, book)
         {
-            Answer::NotGranted { name, record } => Ok(Answer::NotGranted {
+            Answer::NotGranted { name, record, up } => Ok(Answer::NotGranted {
                 name,
                 record: record % 256,
+                up,
             }),
             other => Ok(other),
         },
@@ -301,23 +303,27 @@ fn judges_that_tell_aliases_wrongly_are_found_out() {
         },
         |request, issuer, account, method, book| match judge(request, issuer, account, method, book)
         {
-            Answer::TooManyAliases { name, record } => Ok(Answer::NotGranted { name, record }),
+            Answer::TooManyAliases { name, record, up } => {
+                Ok(Answer::NotGranted { name, record, up })
+            }
             other => Ok(other),
         },
         |request, issuer, account, method, book| match judge(request, issuer, account, method, book)
         {
-            Answer::TooManyAliases { name, record } => Ok(Answer::TooManyAliases {
+            Answer::TooManyAliases { name, record, up } => Ok(Answer::TooManyAliases {
                 name: record,
                 record: name,
+                up,
             }),
             other => Ok(other),
         },
         // Keeps a record number in one octet.
         |request, issuer, account, method, book| match judge(request, issuer, account, method, book)
         {
-            Answer::TooManyAliases { name, record } => Ok(Answer::TooManyAliases {
+            Answer::TooManyAliases { name, record, up } => Ok(Answer::TooManyAliases {
                 name,
                 record: record % 256,
+                up,
             }),
             other => Ok(other),
         },
@@ -335,6 +341,107 @@ fn judges_that_tell_aliases_wrongly_are_found_out() {
             Answer::Refused(Refusal::AliasConflict { record }) => {
                 Ok(Answer::Refused(Refusal::BadRecord { record }))
             }
+            other => Ok(other),
+        },
+    ]);
+}
+
+/// Each for one verdict alone. How labels are counted wrongly is among the mistakes in the rule.
+#[test]
+fn judges_that_put_labels_taken_off_elsewhere_are_found_out() {
+    all_are_found_out(&[
+        // Puts them where the record is, and the record where they are.
+        |request, issuer, account, method, book| match judge(request, issuer, account, method, book)
+        {
+            Answer::UnknownCritical { name, record, up } => Ok(Answer::UnknownCritical {
+                name,
+                record: up,
+                up: record,
+            }),
+            other => Ok(other),
+        },
+        |request, issuer, account, method, book| match judge(request, issuer, account, method, book)
+        {
+            Answer::NotGranted { name, record, up } => Ok(Answer::NotGranted {
+                name,
+                record: up,
+                up: record,
+            }),
+            other => Ok(other),
+        },
+        |request, issuer, account, method, book| match judge(request, issuer, account, method, book)
+        {
+            Answer::TooManyAliases { name, record, up } => Ok(Answer::TooManyAliases {
+                name,
+                record: up,
+                up: record,
+            }),
+            other => Ok(other),
+        },
+        // Puts them where the name is.
+        |request, issuer, account, method, book| match judge(request, issuer, account, method, book)
+        {
+            Answer::NotGranted { name, record, up } => Ok(Answer::NotGranted {
+                name: up,
+                record,
+                up: name,
+            }),
+            other => Ok(other),
+        },
+        // Tells none.
+        |request, issuer, account, method, book| match judge(request, issuer, account, method, book)
+        {
+            Answer::UnknownCritical { name, record, .. } => Ok(Answer::UnknownCritical {
+                name,
+                record,
+                up: 0,
+            }),
+            other => Ok(other),
+        },
+        |request, issuer, account, method, book| match judge(request, issuer, account, method, book)
+        {
+            Answer::NotGranted { name, record, .. } => Ok(Answer::NotGranted {
+                name,
+                record,
+                up: 0,
+            }),
+            other => Ok(other),
+        },
+        |request, issuer, account, method, book| match judge(request, issuer, account, method, book)
+        {
+            Answer::TooManyAliases { name, record, .. } => Ok(Answer::TooManyAliases {
+                name,
+                record,
+                up: 0,
+            }),
+            other => Ok(other),
+        },
+        // Keeps them in six bits: no name has more than 127 labels.
+        |request, issuer, account, method, book| match judge(request, issuer, account, method, book)
+        {
+            Answer::UnknownCritical { name, record, up } => Ok(Answer::UnknownCritical {
+                name,
+                record,
+                up: up % 64,
+            }),
+            other => Ok(other),
+        },
+        |request, issuer, account, method, book| match judge(request, issuer, account, method, book)
+        {
+            Answer::NotGranted { name, record, up } => Ok(Answer::NotGranted {
+                name,
+                record,
+                up: up % 64,
+            }),
+            other => Ok(other),
+        },
+        |request, issuer, account, method, book| match judge(request, issuer, account, method, book)
+        {
+            Answer::TooManyAliases { name, record, up } => Ok(Answer::TooManyAliases {
+                name,
+                record,
+                up: up % 64,
+            }),
             other => Ok(other),
         },
     ]);
