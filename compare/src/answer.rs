@@ -112,6 +112,27 @@ pub enum Answer {
     Refused(Refusal),
 }
 
+impl Answer {
+    /// The same verdict with other numbers for name, record and labels taken off. What tells none stays.
+    pub fn with(self, numbers: impl FnOnce([usize; 3]) -> [usize; 3]) -> Answer {
+        match self {
+            Answer::UnknownCritical { name, record, up } => {
+                let [name, record, up] = numbers([name, record, up]);
+                Answer::UnknownCritical { name, record, up }
+            }
+            Answer::NotGranted { name, record, up } => {
+                let [name, record, up] = numbers([name, record, up]);
+                Answer::NotGranted { name, record, up }
+            }
+            Answer::TooManyAliases { name, record, up } => {
+                let [name, record, up] = numbers([name, record, up]);
+                Answer::TooManyAliases { name, record, up }
+            }
+            Answer::Permitted | Answer::Refused(_) => self,
+        }
+    }
+}
+
 impl fmt::Display for Answer {
     fn fmt(&self, f: &mut fmt::Formatter<'_>) -> fmt::Result {
         match self {

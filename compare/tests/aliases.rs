@@ -105,16 +105,10 @@ fn aliases_stand_for_the_records_that_they_lead_to() {
                     let record = numbers[record];
                     Answer::TooManyAliases { name, record, up }
                 }
-                Answer::UnknownCritical { name, record, up } => {
-                    let record = numbers[record];
-                    Answer::UnknownCritical { name, record, up }
+                other => {
+                    others += usize::from(matches!(other, Answer::NotGranted { .. }));
+                    other.with(|[name, record, up]| [name, numbers[record], up])
                 }
-                Answer::NotGranted { name, record, up } => {
-                    others += 1;
-                    let record = numbers[record];
-                    Answer::NotGranted { name, record, up }
-                }
-                other => other,
             };
             assert_eq!(answer, expected);
         }

@@ -199,17 +199,17 @@ fn is_restricted_and_granted(
     for (side, judge) in judges {
         let granted = judge(name, &load.issuer, ACCOUNT, METHOD, &load.book);
         let other = judge(name, OTHER_ISSUER, ACCOUNT, METHOD, &load.book);
-        match (granted, other) {
-            (Ok(Answer::Permitted), Ok(Answer::NotGranted { up: told, .. })) if told == up => {}
-            _ => {
-                return Err(format!(
-                    "{}: a name is not restricted and granted {up} up, by the {side}: {}, for another \
-                     issuer {}",
-                    load.title,
-                    told(granted),
-                    told(other)
-                ))
-            }
+        let is_as_said = match (granted, other) {
+            (Ok(Answer::Permitted), Ok(Answer::NotGranted { up: told, .. })) => told == up,
+            _ => false,
+        };
+        if !is_as_said {
+            return Err(format!(
+                "{}: a name is not restricted and granted, by the {side}: {}, for another issuer {}",
+                load.title,
+                told(granted),
+                told(other)
+            ));
         }
     }
     Ok(())
