@@ -11,36 +11,31 @@ use crate::rule::{chains, Records};
 /// Four kinds for each group: 0, 1, 2 labels, and 3 or more.
 const KINDS: &[(u8, &str)] = &[
     (UNKNOWN_CRITICAL, "20 up 0"),
-    (UNKNOWN_CRITICAL + 1, "up 1"),
-    (UNKNOWN_CRITICAL + 2, "up 2"),
-    (UNKNOWN_CRITICAL + 3, "up 3 and more"),
+    (UNKNOWN_CRITICAL + 1, "20 up 1"),
+    (UNKNOWN_CRITICAL + 2, "20 up 2"),
+    (UNKNOWN_CRITICAL + 3, "20 up 3 and more"),
     (NOT_GRANTED, "21 up 0"),
-    (NOT_GRANTED + 1, "up 1"),
-    (NOT_GRANTED + 2, "up 2"),
-    (NOT_GRANTED + 3, "up 3 and more"),
+    (NOT_GRANTED + 1, "21 up 1"),
+    (NOT_GRANTED + 2, "21 up 2"),
+    (NOT_GRANTED + 3, "21 up 3 and more"),
     (TOO_MANY, "22 up 0"),
-    (TOO_MANY + 1, "up 1"),
-    (TOO_MANY + 2, "up 2"),
-    (TOO_MANY + 3, "up 3 and more"),
-    (BY_ALIAS, "set by aliases up 0"),
-    (BY_ALIAS + 1, "up 1"),
-    (BY_ALIAS + 2, "up 2"),
-    (BY_ALIAS + 3, "up 3 and more"),
+    (TOO_MANY + 1, "22 up 1"),
+    (TOO_MANY + 2, "22 up 2"),
+    (TOO_MANY + 3, "22 up 3 and more"),
+    (BY_ALIAS, "aliases up 0"),
+    (BY_ALIAS + 1, "aliases up 1"),
+    (BY_ALIAS + 2, "aliases up 2"),
+    (BY_ALIAS + 3, "aliases up 3 and more"),
     (STAR, "star up 0"),
-    (STAR + 1, "up 1"),
-    (STAR + 2, "up 2"),
-    (STAR + 3, "up 3 and more"),
-    (STAR_BY_ALIAS, "star by aliases up 0"),
-    (STAR_BY_ALIAS + 1, "up 1"),
-    (STAR_BY_ALIAS + 2, "up 2"),
-    (STAR_BY_ALIAS + 3, "up 3 and more"),
+    (STAR + 1, "star up 1"),
+    (STAR + 2, "star up 2"),
+    (STAR + 3, "star up 3 and more"),
 ];
 const UNKNOWN_CRITICAL: u8 = 0;
 const NOT_GRANTED: u8 = 4;
 const TOO_MANY: u8 = 8;
 const BY_ALIAS: u8 = 12;
 const STAR: u8 = 16;
-const STAR_BY_ALIAS: u8 = 20;
 
 pub static OF_VERDICTS: Call = Call {
     name: "judge, up",
@@ -75,15 +70,11 @@ fn groups(request: &[u8], book: &[u8], told: ToldUp) -> Result<Vec<u8>, Refusal>
         return Ok(groups);
     };
     let last = chains(&records, name).pop();
-    let by_alias = last.is_some_and(|chain| chain.finds_set && !chain.targets.is_empty());
-    if by_alias {
+    if last.is_some_and(|chain| chain.finds_set && !chain.targets.is_empty()) {
         groups.push(BY_ALIAS);
     }
     if name.wildcard {
         groups.push(STAR);
-    }
-    if by_alias && name.wildcard {
-        groups.push(STAR_BY_ALIAS);
     }
     Ok(groups)
 }
@@ -110,18 +101,18 @@ mod tests {
         assert_eq!(groups(20, 0), [UNKNOWN_CRITICAL]);
         assert_eq!(groups(21, 1), [NOT_GRANTED, STAR]);
         assert_eq!(groups(20, 2), [UNKNOWN_CRITICAL, BY_ALIAS]);
-        assert_eq!(groups(21, 3), [NOT_GRANTED, BY_ALIAS, STAR, STAR_BY_ALIAS]);
+        assert_eq!(groups(21, 3), [NOT_GRANTED, BY_ALIAS, STAR]);
         assert_eq!(groups(22, 0), [TOO_MANY]);
     }
 
     #[test]
     fn three_labels_and_more_are_one_kind() {
         for (up, counted) in [
-            (0, "20 up 0: 1, up 1: 0"),
-            (1, "up 1: 1, up 2: 0"),
-            (2, "up 2: 1, up 3 and more: 0"),
-            (3, "up 3 and more: 1, 21 up 0: 0"),
-            (126, "up 3 and more: 1, 21 up 0: 0"),
+            (0, "20 up 0: 1, 20 up 1: 0"),
+            (1, "20 up 0: 0, 20 up 1: 1, 20 up 2: 0"),
+            (2, "20 up 2: 1, 20 up 3 and more: 0"),
+            (3, "20 up 2: 0, 20 up 3 and more: 1, 21 up 0: 0"),
+            (126, "20 up 2: 0, 20 up 3 and more: 1, 21 up 0: 0"),
         ] {
             let mut tally = Tally::new(&OF_VERDICTS);
             let told = ToldUp {
