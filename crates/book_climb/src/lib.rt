@@ -24,11 +24,17 @@ pub fn nearest(
         let above = c.up(name);
         let parent = above.at;
         if parent == at {
-            return Nearest { found: FirstRecord::Nothing, up: off };
+            return Nearest {
+                found: FirstRecord::Nothing,
+                up: off,
+            };
         }
         let x = &name[at..];
         if let FirstRecord::At(r) = book_onward::look_up(book, table, links, heads, onward, x) {
-            return Nearest { found: FirstRecord::At(r), up: off };
+            return Nearest {
+                found: FirstRecord::At(r),
+                up: off,
+            };
         }
         c = above;
         off += 1;

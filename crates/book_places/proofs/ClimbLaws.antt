@@ -69,7 +69,7 @@ module _ (book table links heads onward : List ℕ) (rule : Book) where
 module _ (book : List ℕ) (x : Name) (accepted : bookRefusal book ≡ none) (good : GoodName x) where
   from-the-name :
       Climbed book (tableOf book) (chainsOf book .links) (chainsOf book .heads) (onwardOf book) (ruled book accepted)
-      (map (lookup (ruled book accepted)) (ancestors x)) 
+      (map (lookup (ruled book accepted)) (ancestors x))
       (nearestFrom (length (wire x)) book (tableOf book) (chainsOf book .links) (chainsOf book .heads) (onwardOf book) (wire x) 0)
       (labelsOffFrom (length (wire x)) book (tableOf book) (chainsOf book .links) (chainsOf book .heads) (onwardOf book) (wire x) 0)
   from-the-name =

@@ -25,7 +25,7 @@ use Rattle.read_request.specs.declared.RequestedRead.{RequestedRead}
 use Rattle.read_request.specs.declared.RequestedRead.the-variants.{Good, Fault}
 use Rattle.spec_request.specs.Request.{isWildcard, base, requestedNames}
 use Rattle.read_request.specs.Places.{requestedAt}
-use Rattle.read_request.proofs.RequestPlaces.{requested-there}
+use Rattle.read_request.proofs.RequestPlaces.{requested-there, next-after}
 use Rattle.spec_request.proofs.RequestedNames.{good-base}
 use Rattle.read_request.proofs.AcceptedNames.{NamesLeft, NextName, all-names, names-end, names-few, names-good, next-name}
 use Rattle.spec_record.specs.Records.{records, bookRefusal}
@@ -140,6 +140,10 @@ module _ (who : Applicant) (request issuer book table links heads onward : List 
         module _ (r : Requested) (g : o ≡ Good r) where
           pub base-first : r .base ≤ r .next
           base-first = let (n, to) = requested-there request at o f r g in omega (arith, to .onward)
+
+          -- for an edit that climbs from the whole name: its part of the request is sound, and its answer is not
+          pub name-first : at ≤ r .next
+          name-first = omega (arith, next-after request at o f r g)
 
           this : NextName request k (w .names) r
           this = next-name request (w .left) h o f r g

@@ -6,7 +6,7 @@ use Rattle.spec_limits.specs.Limits.{maxNames}
 use Rattle.read_request.proofs.RequestPlaces.{next-inside, left-less}
 use Rattle.judge_call.specs.Asked.{Asked}
 use Rattle.judge_call.proofs.AskedLaws.{same-notes}
-use Rattle.judge_call.proofs.NameWalk.{Judged, names-start, few, no-bad-name, base-first, name-unrestricted, set-below, name-denied, name-permitted, all-passed}
+use Rattle.judge_call.proofs.NameWalk.{Judged, names-start, few, no-bad-name, base-first, name-first, name-unrestricted, set-below, name-denied, name-permitted, all-passed}
 use Rattle.judge_call.proofs.judge_names.Statement.{statement}
 use Rattle.judge_call.proofs.judge_names.Tie as tie
 
@@ -41,10 +41,10 @@ unfolding maxNames
 add-k c = search (needs, few)
 
 sub-nearest : tie.Need-sub-nearest Inv-loop μ-loop
-sub-nearest c = search (needs, base-first)
+sub-nearest c = search (needs, base-first, name-first)
 
 part-nearest-start : tie.Need-part-nearest-start Inv-loop μ-loop
-part-nearest-start c = search (needs, base-first)
+part-nearest-start c = search (needs, base-first, name-first)
 
 part-nearest-end : tie.Need-part-nearest-end Inv-loop μ-loop
 part-nearest-end c = search (needs, next-inside)
