@@ -219,7 +219,10 @@ fn labels_taken_off_lead_to_the_name_that_decides() {
     for _ in 0..3_000 {
         let issuer = generator.issuer();
         let (account, method) = (generator.account(), generator.method());
-        let (request, book) = any_request_and_book(&mut generator, &account, &method);
+        let (request, book) = match generator.once_in(2) {
+            true => generator.request_and_book_of_heights(),
+            false => any_request_and_book(&mut generator, &account, &method),
+        };
         let judge = |request: &[u8]| judge(request, &issuer, &account, &method, &book);
         let mut rest = &request[..];
         while let Some((requested, behind)) = read_requested_name(rest) {

@@ -12,7 +12,7 @@ const HEIGHTS: [usize; 8] = [0, 1, 1, 2, 2, 2, 3, 5];
 
 impl Generator {
     /// One name, at times behind an open one, and a book where its climb ends at some height.
-    pub(super) fn request_and_book_of_heights(&mut self) -> (Vec<u8>, Vec<u8>) {
+    pub fn request_and_book_of_heights(&mut self) -> (Vec<u8>, Vec<u8>) {
         let height = self.one_of(&HEIGHTS);
         let mut name = vec![0];
         for _ in 0..height + 1 + self.below(3) {
