@@ -278,7 +278,7 @@ impl Generator {
 }
 
 /// The name with one label more, where that has room.
-fn with_label(label: &[u8], name: &[u8]) -> Vec<u8> {
+pub(super) fn with_label(label: &[u8], name: &[u8]) -> Vec<u8> {
     match 1 + label.len() + name.len() <= NAME_OCTETS {
         true => [&[label.len() as u8], label, name].concat(),
         false => name.to_vec(),

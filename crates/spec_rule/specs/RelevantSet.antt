@@ -1,5 +1,5 @@
 -- RFC 8659 section 3: the Relevant RRset of a name (the requirements' "relevant set").
-use Prim.Native.Nat.{ℕ}
+use Prim.Native.Nat.{ℕ, suc}
 use mathlib.Core.List.{List, [], _∷_, map}
 use mathlib.Core.Option.{Option, none, some}
 use Rattle.spec_limits.specs.Limits.{maxAliases}
@@ -68,3 +68,15 @@ firstFound (endless r ∷ ls) = endless r
 -- names above the end of an alias are not looked at.
 unfoldable pub relevantSet : Book → Name → Lookup
 relevantSet book x = firstFound (map (lookup book) (ancestors x))
+
+-- How many lookups are empty before the first that is not.
+abbrev pub emptyBefore : List Lookup → ℕ
+emptyBefore [] = 0
+emptyBefore (empty ∷ ls) = suc (emptyBefore ls)
+emptyBefore (found rs ∷ ls) = 0
+emptyBefore (endless r ∷ ls) = 0
+
+-- How many labels are taken off X to reach the name whose lookup is the relevant set: 0 at X itself. Where aliases were followed, this is the
+-- name that they start from.
+unfoldable pub labelsOff : Book → Name → ℕ
+labelsOff book x = emptyBefore (map (lookup book) (ancestors x))

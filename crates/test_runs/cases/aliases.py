@@ -7,17 +7,17 @@ X, WEB, PARENT = "www.example.com", "web.example.org", "example.com"
 cases = []
 
 
-def granted(title, book, record_number, request=X):
-    """CA alone is granted, and the record of this number governs."""
-    cases.extend(asked("alias: " + title, names(request), book, {CA: PERMITTED, OTHER: not_granted(0, record_number)}, [CA]))
+def granted(title, book, record_number, request=X, up=0):
+    """CA alone is granted, and the record of this number governs, found so many labels up."""
+    cases.extend(asked("alias: " + title, names(request), book, {CA: PERMITTED, OTHER: not_granted(0, record_number, up)}, [CA]))
 
 
 def unrestricted(title, book, request=X):
     cases.extend(asked("alias: " + title, names(request), book, {CA: PERMITTED}, ANYONE))
 
 
-def endless(title, book, record_number, request=X):
-    cases.extend(asked("alias: " + title, names(request), book, {CA: too_many_aliases(0, record_number)}, []))
+def endless(title, book, record_number, request=X, up=0):
+    cases.extend(asked("alias: " + title, names(request), book, {CA: too_many_aliases(0, record_number, up)}, []))
 
 
 def refuses(title, book, answer):
@@ -39,17 +39,17 @@ granted("the target a name below", cname(X, "a." + X) + issue("a." + X, CA) + is
 granted("the target the root", cname(X, "") + issue("", CA) + issue(PARENT, OTHER), 1)
 granted("an alias of the root followed", cname(X, "") + cname("", "b") + issue("b", CA), 2)
 granted("the target a star owner", cname(X, "*.b") + issue("*.b", CA), 1)
-granted("of the name above alone", cname(PARENT, "example.org") + issue("example.org", CA), 1)
+granted("of the name above alone", cname(PARENT, "example.org") + issue("example.org", CA), 1, up=1)
 granted("other records before both", record("b", 1, 1, b"\1\2\3\4") + cname(X, WEB) + record(WEB, 16, 1, b"\1t") + issue(WEB, CA), 3)
 granted("of X in *.X", cname(X, WEB) + issuewild(WEB, CA) + issue(WEB, OTHER), 1, request="*." + X)
 unrestricted("of *.X itself", cname("*." + X, WEB) + issue(WEB, OTHER), request="*." + X)
 unrestricted("of the root alone", cname("", "b") + issue("b", OTHER))
 unrestricted("the target has iodef alone", cname(X, WEB) + caa(WEB, 0, "iodef", "mailto:a@b") + issue(PARENT, OTHER))
 cases += asked("alias: the target forbids", names(X), cname(X, WEB) + caa(WEB, 128, "tbs", "x") + issue(PARENT, CA),
-               {CA: critical(0, 1)}, [])
+               {CA: critical(0, 1, 0)}, [])
 
 # "If it has none, the climb goes on from the parent of the name looked at, as RFC 8659 says; RFC 6844 climbed the target"
-granted("to nothing, a set at the parent", cname(X, WEB) + issue("example.org", OTHER) + issue(PARENT, CA), 2)
+granted("to nothing, a set at the parent", cname(X, WEB) + issue("example.org", OTHER) + issue(PARENT, CA), 2, up=1)
 unrestricted("to nothing below a set", cname(X, WEB) + issue("example.org", OTHER))
 
 # "Type 5, class 1 now counts"
@@ -59,19 +59,19 @@ unrestricted("type 39", record(X, 39, 1, name(WEB)) + issue(WEB, OTHER))
 # "up to 8 for that look"; "If a ninth alias would be followed, the name is restricted, grants nobody"
 granted("8 of them", chain(X, 8, "t") + issue("t8", CA), 8)
 unrestricted("8 of them to nothing", chain(X, 8, "t"))
-granted("5 to nothing and 5 above", chain(X, 5, "t") + chain(PARENT, 5, "s") + issue("s5", CA), 10)
+granted("5 to nothing and 5 above", chain(X, 5, "t") + chain(PARENT, 5, "s") + issue("s5", CA), 10, up=1)
 endless("9 of them", issue("com", CA) + chain(X, 9, "t") + issue("t9", CA) + issue(PARENT, CA), 1)
 endless("of itself", issue(PARENT, CA) + cname(X, X), 1)
 endless("a loop of two", cname("b", X) + cname(X, "b") + issue(PARENT, CA), 1)
 endless("a loop behind an alias", cname("b", "c") + cname("c", "b") + cname(X, "b") + issue(PARENT, CA), 2)
-endless("a loop above X", cname("b", PARENT) + cname(PARENT, "b") + issue("com", CA), 1)
+endless("a loop above X", cname("b", PARENT) + cname(PARENT, "b") + issue("com", CA), 1, up=1)
 granted("a set below a loop", issue(X, CA) + cname(PARENT, PARENT), 0)
 
 # "verdict 22 carries the name number, as 21 does": the lowest name that is not permitted decides
 circular = issue(PARENT, CA) + cname("pay." + PARENT, "pay." + PARENT)
 both, turned = names(X, "pay." + PARENT), names("pay." + PARENT, X)
-cases += asked("alias: 22 for name 1", both, circular, {CA: too_many_aliases(1, 1), OTHER: not_granted(0, 0)}, [])
-cases += asked("alias: 22 for name 0", turned, circular, {CA: too_many_aliases(0, 1), OTHER: too_many_aliases(0, 1)}, [])
+cases += asked("alias: 22 for name 1", both, circular, {CA: too_many_aliases(1, 1, 0), OTHER: not_granted(0, 0, 1)}, [])
+cases += asked("alias: 22 for name 0", turned, circular, {CA: too_many_aliases(0, 1, 0), OTHER: too_many_aliases(0, 1, 0)}, [])
 cases.append(listed("alias: 22 and no room", both, circular, [], room=0))
 
 # "data is one name by 01's owner rule, filling its length exactly (else refusal 6)"
