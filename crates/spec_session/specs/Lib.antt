@@ -1,0 +1,4 @@
+pub mod Sessions
+pub mod Steps
+pub mod Meaning
+pub mod Theorems
