@@ -36,7 +36,7 @@ one-name-read s o n = (
 )
 
 -- a name is kept, and more labels than are taken off
-reached : (o : Option Name) (u : ℕ) → (reaches o u ≡ true) ↔ ((n : Name) × (o ≡ some n) × (u < length (base n)))
+pub reached : (o : Option Name) (u : ℕ) → (reaches o u ≡ true) ↔ ((n : Name) × (o ≡ some n) × (u < length (base n)))
 reached none u = (λ e. absurd (false≢true e), λ (n, e, h). absurd (Option·none-ne-some n e))
 reached (some n) u = (
   λ e. (n, refl, ltb-true u (length (base n)) e),
