@@ -1,7 +1,9 @@
 pub mod Table
+pub mod UpTable
 pub mod Following
 pub mod Lookups
 pub mod Nearest
+pub mod LabelsTakenOff
 pub mod Renumber
 pub mod AuthorizationLaws
 pub mod VerdictLaws

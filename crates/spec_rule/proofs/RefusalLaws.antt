@@ -30,7 +30,7 @@ use Rattle.spec_rule.specs.declared.Judgement.the-variants.{Refused}
 use Rattle.spec_rule.specs.declared.PermittedIssuers.the-variants.{Refused as ListRefused}
 use Rattle.spec_rule.specs.RelevantSet.{asBook}
 use Rattle.spec_rule.specs.IssuerLists.{Issuers, anyone, listed, issuers, entries}
-use Rattle.spec_rule.specs.Calls.{authorizations, firstRefusal, judgeChecks, refusedOr, judge, roomRefusal, listChecks, written, unlessRefused, listIssuers}
+use Rattle.spec_rule.specs.Calls.{authorizations, decisions, firstRefusal, judgeChecks, refusedOr, judge, roomRefusal, listChecks, written, unlessRefused, listIssuers}
 use Rattle.spec_rule.specs.Theorems.{JudgeRow, ListRow, Judge-refusals, List-refusals}
 use Rattle.spec_rule.proofs.VerdictLaws.{verdict-by-the-rule}
 use Rattle.spec_rule.proofs.CheckOrder.{checkedAt, Keeps, first-row, in-front, one-row, placed-row, three-rows, four-rows}
@@ -72,7 +72,7 @@ judge-keeps request issuer who book o p =
     in-front (request-keeps request o) (in-front (issuer-keeps issuer) (in-front (applicant-keeps who) (book-keeps book p) refl) refl) refl
 
 pub judge-refusals : Judge-refusals
-unfolding judge authorizations
+unfolding judge decisions
 judge-refusals request issuer who book o p r =
     Iff·trans
     (judge-refused _ _ r (verdict-by-the-rule who (asBook (records book)) (requestedNames request) issuer .4 r))

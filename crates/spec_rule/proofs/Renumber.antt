@@ -12,9 +12,9 @@ use Rattle.spec_request.specs.Request.{isWildcard, base}
 use Rattle.spec_applicant.specs.Applicant.{Applicant}
 use Rattle.spec_rule.specs.declared.Judgement.{Judgement}
 use Rattle.spec_rule.specs.Aliases.{Alias, aliasesOf, through, followed}
-use Rattle.spec_rule.specs.RelevantSet.{CaaRecord, Book, Lookup, empty, found, endless, asLookup, caaAt, lookedUp, lookup, firstFound, relevantSet}
+use Rattle.spec_rule.specs.RelevantSet.{CaaRecord, Book, Lookup, empty, found, endless, asLookup, caaAt, lookedUp, lookup, firstFound, emptyBefore, relevantSet, labelsOff}
 use Rattle.spec_rule.specs.Authorizations.{Authorization, unrestricted, forbidden, granted, unresolved, isUnknownCritical, isIssue, isIssueWild, orElse, governing, grantee, grantees, governedBy, unlessForbidden, authorizationFrom, authorization, permits}
-use Rattle.spec_rule.specs.Verdicts.{denied, verdictFrom, verdict}
+use Rattle.spec_rule.specs.Verdicts.{Decision, decision, denied, verdictFrom, verdict}
 use Rattle.spec_rule.specs.IssuerLists.{listed, distinct, issuers}
 use Rattle.spec_rule.specs.Theorems.{renumbered, renumberedAlias, renumberedBook, renumberedAuthorization, renumberedVerdict, Renumbering}
 
@@ -77,6 +77,18 @@ module _ (f : ℕ → ℕ) (who : Applicant) where
   same-set book x =
       rw (fun-ext (same-lookup book), ← map-map otherLookup (lookup book) (ancestors x)) (first-found (map (lookup book) (ancestors x)))
 
+  -- the labels taken off
+  empty-before : (ls : List Lookup) → emptyBefore (map otherLookup ls) ≡ emptyBefore ls
+  empty-before [] = refl
+  empty-before (empty ∷ ls) = ap suc (empty-before ls)
+  empty-before (found rs ∷ ls) = refl
+  empty-before (endless r ∷ ls) = refl
+
+  same-labels-off : (book : Book) (x : Name) → labelsOff (renumberedBook f book) x ≡ labelsOff book x
+  unfolding labelsOff
+  same-labels-off book x =
+      rw (fun-ext (same-lookup book), ← map-map otherLookup (lookup book) (ancestors x)) (empty-before (map (lookup book) (ancestors x)))
+
   -- what CAA says of a name
   or-else : (rs qs : List CaaRecord) → orElse (others rs) (others qs) ≡ others (orElse rs qs)
   or-else [] qs = refl
@@ -103,23 +115,33 @@ module _ (f : ℕ → ℕ) (who : Applicant) where
   unless-forbidden [] a = refl
   unless-forbidden (u ∷ us) a = refl
 
-  same-decision : (wildcard : Bool) (l : Lookup) → authorizationFrom who wildcard (otherLookup l) ≡ renumberedAuthorization f (authorizationFrom who wildcard l)
+  same-from-lookup : (wildcard : Bool) (l : Lookup) → authorizationFrom who wildcard (otherLookup l) ≡ renumberedAuthorization f (authorizationFrom who wildcard l)
   unfolding isUnknownCritical
-  same-decision wildcard empty = refl
-  same-decision wildcard (found rs) =
+  same-from-lookup wildcard empty = refl
+  same-from-lookup wildcard (found rs) =
       rw (same-select isUnknownCritical (λ r. refl) rs, same-governing wildcard rs, governed-by (governing wildcard rs))
       (unless-forbidden (select isUnknownCritical rs) (governedBy who (governing wildcard rs)))
-  same-decision wildcard (endless r) = refl
+  same-from-lookup wildcard (endless r) = refl
 
   same-authorization : (book : Book) (n : Name) → authorization who (renumberedBook f book) n ≡ renumberedAuthorization f (authorization who book n)
   unfolding authorization
-  same-authorization book n = rw (same-set book (base n)) (same-decision (isWildcard n) (relevantSet book (base n)))
+  same-authorization book n = rw (same-set book (base n)) (same-from-lookup (isWildcard n) (relevantSet book (base n)))
 
   abbrev otherwise : List Authorization → List Authorization
   otherwise said = map (renumberedAuthorization f) said
 
   same-authorizations : (book : Book) (ns : List Name) → map (authorization who (renumberedBook f book)) ns ≡ otherwise (map (authorization who book) ns)
   same-authorizations book ns = rw (fun-ext (same-authorization book), map-map)
+
+  abbrev otherDecision : Decision → Decision
+  otherDecision s = record { says = renumberedAuthorization f (s .says); up = s .up }
+
+  same-decision : (book : Book) (n : Name) → decision who (renumberedBook f book) n ≡ otherDecision (decision who book n)
+  unfolding decision
+  same-decision book n = rw (same-authorization book n, same-labels-off book (base n))
+
+  same-decisions : (book : Book) (ns : List Name) → map (decision who (renumberedBook f book)) ns ≡ map otherDecision (map (decision who book) ns)
+  same-decisions book ns = rw (fun-ext (same-decision book), map-map)
 
   -- the verdict, and the issuers
   same-permits : (d : List ℕ) (a : Authorization) → permits d (renumberedAuthorization f a) ≡ permits d a
@@ -128,17 +150,18 @@ module _ (f : ℕ → ℕ) (who : Applicant) where
   same-permits d (granted r ns) = refl
   same-permits d (unresolved r) = refl
 
-  same-denied : (k : ℕ) (a : Authorization) → denied k (renumberedAuthorization f a) ≡ renumberedVerdict f (denied k a)
-  same-denied k unrestricted = refl
-  same-denied k (forbidden r) = refl
-  same-denied k (granted r ns) = refl
-  same-denied k (unresolved r) = refl
+  same-denied : (k u : ℕ) (a : Authorization) → denied k u (renumberedAuthorization f a) ≡ renumberedVerdict f (denied k u a)
+  same-denied k u unrestricted = refl
+  same-denied k u (forbidden r) = refl
+  same-denied k u (granted r ns) = refl
+  same-denied k u (unresolved r) = refl
 
   same-verdict :
-      (k : ℕ) (d : List ℕ) (said : List Authorization) → verdictFrom k d (otherwise said) ≡ renumberedVerdict f (verdictFrom k d said)
+      (k : ℕ) (d : List ℕ) (said : List Decision) → verdictFrom k d (map otherDecision said) ≡ renumberedVerdict f (verdictFrom k d said)
   same-verdict k d [] = refl
-  same-verdict k d (a ∷ rest) =
-      rw (same-permits d a, same-denied k a, same-verdict (suc k) d rest) (go (permits d a) (verdictFrom (suc k) d rest) (denied k a))
+  same-verdict k d (s ∷ rest) =
+      rw (same-permits d (s .says), same-denied k (s .up) (s .says), same-verdict (suc k) d rest)
+      (go (permits d (s .says)) (verdictFrom (suc k) d rest) (denied k (s .up) (s .says)))
     where
       go : (t : Bool) (v w : Judgement) → cond t (renumberedVerdict f v) (renumberedVerdict f w) ≡ renumberedVerdict f (cond t v w)
       go true v w = refl
@@ -159,4 +182,4 @@ pub renumbering : Renumbering
 unfolding verdict
 renumbering f who book ns =
     let said = map (authorization who book) ns in
-    rw (same-authorizations f who book ns) (refl, λ d. same-verdict f who 0 d said, same-issuers f who said)
+    rw (same-authorizations f who book ns, same-decisions f who book ns) (refl, λ d. same-verdict f who 0 d (map (decision who book) ns), same-issuers f who said)

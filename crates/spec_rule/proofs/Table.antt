@@ -14,10 +14,10 @@ use Rattle.spec_value.specs.IssueValues.{isDomainName, isParameterTag, isParame
 use Rattle.spec_value.specs.Parameters.{parameterIn, parametersIn}
 use Rattle.spec_applicant.specs.Applicant.{isAccount, isMethod, isApplicant, applicantRefusal}
 use Rattle.spec_applicant.specs.Admission.{admits}
-use Rattle.spec_rule.specs.RelevantSet.{lookup, relevantSet}
+use Rattle.spec_rule.specs.RelevantSet.{lookup, relevantSet, labelsOff}
 use Rattle.spec_rule.specs.Authorizations.{isUnknownCritical, governing, grantee, authorization}
-use Rattle.spec_rule.specs.Verdicts.{verdict}
-use Rattle.spec_rule.specs.Calls.{judgementCode, permittedIssuersCode, authorizations, judge, listIssuers}
+use Rattle.spec_rule.specs.Verdicts.{decision, verdict}
+use Rattle.spec_rule.specs.Calls.{judgementCode, permittedIssuersCode, authorizations, decisions, judge, listIssuers}
 use Rattle.spec_rule.specs.Edges.{Edges-agree, Whole-case}
 use Rattle.spec_rule.specs.CallEdges.{Calls-agree, Lists-agree}
 use Rattle.spec_rule.specs.Pinned.{Answer-codes, List-codes}
@@ -33,7 +33,7 @@ pub whole-case : Whole-case
 unfolding maxLabelOctets maxIssuerOctets maxAliases isDigit isUpper isLower isLetterOrDigit isBlank lower equalIgnoringCase
     isLetterDigitHyphen isLabel isHostLabel isWildcard base isIssuer readProperty property isCritical tagOf isCaa isAlias target name
     maxNameOctets isDomainName isParameterOctet isParameterTag isParameter areParameters issueValue parameterIn parametersIn admits lookup relevantSet
-    isUnknownCritical governing grantee authorization verdict
+    isUnknownCritical governing grantee authorization labelsOff decision verdict
 whole-case = (refl, refl, refl, refl)
 
 pub calls-agree : Calls-agree
@@ -41,7 +41,7 @@ unfolding maxLabelOctets maxIssuerOctets maxAliases maxNameOctets maxRequestOcte
     isLetterOrDigit isBlank lower equalIgnoringCase isLetterDigitHyphen isLabel isHostLabel isWildcard base isIssuer readProperty property
     isCritical tagOf isCaa isAlias target isDomainName isParameterOctet isParameterTag isParameter areParameters issueValue parameterIn parametersIn admits lookup relevantSet
     isUnknownCritical governing grantee authorization verdict name isRequestable requestedName nameItems requestedNames requestRefusal
-    issuerRefusal maxAccountOctets isAccount isMethod isApplicant applicantRefusal isLaidOut resourceRecord recordItems records layoutRefusal clashes conflictRefusal bookRefusal number authorizations judge
+    issuerRefusal maxAccountOctets isAccount isMethod isApplicant applicantRefusal isLaidOut resourceRecord recordItems records layoutRefusal clashes conflictRefusal bookRefusal number labelsOff decision decisions judge
 calls-agree = refl
 
 pub lists-agree : Lists-agree
@@ -54,7 +54,7 @@ lists-agree = (refl, refl, refl, refl, refl, refl, refl, refl, refl, refl, refl,
 
 pub answer-codes : Answer-codes
 unfolding judgementCode permittedIssuersCode
-answer-codes = (refl, λ k r. (refl, refl, refl), λ r. (refl, refl))
+answer-codes = (refl, λ k r u. (refl, refl, refl), λ r. (refl, refl))
 
 pub list-codes : List-codes
 unfolding permittedIssuersCode

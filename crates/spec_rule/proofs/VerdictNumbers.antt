@@ -24,9 +24,9 @@ kind (NotGranted d) = 2
 kind (TooManyAliases d) = 3
 kind (Refused r) = 4
 
--- the two numbers of a denial are all of it
-same-denial : (c d : Denial) → c .name .0 ≡ d .name .0 → c .rr .0 ≡ d .rr .0 → c ≡ d
-same-denial c d a b = rw (a, b) refl
+-- the three numbers of a denial are all of it
+same-denial : (c d : Denial) → c .name .0 ≡ d .name .0 → c .rr .0 ≡ d .rr .0 → c .up .0 ≡ d .up .0 → c ≡ d
+same-denial c d a b u = rw (a, b, u) refl
 
 -- a judgement that is no refusal is known by its number and values
 known : (v w : Judgement) → NoRefusal v → NoRefusal w → judgementCode v ≡ judgementCode w → v ≡ w
@@ -39,7 +39,7 @@ known Permitted (NotGranted d) h k e = absurd (omega (arith, ap (λ (c : AnswerC
 known Permitted (TooManyAliases d) h k e = absurd (omega (arith, ap (λ (c : AnswerCode). c .number) e))
 known (UnknownCritical c) Permitted h k e = absurd (omega (arith, ap (λ (c : AnswerCode). c .number) e))
 known (UnknownCritical c) (UnknownCritical d) h k e =
-    ap UnknownCritical (same-denial c d (ap (λ (c : AnswerCode). getD (c .values) 0 0) e) (ap (λ (c : AnswerCode). getD (c .values) 1 0) e))
+    ap UnknownCritical (same-denial c d (ap (λ (c : AnswerCode). getD (c .values) 0 0) e) (ap (λ (c : AnswerCode). getD (c .values) 1 0) e) (ap (λ (c : AnswerCode). getD (c .values) 2 0) e))
 known (UnknownCritical c) (Refused r) h k e = absurd (k r refl)
 known (UnknownCritical c) (NotGranted d) h k e = absurd (omega (arith, ap (λ (c : AnswerCode). c .number) e))
 known (UnknownCritical c) (TooManyAliases d) h k e = absurd (omega (arith, ap (λ (c : AnswerCode). c .number) e))
@@ -52,9 +52,9 @@ known (TooManyAliases c) Permitted h k e = absurd (omega (arith, ap (λ (c : Ans
 known (TooManyAliases c) (UnknownCritical d) h k e = absurd (omega (arith, ap (λ (c : AnswerCode). c .number) e))
 known (TooManyAliases c) (NotGranted d) h k e = absurd (omega (arith, ap (λ (c : AnswerCode). c .number) e))
 known (TooManyAliases c) (TooManyAliases d) h k e =
-    ap TooManyAliases (same-denial c d (ap (λ (c : AnswerCode). getD (c .values) 0 0) e) (ap (λ (c : AnswerCode). getD (c .values) 1 0) e))
+    ap TooManyAliases (same-denial c d (ap (λ (c : AnswerCode). getD (c .values) 0 0) e) (ap (λ (c : AnswerCode). getD (c .values) 1 0) e) (ap (λ (c : AnswerCode). getD (c .values) 2 0) e))
 known (NotGranted c) (NotGranted d) h k e =
-    ap NotGranted (same-denial c d (ap (λ (c : AnswerCode). getD (c .values) 0 0) e) (ap (λ (c : AnswerCode). getD (c .values) 1 0) e))
+    ap NotGranted (same-denial c d (ap (λ (c : AnswerCode). getD (c .values) 0 0) e) (ap (λ (c : AnswerCode). getD (c .values) 1 0) e) (ap (λ (c : AnswerCode). getD (c .values) 2 0) e))
 
 -- so a code that is w's tells that it is w
 told : (v w : Judgement) (c : AnswerCode) → NoRefusal v → NoRefusal w → judgementCode w ≡ c → (judgementCode v ≡ c) ↔ (v ≡ w)
@@ -75,8 +75,8 @@ pub verdict-numbers : Verdict-numbers
 unfolding judgementCode
 verdict-numbers who book ns d v (permitted, critical, ungranted, too-many, no-refusal) = (
   Iff·trans (told v Permitted _ no-refusal (apart Permitted (λ e. absurd (omega arith))) refl) permitted,
-  λ k r. Iff·trans (told v (UnknownCritical (denial k r)) _ no-refusal (apart (UnknownCritical (denial k r)) (λ e. absurd (omega arith))) refl) (critical k r),
-  λ k r. Iff·trans (told v (NotGranted (denial k r)) _ no-refusal (apart (NotGranted (denial k r)) (λ e. absurd (omega arith))) refl) (ungranted k r),
-  λ k r. Iff·trans (told v (TooManyAliases (denial k r)) _ no-refusal (apart (TooManyAliases (denial k r)) (λ e. absurd (omega arith))) refl) (too-many k r),
+  λ k r u. Iff·trans (told v (UnknownCritical (denial k r u)) _ no-refusal (apart (UnknownCritical (denial k r u)) (λ e. absurd (omega arith))) refl) (critical k r u),
+  λ k r u. Iff·trans (told v (NotGranted (denial k r u)) _ no-refusal (apart (NotGranted (denial k r u)) (λ e. absurd (omega arith))) refl) (ungranted k r u),
+  λ k r u. Iff·trans (told v (TooManyAliases (denial k r u)) _ no-refusal (apart (TooManyAliases (denial k r u)) (λ e. absurd (omega arith))) refl) (too-many k r u),
   numbers v no-refusal,
 )

@@ -78,14 +78,14 @@ callEdgeFor who request issuer book j = record { answered = judge request issuer
 abbrev pub callEdges : List CallEdge
 callEdges =
     -- The whole case; the issuer in mixed case; the lowest name that is not permitted; an issuer that only ends like a granted one; no record.
-    callEdge both ca1 (bookOf wholeBook) (NotGranted (denial 1 3))
+    callEdge both ca1 (bookOf wholeBook) (NotGranted (denial 1 3 0))
     ∷ callEdge both (text "CA2.example.ORG") (bookOf wholeBook) Permitted
-    ∷ callEdge (asking ("pay.example.com" ∷ "www.example.com" ∷ [])) (text "ca3") (bookOf wholeBook) (NotGranted (denial 0 3))
-    ∷ callEdge www (text "notca1.example.net") (bookOf wholeBook) (NotGranted (denial 0 0))
+    ∷ callEdge (asking ("pay.example.com" ∷ "www.example.com" ∷ [])) (text "ca3") (bookOf wholeBook) (NotGranted (denial 0 3 0))
+    ∷ callEdge www (text "notca1.example.net") (bookOf wholeBook) (NotGranted (denial 0 0 1))
     ∷ callEdge www (text "n") [] Permitted
     -- A critical record with an unknown tag for the second name; if the first name is not granted, that is reported instead.
-    ∷ callEdge both ca1 (bookOf (caa "example.com" 0 "issue" "ca1.example.net" ∷ caa "pay.example.com" 128 "tbs" "x" ∷ [])) (UnknownCritical (denial 1 1))
-    ∷ callEdge both ca2 (bookOf (caa "example.com" 0 "issue" "ca1.example.net" ∷ caa "pay.example.com" 128 "tbs" "x" ∷ [])) (NotGranted (denial 0 0))
+    ∷ callEdge both ca1 (bookOf (caa "example.com" 0 "issue" "ca1.example.net" ∷ caa "pay.example.com" 128 "tbs" "x" ∷ [])) (UnknownCritical (denial 1 1 0))
+    ∷ callEdge both ca2 (bookOf (caa "example.com" 0 "issue" "ca1.example.net" ∷ caa "pay.example.com" 128 "tbs" "x" ∷ [])) (NotGranted (denial 0 0 1))
     -- The order of the checks: request, issuer domain name, book. Where one breaks its rule, so do all that are checked after it.
     ∷ callEdge [] [] (64 ∷ []) (Refused (BadName (record { 0 = 0 })))
     ∷ callEdge www [] (64 ∷ []) (Refused BadIssuer)
@@ -102,17 +102,17 @@ callEdges =
     ∷ callEdgeFor (withMethod (text "a,b")) www (text "n") [] (Refused BadAccountOrMethod)
     -- The same records for three applicants. A record whose limit is not met is still the first that governs.
     ∷ callEdge www ca1 limited Permitted
-    ∷ callEdge www ca2 limited (NotGranted (denial 0 0))
+    ∷ callEdge www ca2 limited (NotGranted (denial 0 0 1))
     ∷ callEdgeFor (withAccount (text "https://a/2")) www ca2 limited Permitted
-    ∷ callEdgeFor (withMethod (text "http-01")) www ca1 limited (NotGranted (denial 0 0))
+    ∷ callEdgeFor (withMethod (text "http-01")) www ca1 limited (NotGranted (denial 0 0 1))
     -- A tag with an octet that is no letter or digit refuses the book, whoever owns the record. A tag of letters does not.
     ∷ callEdge www ca1 (elsewhere "tb_s") (Refused (BadRecord (record { 0 = 1 })))
     ∷ callEdge www ca1 (elsewhere "tbs") Permitted
     ∷ callEdge www ca1 (bookOf (caa "example.com" 0 "tb_s" "x" ∷ caa "example.com" 0 "issue" "ca1.example.net" ∷ [])) (Refused (BadRecord (record { 0 = 0 })))
     -- Aliases that don't end deny their name, to everyone. The lowest name that is not permitted decides.
-    ∷ callEdge both ca1 circular (TooManyAliases (denial 1 1))
-    ∷ callEdge both ca2 circular (NotGranted (denial 0 0))
-    ∷ callEdge (asking ("pay.example.com" ∷ "www.example.com" ∷ [])) ca2 circular (TooManyAliases (denial 0 1))
+    ∷ callEdge both ca1 circular (TooManyAliases (denial 1 1 0))
+    ∷ callEdge both ca2 circular (NotGranted (denial 0 0 1))
+    ∷ callEdge (asking ("pay.example.com" ∷ "www.example.com" ∷ [])) ca2 circular (TooManyAliases (denial 0 1 0))
     -- An alias and a CAA record of one owner, or two aliases, refuse the book, whoever is asked for. Of two owners they do not.
     ∷ callEdge www ca1 conflicting (Refused (AliasConflict (record { 0 = 2 })))
     ∷ callEdge www ca1 (bookOf (cname "a.example" "b.example" ∷ cname "c.example" "b.example" ∷ cname "a.example" "b.example" ∷ []))

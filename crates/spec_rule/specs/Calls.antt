@@ -18,12 +18,16 @@ use Rattle.spec_rule.specs.declared.PermittedIssuers.{PermittedIssuers}
 use Rattle.spec_rule.specs.declared.PermittedIssuers.the-variants.{Anyone, Listed, Refused as ListRefused}
 use Rattle.spec_rule.specs.RelevantSet.{asBook}
 use Rattle.spec_rule.specs.Authorizations.{Authorization, authorization}
-use Rattle.spec_rule.specs.Verdicts.{verdict}
+use Rattle.spec_rule.specs.Verdicts.{Decision, decision, verdict}
 use Rattle.spec_rule.specs.IssuerLists.{Issuers, anyone, listed, issuers, entries}
 
 -- What CAA says about each requested name, by the records of the book, for the applicant.
 unfoldable pub authorizations : List ℕ → Applicant → List ℕ → List Authorization
 authorizations request who book = map (authorization who (asBook (records book))) (requestedNames request)
+
+-- The same, with the labels taken off each name.
+unfoldable pub decisions : List ℕ → Applicant → List ℕ → List Decision
+decisions request who book = map (decision who (asBook (records book))) (requestedNames request)
 
 -- Checks in their order, each a refusal or none: the first refusal is the answer.
 abbrev pub firstRefusal : List (Option Refusal) → Option Refusal
@@ -41,7 +45,7 @@ refusedOr (some r) j = Refused r
 
 unfoldable pub judge : List ℕ → List ℕ → Applicant → List ℕ → Judgement
 judge request issuer who book =
-    refusedOr (firstRefusal (judgeChecks request issuer who book)) (verdict issuer (authorizations request who book))
+    refusedOr (firstRefusal (judgeChecks request issuer who book)) (verdict issuer (decisions request who book))
 
 -- Who may issue? The answer, and the buffer afterwards.
 pub record Listing : Type 0 where
@@ -84,9 +88,9 @@ refusalCode r = record { number = number r; values = place r ∷ [] }
 
 unfoldable pub judgementCode : Judgement → AnswerCode
 judgementCode Permitted = record { number = 0; values = [] }
-judgementCode (UnknownCritical d) = record { number = 20; values = d .name .0 ∷ d .rr .0 ∷ [] }
-judgementCode (NotGranted d) = record { number = 21; values = d .name .0 ∷ d .rr .0 ∷ [] }
-judgementCode (TooManyAliases d) = record { number = 22; values = d .name .0 ∷ d .rr .0 ∷ [] }
+judgementCode (UnknownCritical d) = record { number = 20; values = d .name .0 ∷ d .rr .0 ∷ d .up .0 ∷ [] }
+judgementCode (NotGranted d) = record { number = 21; values = d .name .0 ∷ d .rr .0 ∷ d .up .0 ∷ [] }
+judgementCode (TooManyAliases d) = record { number = 22; values = d .name .0 ∷ d .rr .0 ∷ d .up .0 ∷ [] }
 judgementCode (Refused r) = refusalCode r
 
 unfoldable pub permittedIssuersCode : PermittedIssuers → AnswerCode

@@ -19,7 +19,7 @@ use Rattle.spec_applicant.specs.AdmissionEdges.{someone}
 use Rattle.spec_rule.specs.RelevantSet.{asBook}
 use Rattle.spec_rule.specs.declared.Judgement.the-variants.{NotGranted}
 use Rattle.spec_rule.specs.Authorizations.{Authorization, unrestricted, forbidden, granted, unresolved, authorization}
-use Rattle.spec_rule.specs.Verdicts.{denial, verdict}
+use Rattle.spec_rule.specs.Verdicts.{Decision, decision, denial, verdict}
 use Rattle.spec_rule.specs.IssuerLists.{listed, issuers, entries}
 
 -- What a row is about.
@@ -305,6 +305,9 @@ wholeBook =
 abbrev pub wholeCase : List String → List Authorization
 wholeCase ns = map (λ n. authorization someone (asBook wholeBook) (dotted n)) ns
 
+abbrev pub wholeDecisions : List String → List Decision
+wholeDecisions ns = map (λ n. decision someone (asBook wholeBook) (dotted n)) ns
+
 abbrev pub Whole-case : Type 0
 Whole-case =
     (issuers (wholeCase ("www.example.com" ∷ [])) ≡ listed (ca1 ∷ ca2 ∷ []))
@@ -312,4 +315,4 @@ Whole-case =
     ≡ 15 ∷ 99 ∷ 97 ∷ 49 ∷ 46 ∷ 101 ∷ 120 ∷ 97 ∷ 109 ∷ 112 ∷ 108 ∷ 101 ∷ 46 ∷ 110 ∷ 101 ∷ 116
     ∷ 15 ∷ 99 ∷ 97 ∷ 50 ∷ 46 ∷ 101 ∷ 120 ∷ 97 ∷ 109 ∷ 112 ∷ 108 ∷ 101 ∷ 46 ∷ 111 ∷ 114 ∷ 103 ∷ [])
     × (issuers (wholeCase ("www.example.com" ∷ "pay.example.com" ∷ [])) ≡ listed (ca2 ∷ []))
-    × (verdict ca1 (wholeCase ("www.example.com" ∷ "pay.example.com" ∷ [])) ≡ NotGranted (denial 1 3))
+    × (verdict ca1 (wholeDecisions ("www.example.com" ∷ "pay.example.com" ∷ [])) ≡ NotGranted (denial 1 3 0))

@@ -9,3 +9,4 @@ pub mod Pinned
 pub mod Theorems
 pub mod Edges
 pub mod CallEdges
+pub mod UpEdges

@@ -113,6 +113,10 @@ module _ (book : Book) (n : Name) where
   abbrev pub UnresolvedFrom : ℕ → Type 0
   UnresolvedFrom r = relevantSet book (base n) ≡ endless r
 
+  -- What decides is found u labels up: at X without its first u labels. Aliases are followed from there.
+  abbrev pub DecidedAt : ℕ → Type 0
+  DecidedAt u = (l : Lookup) × NearestAt book (base n) u l
+
 -- n is name number k, P holds of every name before it, and not of n.
 abbrev pub LowestNot : (Name → Type 0) → List Name → ℕ → Name → Type 0
 LowestNot P ns k n = (before after : List Name) × (ns ≡ before ++ (n ∷ after)) × (length before ≡ k) × All P before × (P n → ⊥)

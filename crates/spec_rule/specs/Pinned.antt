@@ -15,13 +15,13 @@ use Rattle.spec_rule.specs.Calls.{judgementCode, permittedIssuersCode}
 abbrev pub Entries-laid-out : Type 0
 Entries-laid-out = (entries [] ≡ []) × ((n : List ℕ) (ns : List (List ℕ)) → entries (n ∷ ns) ≡ length n ∷ (n ++ entries ns))
 
--- The numbers of the answers: 0; 20, 21 and 22 with the numbers of name and record; for a refusal its own number and place.
+-- The numbers of the answers: 0; 20, 21 and 22 with the numbers of name, record and labels taken off; for a refusal its own number and place.
 abbrev pub Answer-codes : Type 0
 Answer-codes =
     (judgementCode Permitted ≡ record { number = 0; values = [] })
-    × ((k r : ℕ) → (judgementCode (UnknownCritical (denial k r)) ≡ record { number = 20; values = k ∷ r ∷ [] })
-    × (judgementCode (NotGranted (denial k r)) ≡ record { number = 21; values = k ∷ r ∷ [] })
-    × (judgementCode (TooManyAliases (denial k r)) ≡ record { number = 22; values = k ∷ r ∷ [] }))
+    × ((k r u : ℕ) → (judgementCode (UnknownCritical (denial k r u)) ≡ record { number = 20; values = k ∷ r ∷ u ∷ [] })
+    × (judgementCode (NotGranted (denial k r u)) ≡ record { number = 21; values = k ∷ r ∷ u ∷ [] })
+    × (judgementCode (TooManyAliases (denial k r u)) ≡ record { number = 22; values = k ∷ r ∷ u ∷ [] }))
     × ((r : Refusal) → (judgementCode (Refused r) ≡ record { number = number r; values = place r ∷ [] })
     × (permittedIssuersCode (ListRefused r) ≡ record { number = number r; values = place r ∷ [] }))
 

@@ -12,8 +12,8 @@ use Rattle.spec_limits.specs.Limits.{maxAliases}
 use Rattle.spec_octets.specs.Lists.{All, Any, First, Distinct, Selects}
 use Rattle.spec_octets.specs.Octets.{Octets, lowered}
 use Rattle.spec_octets.specs.Items.{whole, items}
-use Rattle.spec_name.specs.Names.{Name}
-use Rattle.spec_request.specs.Request.{requestedNames, requestRefusal}
+use Rattle.spec_name.specs.Names.{Name, GoodName}
+use Rattle.spec_request.specs.Request.{base, requestedNames, requestRefusal}
 use Rattle.spec_request.specs.Theorems.{RequestRow}
 use Rattle.spec_issuer.specs.Issuer.{issuerRefusal, WellFormed}
 use Rattle.spec_issuer.specs.Theorems.{IssuerRow}
@@ -25,12 +25,12 @@ use Rattle.spec_rule.specs.declared.Judgement.{Judgement}
 use Rattle.spec_rule.specs.declared.Judgement.the-variants.{Permitted, UnknownCritical, NotGranted, TooManyAliases, Refused}
 use Rattle.spec_rule.specs.declared.PermittedIssuers.the-variants.{Anyone, Listed, Refused as ListRefused}
 use Rattle.spec_rule.specs.Aliases.{Alias, aliases}
-use Rattle.spec_rule.specs.RelevantSet.{CaaRecord, Book, Lookup, empty, found, endless, caaRecords, asBook, lookup, relevantSet}
+use Rattle.spec_rule.specs.RelevantSet.{CaaRecord, Book, Lookup, empty, found, endless, caaRecords, asBook, lookup, relevantSet, labelsOff}
 use Rattle.spec_rule.specs.Authorizations.{Authorization, unrestricted, forbidden, granted, unresolved, authorization}
-use Rattle.spec_rule.specs.Verdicts.{denial, verdict}
+use Rattle.spec_rule.specs.Verdicts.{denial, decision, verdict}
 use Rattle.spec_rule.specs.IssuerLists.{Issuers, anyone, listed, issuers, entries, readEntry}
 use Rattle.spec_rule.specs.Calls.{authorizations, judge, Listing, listIssuers, AnswerCode, judgementCode}
-use Rattle.spec_rule.specs.Meaning.{CaaRecordsOf, AliasesOf, OwnedBy, AliasOf, Leads, EndsAt, NearestAt, UnknownCriticalRecord, Relevant, Unrestricted, PermittedTo, ForbiddenBy, GovernedFrom, GoverningRecords, UnresolvedFrom, LowestNot, Before, GrantedBefore}
+use Rattle.spec_rule.specs.Meaning.{CaaRecordsOf, AliasesOf, OwnedBy, AliasOf, Leads, EndsAt, NearestAt, UnknownCriticalRecord, Relevant, Unrestricted, PermittedTo, ForbiddenBy, GovernedFrom, GoverningRecords, UnresolvedFrom, DecidedAt, LowestNot, Before, GrantedBefore}
 
 -- The CAA records are those of type 257 and class 1, numbered from 0 over all records.
 abbrev pub Caa-records : Type 0
@@ -67,30 +67,49 @@ Nearest-name-decides =
     ((l : Lookup) → l ≢ empty → (relevantSet book x ≡ l) ↔ ((k : ℕ) × NearestAt book x k l))
     × ((relevantSet book x ≡ empty) ↔ ((k : ℕ) → k < length x → lookup book (drop k x) ≡ empty))
 
--- Permitted exactly when every name is unrestricted or granted to the issuer. Otherwise: the lowest name that isn't, and why.
+-- A lookup other than the empty one is the nearest with k labels taken off exactly when k is the number that is counted, and it is the relevant
+-- set. If no name has such a lookup, all labels are counted.
+abbrev pub Labels-taken-off : Type 0
+Labels-taken-off =
+    (book : Book) (x : Name) →
+    ((k : ℕ) (l : Lookup) → l ≢ empty → NearestAt book x k l ↔ ((labelsOff book x ≡ k) × (relevantSet book x ≡ l)))
+    × (relevantSet book x ≡ empty → labelsOff book x ≡ length x)
+
+-- A name is decided at one place alone.
+abbrev pub Decided-once : Type 0
+Decided-once = (book : Book) (n : Name) (u w : ℕ) → DecidedAt book n u → DecidedAt book n w → u ≡ w
+
+-- At least one label is left. A valid name has at most 127 labels, so at most 126 are taken off.
+abbrev pub Up-below-labels : Type 0
+Up-below-labels = (book : Book) (n : Name) (u : ℕ) → DecidedAt book n u → (u < length (base n)) × (GoodName n → u < 127)
+
+-- Permitted exactly when every name is unrestricted or granted to the issuer. Otherwise: the lowest name that isn't, why, and how far up.
 abbrev pub Verdict-on : Applicant → Book → List Name → List ℕ → Judgement → Type 0
 Verdict-on who book ns d v =
     ((v ≡ Permitted) ↔ All (λ n. PermittedTo book n who d) ns)
-    × ((k r : ℕ) → (v ≡ UnknownCritical (denial k r)) ↔ ((n : Name) × LowestNot (λ m. PermittedTo book m who d) ns k n × ForbiddenBy book n r))
-    × ((k r : ℕ) → (v ≡ NotGranted (denial k r)) ↔ ((n : Name) × LowestNot (λ m. PermittedTo book m who d) ns k n × GovernedFrom book n r))
-    × ((k r : ℕ) → (v ≡ TooManyAliases (denial k r)) ↔ ((n : Name) × LowestNot (λ m. PermittedTo book m who d) ns k n × UnresolvedFrom book n r))
+    × ((k r u : ℕ) → (v ≡ UnknownCritical (denial k r u))
+    ↔ ((n : Name) × LowestNot (λ m. PermittedTo book m who d) ns k n × ForbiddenBy book n r × DecidedAt book n u))
+    × ((k r u : ℕ) → (v ≡ NotGranted (denial k r u))
+    ↔ ((n : Name) × LowestNot (λ m. PermittedTo book m who d) ns k n × GovernedFrom book n r × DecidedAt book n u))
+    × ((k r u : ℕ) → (v ≡ TooManyAliases (denial k r u))
+    ↔ ((n : Name) × LowestNot (λ m. PermittedTo book m who d) ns k n × UnresolvedFrom book n r × DecidedAt book n u))
     × ((r : Refusal) → v ≢ Refused r)
 
 abbrev pub Verdict-by-the-rule : Type 0
 Verdict-by-the-rule =
-    (who : Applicant) (book : Book) (ns : List Name) (d : List ℕ) → Verdict-on who book ns d (verdict d (map (authorization who book) ns))
+    (who : Applicant) (book : Book) (ns : List Name) (d : List ℕ) → Verdict-on who book ns d (verdict d (map (decision who book) ns))
 
--- The verdict in the requirements' numbers: 0; 20, 21 and 22 with the numbers of name and record. No other number is a verdict.
+-- The verdict in the requirements' numbers: 0; 20, 21 and 22 with the numbers of name, record and labels taken off. No other number is a verdict.
 abbrev pub Verdict-numbers : Type 0
 Verdict-numbers =
     (who : Applicant) (book : Book) (ns : List Name) (d : List ℕ) (v : Judgement) → Verdict-on who book ns d v →
     ((judgementCode v ≡ record { number = 0; values = [] }) ↔ All (λ n. PermittedTo book n who d) ns)
-    × ((k r : ℕ) → (judgementCode v ≡ record { number = 20; values = k ∷ r ∷ [] })
-    ↔ ((n : Name) × LowestNot (λ m. PermittedTo book m who d) ns k n × ForbiddenBy book n r))
-    × ((k r : ℕ) → (judgementCode v ≡ record { number = 21; values = k ∷ r ∷ [] })
-    ↔ ((n : Name) × LowestNot (λ m. PermittedTo book m who d) ns k n × GovernedFrom book n r))
-    × ((k r : ℕ) → (judgementCode v ≡ record { number = 22; values = k ∷ r ∷ [] })
-    ↔ ((n : Name) × LowestNot (λ m. PermittedTo book m who d) ns k n × UnresolvedFrom book n r))
+    × ((k r u : ℕ) → (judgementCode v ≡ record { number = 20; values = k ∷ r ∷ u ∷ [] })
+    ↔ ((n : Name) × LowestNot (λ m. PermittedTo book m who d) ns k n × ForbiddenBy book n r × DecidedAt book n u))
+    × ((k r u : ℕ) → (judgementCode v ≡ record { number = 21; values = k ∷ r ∷ u ∷ [] })
+    ↔ ((n : Name) × LowestNot (λ m. PermittedTo book m who d) ns k n × GovernedFrom book n r × DecidedAt book n u))
+    × ((k r u : ℕ) → (judgementCode v ≡ record { number = 22; values = k ∷ r ∷ u ∷ [] })
+    ↔ ((n : Name) × LowestNot (λ m. PermittedTo book m who d) ns k n × UnresolvedFrom book n r × DecidedAt book n u))
     × ((judgementCode v .number ≡ 0) ⊎ (judgementCode v .number ≡ 20) ⊎ (judgementCode v .number ≡ 21) ⊎ (judgementCode v .number ≡ 22))
 
 -- An accepted request, issuer domain name and book are judged by their names and records.
@@ -268,14 +287,14 @@ renumberedAuthorization f (unresolved r) = unresolved (f r)
 
 abbrev pub renumberedVerdict : (ℕ → ℕ) → Judgement → Judgement
 renumberedVerdict f Permitted = Permitted
-renumberedVerdict f (UnknownCritical d) = UnknownCritical (denial (d .name .0) (f (d .rr .0)))
-renumberedVerdict f (NotGranted d) = NotGranted (denial (d .name .0) (f (d .rr .0)))
-renumberedVerdict f (TooManyAliases d) = TooManyAliases (denial (d .name .0) (f (d .rr .0)))
+renumberedVerdict f (UnknownCritical d) = UnknownCritical (denial (d .name .0) (f (d .rr .0)) (d .up .0))
+renumberedVerdict f (NotGranted d) = NotGranted (denial (d .name .0) (f (d .rr .0)) (d .up .0))
+renumberedVerdict f (TooManyAliases d) = TooManyAliases (denial (d .name .0) (f (d .rr .0)) (d .up .0))
 renumberedVerdict f (Refused r) = Refused r
 
 abbrev pub Renumbering : Type 0
 Renumbering =
     (f : ℕ → ℕ) (who : Applicant) (book : Book) (ns : List Name) →
     (map (authorization who (renumberedBook f book)) ns ≡ map (renumberedAuthorization f) (map (authorization who book) ns))
-    × ((d : List ℕ) → verdict d (map (authorization who (renumberedBook f book)) ns) ≡ renumberedVerdict f (verdict d (map (authorization who book) ns)))
+    × ((d : List ℕ) → verdict d (map (decision who (renumberedBook f book)) ns) ≡ renumberedVerdict f (verdict d (map (decision who book) ns)))
     × (issuers (map (authorization who (renumberedBook f book)) ns) ≡ issuers (map (authorization who book) ns))

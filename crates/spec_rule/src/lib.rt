@@ -3,10 +3,14 @@ use spec_refusal::NameNo;
 use spec_refusal::RecordNo;
 use spec_refusal::Refusal;
 
-// Why issuance is not permitted: the requested name, and the record that decides.
+// How many labels are taken off X to reach the name that decides: 0 at X itself.
+pub struct LabelsOff(pub usize);
+
+// Why issuance is not permitted: the requested name, the record that decides, and how far up it was found.
 pub struct Denial {
     pub name: NameNo,
     pub rr: RecordNo,
+    pub up: LabelsOff,
 }
 
 // May this issuer issue for this request?
