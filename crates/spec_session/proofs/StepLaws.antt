@@ -17,7 +17,8 @@ use Rattle.spec_issuer.specs.Issuer.{isIssuer}
 use Rattle.spec_applicant.specs.Applicant.{isApplicant}
 use Rattle.spec_record.specs.Records.{bookRefusal}
 use Rattle.spec_record.specs.Theorems.{BookRow}
-use Rattle.spec_rule.specs.declared.Judgement.the-variants.{Refused}
+use Rattle.spec_rule.specs.declared.Judgement.the-variants.{Permitted, UnknownCritical, NotGranted, TooManyAliases, Refused}
+use Rattle.spec_rule.specs.Verdicts.{denial}
 use Rattle.spec_rule.specs.Calls.{firstRefusal}
 use Rattle.spec_rule.specs.Theorems.{FirstRow}
 use Rattle.spec_rule.proofs.CheckOrder.{first-row}
@@ -79,7 +80,7 @@ pub closed-asks-nothing : (v r : ℕ) (s : Session) → asked (closedWith v r s)
 unfolding asked isAsking asking decided
 closed-asks-nothing v r s = refl
 
-pub closed-stands : (v r : ℕ) (s : Session) → isKept s ≡ true → standing (closedWith v r s) ≡ verdictOf v r
+pub closed-stands : (v r : ℕ) (s : Session) → isKept s ≡ true → standing (closedWith v r s) ≡ verdictOf v r (s .up)
 unfolding standing decided
 closed-stands v r s e = rw (closed-keeps v r s, e)
 
@@ -96,12 +97,114 @@ failed-ends s h =
     rw (t, closed-asks-nothing 23 0 s, stands) (refl, refl, refl)
 
 -- no state is a refusal
-verdict-no-refusal : (v r : ℕ) (a : SessionAnswer) → verdictOf v r ≡ some a → isRefusal a ≡ false
+no-refusal : {a b : SessionAnswer} → isRefusal b ≡ false → some b ≡ some a → isRefusal a ≡ false
+no-refusal {a} {b} h e = ap isRefusal (sym (Option·some-injective b a e)) ∙ h
+
+verdict-no-refusal : (v r u : ℕ) (a : SessionAnswer) → verdictOf v r u ≡ some a → isRefusal a ≡ false
 unfolding verdictOf
-verdict-no-refusal v r a e = go (eqb v 0) (eqb v 20) (eqb v 21) (eqb v 22) (eqb v 23) e
+verdict-no-refusal v r u a e = by-20 (eqb v 0) (eqb v 20) (eqb v 21) (eqb v 22) (eqb v 23) e
   where
-    go : (t20 t21 : Bool) → ℕ
-    go _ _ = 0
+    by-20 :
+        (p q s t w : Bool) →
+        cond p (some (Judged Permitted))
+        (cond q (some (Judged (UnknownCritical (denial 0 r u))))
+        (cond s (some (Judged (NotGranted (denial 0 r u))))
+        (cond t (some (Judged (TooManyAliases (denial 0 r u)))) (cond w (some LookupFailed) none))))
+        ≡ some a → isRefusal a ≡ false
+    by-20 true q s t w e = no-refusal refl e
+    by-20 false true s t w e = no-refusal refl e
+    by-20 false false true t w e = no-refusal refl e
+    by-20 false false false true w e = no-refusal refl e
+    by-20 false false false false true e = no-refusal refl e
+    by-20 false false false false false e = absurd (Option·none-ne-some a e)
+
+pub standing-no-refusal : (s : Session) (a : SessionAnswer) → standing s ≡ some a → isRefusal a ≡ false
+unfolding standing
+standing-no-refusal s a e = go (eqb (s .phase) decided && isKept s) e
+  where
+    go : (t : Bool) → cond t (verdictOf (s .verdict) (s .rr) (s .up)) none ≡ some a → isRefusal a ≡ false
+    go true e = verdict-no-refusal (s .verdict) (s .rr) (s .up) a e
+    go false e = absurd (Option·none-ne-some a e)
 
 pub state-no-refusal : (s : Session) → isRefusal (state s) ≡ false
-state-no-refusal s = _
+unfolding state
+state-no-refusal s = go (asked s) (standing s) refl
+  where
+    go : (o : Option Name) (v : Option SessionAnswer) → standing s ≡ v → isRefusal (stateFrom (length (held (s .name))) o v) ≡ false
+    go (some y) v e = refl
+    go none (some a) e = standing-no-refusal s a e
+    go none none e = refl
+
+pub answered-by-state : Answered-by-state
+unfolding answered failed
+answered-by-state s (book b) = go (isAsking s) (bookRefusal b)
+  where
+    go :
+        (t : Bool) (c : Option Refusal) →
+        isRefusal (cond t (answeredOr c s b) (refusedWith sessionEnded s) .answer) ≡ false →
+        cond t (answeredOr c s b) (refusedWith sessionEnded s) .answer ≡ state (cond t (answeredOr c s b) (refusedWith sessionEnded s) .session)
+    go true none h = refl
+    go true (some r) h = absurd (true≢false h)
+    go false c h = absurd (true≢false h)
+answered-by-state s lookupFailed = go (isAsking s)
+  where
+    go :
+        (t : Bool) → isRefusal (cond t (goesTo (closedWith 23 0 s)) (refusedWith sessionEnded s) .answer) ≡ false →
+        cond t (goesTo (closedWith 23 0 s)) (refusedWith sessionEnded s) .answer ≡ state (cond t (goesTo (closedWith 23 0 s)) (refusedWith sessionEnded s) .session)
+    go true h = refl
+    go false h = absurd (true≢false h)
+
+-- what is no refusal is neither 14 nor another
+not-14 : {a : SessionAnswer} → isRefusal a ≡ false → a ≢ sessionEnded
+not-14 h e = false≢true (sym h ∙ ap isRefusal e)
+
+not-refused : {a : SessionAnswer} {r : Refusal} → isRefusal a ≡ false → a ≢ Judged (Refused r)
+not-refused h e = false≢true (sym h ∙ ap isRefusal e)
+
+refused-is-not-14 : {r : Refusal} → Judged (Refused r) ≢ sessionEnded
+refused-is-not-14 e = let z : _≡_ {A = ℕ} 0 1 = cc in absurd (omega arith)
+
+one-check : (c : Option Refusal) → firstRefusal (c ∷ []) ≡ c
+one-check none = refl
+one-check (some r) = refl
+
+pub answer-refusals : Answer-refusals
+unfolding answered failed
+answer-refusals s b o = ⊎-elim while-asking when-ended (true-or-false (isAsking s))
+  where
+    Said : Type 0
+    Said =
+        ((answered s b .answer ≡ sessionEnded) ↔ (asked s ≡ none))
+        × ((failed s .answer ≡ sessionEnded) ↔ (asked s ≡ none))
+        × ((r : Refusal) → (answered s b .answer ≡ Judged (Refused r)) ↔ ((asked s ≢ none) × FirstRow (BookRow b) r))
+        × ((r : Refusal) → failed s .answer ≢ Judged (Refused r))
+
+    rows : (r : Refusal) → (bookRefusal b ≡ some r) ↔ FirstRow (BookRow b) r
+    rows r = rw (one-check (bookRefusal b)) at (first-row (book-keeps b o) r)
+
+    when-ended : isAsking s ≡ false → Said
+    when-ended e = let n = asks-nothing s e in rw e (
+      (λ h. n, λ h. refl),
+      (λ h. n, λ h. refl),
+      λ r. (λ h. absurd (refused-is-not-14 (sym h)), λ h. absurd (h .0 n)),
+      λ r h. refused-is-not-14 (sym h),
+    )
+
+    while-asking : isAsking s ≡ true → Said
+    while-asking e = rw e (
+      (λ h. absurd (by-book (bookRefusal b) h), λ h. absurd (some-name h)),
+      (λ h. absurd (not-14 (state-no-refusal (closedWith 23 0 s)) h), λ h. absurd (some-name h)),
+      λ r. (λ h. (some-name, rows r .0 (by-row (bookRefusal b) r h)), λ h. rw (rows r .1 (h .1))),
+      λ r. not-refused (state-no-refusal (closedWith 23 0 s)),
+    )
+      where
+        some-name : asked s ≢ none
+        some-name h = true≢false (sym e ∙ ended s h)
+
+        by-book : (c : Option Refusal) → answeredOr c s b .answer ≢ sessionEnded
+        by-book none h = not-14 (state-no-refusal _) h
+        by-book (some r) h = refused-is-not-14 h
+
+        by-row : (c : Option Refusal) (r : Refusal) → answeredOr c s b .answer ≡ Judged (Refused r) → c ≡ some r
+        by-row none r h = absurd (not-refused (state-no-refusal _) h)
+        by-row (some q) r h = cc

@@ -22,7 +22,7 @@ use Rattle.spec_applicant.specs.Theorems.{ApplicantRow}
 use Rattle.spec_record.specs.Property.{Property}
 use Rattle.spec_record.specs.Records.{records}
 use Rattle.spec_rule.specs.declared.Judgement.{Judgement}
-use Rattle.spec_rule.specs.declared.Judgement.the-variants.{UnknownCritical, NotGranted, TooManyAliases}
+use Rattle.spec_rule.specs.declared.Judgement.the-variants.{Permitted, UnknownCritical, NotGranted, TooManyAliases}
 use Rattle.spec_rule.specs.Aliases.{Alias, aliasesOf}
 use Rattle.spec_rule.specs.RelevantSet.{CaaRecord, Book, asBook, Lookup, found, endless, caaAt}
 use Rattle.spec_rule.specs.Meaning.{EndsAt, UnknownCriticalRecord, Governs}
@@ -87,12 +87,12 @@ abbrev pub Agrees : List ℕ → Option Name × Answer → Type 0
 Agrees whole p =
     (x : Name) × (b : List ℕ) × (p .0 ≡ some x) × (p .1 ≡ book b) × HoldsAs (asBook (records whole)) (asBook (records b)) x
 
--- The record number of a verdict is that of the lookup l: the first unknown critical record, the first governing record, the first alias.
-abbrev pub NumberedBy : Bool → Lookup → Judgement → Type 0
-NumberedBy wildcard l j =
-    ((r : ℕ) → j ≡ UnknownCritical (denial 0 r) →
-    (rs : List CaaRecord) × (c : CaaRecord) × (l ≡ found rs) × First UnknownCriticalRecord rs c × (c .number ≡ r))
-    × ((r : ℕ) → j ≡ NotGranted (denial 0 r) →
-    (rs : List CaaRecord) × (c : CaaRecord) × (l ≡ found rs) × All (λ q. UnknownCriticalRecord q → ⊥) rs × First (Governs wildcard rs) rs c
-    × (c .number ≡ r))
-    × ((r : ℕ) → j ≡ TooManyAliases (denial 0 r) → l ≡ endless r)
+-- The record number of a verdict is that of the lookup l: the first unknown critical record, the first governing record, the first alias. The
+-- name number is 0, and u labels are taken off.
+abbrev pub NumberedBy : Bool → Lookup → ℕ → Judgement → Type 0
+NumberedBy wildcard l u j =
+    (j ≡ Permitted)
+    ⊎ ((rs : List CaaRecord) × (c : CaaRecord) × (l ≡ found rs) × First UnknownCriticalRecord rs c × (j ≡ UnknownCritical (denial 0 (c .number) u)))
+    ⊎ ((rs : List CaaRecord) × (c : CaaRecord) × (l ≡ found rs) × All (λ q. UnknownCriticalRecord q → ⊥) rs × First (Governs wildcard rs) rs c
+    × (j ≡ NotGranted (denial 0 (c .number) u)))
+    ⊎ ((r : ℕ) × (l ≡ endless r) × (j ≡ TooManyAliases (denial 0 r u)))

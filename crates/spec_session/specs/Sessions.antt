@@ -66,17 +66,17 @@ unfoldable pub asked : Session → Option Name
 asked s = cond (isAsking s) (above (keptName s) (s .up)) none
 
 -- The verdict with this number, for the one name of a session. No other number is a verdict.
-unfoldable pub verdictOf : ℕ → ℕ → Option SessionAnswer
-verdictOf number rr =
+unfoldable pub verdictOf : ℕ → ℕ → ℕ → Option SessionAnswer
+verdictOf number rr up =
     cond (eqb number 0) (some (Judged Permitted))
-    (cond (eqb number 20) (some (Judged (UnknownCritical (denial 0 rr))))
-    (cond (eqb number 21) (some (Judged (NotGranted (denial 0 rr))))
-    (cond (eqb number 22) (some (Judged (TooManyAliases (denial 0 rr))))
+    (cond (eqb number 20) (some (Judged (UnknownCritical (denial 0 rr up))))
+    (cond (eqb number 21) (some (Judged (NotGranted (denial 0 rr up))))
+    (cond (eqb number 22) (some (Judged (TooManyAliases (denial 0 rr up))))
     (cond (eqb number 23) (some LookupFailed) none))))
 
--- The verdict that stands, if any.
+-- The verdict that stands, if any. The labels taken off are those at which the session ended.
 unfoldable pub standing : Session → Option SessionAnswer
-standing s = cond (eqb (s .phase) decided && isKept s) (verdictOf (s .verdict) (s .rr)) none
+standing s = cond (eqb (s .phase) decided && isKept s) (verdictOf (s .verdict) (s .rr) (s .up)) none
 
 -- What a session answers when it is asked for its state. The name asked for is at the end of the kept name, which has k octets.
 abbrev pub stateFrom : ℕ → Option Name → Option SessionAnswer → SessionAnswer

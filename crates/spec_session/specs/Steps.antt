@@ -18,7 +18,7 @@ use Rattle.spec_rule.specs.declared.Judgement.{Judgement}
 use Rattle.spec_rule.specs.declared.Judgement.the-variants.{Permitted, UnknownCritical, NotGranted, TooManyAliases, Refused}
 use Rattle.spec_rule.specs.RelevantSet.{Book, asBook, Lookup, empty, found, endless, lookup}
 use Rattle.spec_rule.specs.Authorizations.{authorizationFrom}
-use Rattle.spec_rule.specs.Verdicts.{verdict}
+use Rattle.spec_rule.specs.Verdicts.{Decision, verdict}
 use Rattle.spec_rule.specs.Calls.{firstRefusal, AnswerCode, judgementCode}
 use Rattle.spec_session.specs.declared.Session.{Session}
 use Rattle.spec_session.specs.declared.SessionAnswer.{SessionAnswer}
@@ -104,9 +104,13 @@ closedWith number r s = record {
 abbrev pub closedBy : Judgement → Session → Session
 closedBy j s = closedWith (judgementCode j .number) (getD (judgementCode j .values) 1 0) s
 
+-- What the rule decides by a lookup l that is made with u labels taken off.
+abbrev pub decidedFrom : Applicant → Bool → ℕ → Lookup → Decision
+decidedFrom who wildcard u l = record { says = authorizationFrom who wildcard l; up = u }
+
 -- The verdict of the rule on the one name n, by what was found for it.
 abbrev pub concluded : Session → Name → Lookup → Session
-concluded s n l = closedBy (verdict (held (s .issuer)) (authorizationFrom (keptApplicant s) (isWildcard n) l ∷ [])) s
+concluded s n l = closedBy (verdict (held (s .issuer)) (decidedFrom (keptApplicant s) (isWildcard n) (s .up) l ∷ [])) s
 
 -- RFC 8659 section 3: if nothing is found at a name, its parent is asked for. The root is never asked for.
 abbrev pub byLookup : Session → Name → Lookup → Session

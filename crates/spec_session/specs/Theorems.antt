@@ -17,7 +17,6 @@ use Rattle.spec_record.specs.Theorems.{BookRow}
 use Rattle.spec_rule.specs.declared.Judgement.{Judgement}
 use Rattle.spec_rule.specs.declared.Judgement.the-variants.{Refused}
 use Rattle.spec_rule.specs.RelevantSet.{asBook, lookup}
-use Rattle.spec_rule.specs.Authorizations.{authorizationFrom}
 use Rattle.spec_rule.specs.Verdicts.{verdict}
 use Rattle.spec_rule.specs.Calls.{judge}
 use Rattle.spec_rule.specs.Theorems.{FirstRow, renumberedVerdict}
@@ -26,7 +25,7 @@ use Rattle.spec_session.specs.declared.Session.{Session}
 use Rattle.spec_session.specs.declared.SessionAnswer.{SessionAnswer}
 use Rattle.spec_session.specs.declared.SessionAnswer.the-variants.{Asks, Judged, LookupFailed}
 use Rattle.spec_session.specs.Sessions.{maxTextOctets, held, textOf, isKept, asked, standing, state}
-use Rattle.spec_session.specs.Steps.{sessionEnded, endedSession, opened, answered, failed, Answer, book, step, after, isRefusal, accepted}
+use Rattle.spec_session.specs.Steps.{sessionEnded, endedSession, opened, decidedFrom, answered, failed, Answer, book, step, after, isRefusal, accepted}
 use Rattle.spec_session.specs.Meaning.{OpenRow, GoodOpening, KeptWell, Agrees, NumberedBy}
 
 -- A text of at most 256 octets is kept whole, with zeros behind it. Every kept text takes 256 octets.
@@ -140,12 +139,13 @@ As-the-whole-book =
     (v : SessionAnswer) → standing (sessionAfter request issuer who given) ≡ some v →
     (j : Judgement) × (v ≡ Judged j) × (renumberedVerdict (λ r. 0) j ≡ renumberedVerdict (λ r. 0) (judge request issuer who whole))
 
--- A verdict other than 23 is that of the rule on the lookup in the last accepted answer, and its record number is of that answer.
+-- A verdict other than 23 is that of the rule on the lookup in the last accepted answer. Its record number is of that answer, and the labels taken
+-- off are the answers accepted before it.
 abbrev pub Own-numbers : Type 0
 Own-numbers =
     (request issuer : List ℕ) (who : Applicant) (n : Name) → GoodOpening request issuer who n → (given : List Answer) (j : Judgement) →
     standing (sessionAfter request issuer who given) ≡ some (Judged j) →
     (front : List (Option Name × Answer)) × (y : Name) × (b : List ℕ)
     × (acceptedOf request issuer who given ≡ front ++ ((some y, book b) ∷ []))
-    × (j ≡ verdict issuer (authorizationFrom who (isWildcard n) (lookup (asBook (records b)) y) ∷ []))
-    × NumberedBy (isWildcard n) (lookup (asBook (records b)) y) j
+    × (j ≡ verdict issuer (decidedFrom who (isWildcard n) (length front) (lookup (asBook (records b)) y) ∷ []))
+    × NumberedBy (isWildcard n) (lookup (asBook (records b)) y) (length front) j
