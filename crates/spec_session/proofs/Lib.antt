@@ -1,3 +1,4 @@
 pub mod Texts
 pub mod Kept
 pub mod StepLaws
+pub mod Opening
