@@ -2,3 +2,4 @@ pub mod Texts
 pub mod Kept
 pub mod StepLaws
 pub mod Opening
+pub mod Trails
