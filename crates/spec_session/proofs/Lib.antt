@@ -5,3 +5,5 @@ pub mod Opening
 pub mod AskedName
 pub mod Trails
 pub mod Runs
+pub mod SameLookups
+pub mod SameProperties
