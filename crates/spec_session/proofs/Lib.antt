@@ -7,3 +7,4 @@ pub mod Trails
 pub mod Runs
 pub mod SameLookups
 pub mod SameProperties
+pub mod WholeBook

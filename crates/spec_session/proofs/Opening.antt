@@ -143,7 +143,7 @@ accounts-fit : maxAccountOctets ≤ maxTextOctets
 unfolding maxAccountOctets maxTextOctets
 accounts-fit = leb-true 255 256 refl
 
-names-within : maxNameOctets ≤ maxRequestOctets
+pub names-within : maxNameOctets ≤ maxRequestOctets
 unfolding maxNameOctets maxRequestOctets
 names-within = leb-true 255 16384 refl
 
@@ -161,7 +161,7 @@ labels-left s n rest e =
     go (l ∷ x) h = omega arith
 
 module _ {request issuer : List ℕ} {who : Applicant} {n : Name} (g : GoodOpening request issuer who n) where
-  short : length request ≤ maxNameOctets
+  pub short : length request ≤ maxNameOctets
   short = rw (g .one-name) (g .valid .0 .1)
 
   name-held : held (textOf request) ≡ request

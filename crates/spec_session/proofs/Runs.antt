@@ -99,7 +99,7 @@ module _ (issuer : List ℕ) (who : Applicant) (n : Name) where
   abbrev On : Session → List (Option Name × Answer) → Session → Type 0
   On = Trail issuer who n
 
-  phase-asks : {s : Session} → OnCourse issuer who n s → standing s ≡ none
+  pub phase-asks : {s : Session} → OnCourse issuer who n s → standing s ≡ none
   phase-asks {s} c = asking-stands-nothing s (live s (c .takes) .in-phase)
 
   pub concluded-stands :
