@@ -8,3 +8,4 @@ pub mod Runs
 pub mod SameLookups
 pub mod SameProperties
 pub mod WholeBook
+pub mod Table
