@@ -58,8 +58,7 @@ asked-octets s y o e =
         (i k : ℕ) × (state s ≡ Asks i k) × (k ≡ length (wire y)) × (take k (drop i (held (s .name))) ≡ wire y) × (i + k ≡ length (held (s .name)))
     placed p f =
         let sizes = length-append p (wire y) in
-        let at-p : length (p ++ wire y) - length (wire y) ≡ length p = omega (arith, sizes) in
-        (
+        let at-p : length (p ++ wire y) - length (wire y) ≡ length p = omega (arith, sizes) in (
           length p,
           length (wire y),
           rw (e, f) (ap (λ i. Asks i (length (wire y))) at-p),

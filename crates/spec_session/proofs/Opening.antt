@@ -226,7 +226,7 @@ module _ {request issuer : List ℕ} {who : Applicant} {n : Name} (g : GoodOpeni
     le-ltb maxRequestOctets (length request) (omega (arith, short, names-within)),
     front-read,
     issuer-refusals issuer .1 .1 (g .well-formed),
-    applicant-refusals who .1 .1 (g .applicant)
+    applicant-refusals who .1 .1 (g .applicant),
   ) refl
 
 pub good-opening : Good-opening

@@ -79,7 +79,12 @@ numbered d who wildcard u (found rs) = by-critical (select isUnknownCritical rs)
         by-grant : (t : Bool) → NumberedBy wildcard (found rs) u (cond t Permitted (denied 0 u (granted (g .number) (grantees who (g ∷ gs)))))
         by-grant true = inl refl
         by-grant false = inr (inr (inl (
-          rs, g, refl, selects-none (critical-selects rs) .0 e, selects-first (governing-selects wildcard rs) f, refl
+          rs,
+          g,
+          refl,
+          selects-none (critical-selects rs) .0 e,
+          selects-first (governing-selects wildcard rs) f,
+          refl,
         )))
 
     by-critical : (us : List CaaRecord) → select isUnknownCritical rs ≡ us → Numbered (unlessForbidden us (governedBy who (governing wildcard rs)))
@@ -174,10 +179,13 @@ asks-or-stands request issuer who n g given = ⊎-elim (λ h. inl h) (λ h. inr 
 
 pub asked-in-turn : Asked-in-turn
 unfolding sessionOf
-asked-in-turn request issuer who n g given = (names-in-turn issuer who n (from-start g given), λ y e. ⊎-elim
-    (λ h. Option·some-injective _ _ (sym e ∙ h .1))
-    (λ h. absurd (Option·none-ne-some y (sym (h .1) ∙ e)))
-    (placed g given))
+asked-in-turn request issuer who n g given = (
+  names-in-turn issuer who n (from-start g given),
+  λ y e. ⊎-elim
+      (λ h. Option·some-injective _ _ (sym e ∙ h .1))
+      (λ h. absurd (Option·none-ne-some y (sym (h .1) ∙ e)))
+      (placed g given),
+)
 
 pub verdict-stands : Verdict-stands
 verdict-stands request issuer who n g given = ⊎-elim

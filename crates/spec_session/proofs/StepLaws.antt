@@ -28,7 +28,7 @@ use Rattle.spec_session.specs.declared.SessionAnswer.{SessionAnswer}
 use Rattle.spec_session.specs.declared.SessionAnswer.the-variants.{Judged, LookupFailed}
 use Rattle.spec_session.specs.Sessions.{held, keptName, keptApplicant, reaches, isKept, asking, decided, isAsking, above, asked, verdictOf, standing, stateFrom, state}
 use Rattle.spec_session.specs.Steps.{sessionEnded, refusedWith, goesTo, closedWith, answeredOr, answered, failed, Answer, book, lookupFailed, step, isRefusal}
-use Rattle.spec_session.specs.Theorems.{Ended-refuses, Answer-refusals, Refused-book, Failed-ends, Answered-by-state}
+use Rattle.spec_session.specs.Theorems.{Ended-refuses, State-tells, Answer-refusals, Refused-book, Failed-ends, Answered-by-state}
 use Rattle.spec_session.proofs.Kept.{reached}
 
 -- a session that takes answers has a name, and asks for it or for a name above it
@@ -97,26 +97,24 @@ failed-ends s h =
     rw (t, closed-asks-nothing 23 0 s, stands) (refl, refl, refl)
 
 -- no state is a refusal
-no-refusal : {a b : SessionAnswer} → isRefusal b ≡ false → some b ≡ some a → isRefusal a ≡ false
-no-refusal {a} {b} h e = ap isRefusal (sym (Option·some-injective b a e)) ∙ h
+abbrev NoRefusal : Option SessionAnswer → Type 0
+NoRefusal o = (a : SessionAnswer) → o ≡ some a → isRefusal a ≡ false
 
-verdict-no-refusal : (v r u : ℕ) (a : SessionAnswer) → verdictOf v r u ≡ some a → isRefusal a ≡ false
+no-refusal : (b : SessionAnswer) → isRefusal b ≡ false → NoRefusal (some b)
+no-refusal b h a e = ap isRefusal (sym (Option·some-injective b a e)) ∙ h
+
+neither-refusal : (t : Bool) (o p : Option SessionAnswer) → NoRefusal o → NoRefusal p → NoRefusal (cond t o p)
+neither-refusal true o p h k = h
+neither-refusal false o p h k = k
+
+verdict-no-refusal : (v r u : ℕ) → NoRefusal (verdictOf v r u)
 unfolding verdictOf
-verdict-no-refusal v r u a e = by-20 (eqb v 0) (eqb v 20) (eqb v 21) (eqb v 22) (eqb v 23) e
-  where
-    by-20 :
-        (p q s t w : Bool) →
-        cond p (some (Judged Permitted))
-        (cond q (some (Judged (UnknownCritical (denial 0 r u))))
-        (cond s (some (Judged (NotGranted (denial 0 r u))))
-        (cond t (some (Judged (TooManyAliases (denial 0 r u)))) (cond w (some LookupFailed) none))))
-        ≡ some a → isRefusal a ≡ false
-    by-20 true q s t w e = no-refusal refl e
-    by-20 false true s t w e = no-refusal refl e
-    by-20 false false true t w e = no-refusal refl e
-    by-20 false false false true w e = no-refusal refl e
-    by-20 false false false false true e = no-refusal refl e
-    by-20 false false false false false e = absurd (Option·none-ne-some a e)
+verdict-no-refusal v r u =
+    neither-refusal (eqb v 0) _ _ (no-refusal _ refl)
+    (neither-refusal (eqb v 20) _ _ (no-refusal _ refl)
+    (neither-refusal (eqb v 21) _ _ (no-refusal _ refl)
+    (neither-refusal (eqb v 22) _ _ (no-refusal _ refl)
+    (neither-refusal (eqb v 23) _ _ (no-refusal _ refl) (λ a e. absurd (Option·none-ne-some a e))))))
 
 pub standing-no-refusal : (s : Session) (a : SessionAnswer) → standing s ≡ some a → isRefusal a ≡ false
 unfolding standing
@@ -134,6 +132,17 @@ state-no-refusal s = go (asked s) (standing s) refl
     go (some y) v e = refl
     go none (some a) e = standing-no-refusal s a e
     go none none e = refl
+
+pub state-tells : State-tells
+unfolding state
+state-tells s = (
+  λ h. asking-stands-nothing s (live s (not-ended s h) .in-phase),
+  λ v e. rw (no-name v e, e) refl,
+  λ e f. rw (e, f) refl,
+)
+  where
+    no-name : (v : SessionAnswer) → standing s ≡ some v → asked s ≡ none
+    no-name v e = asks-nothing s (not-passed (isAsking s) (λ t. Option·none-ne-some v (sym (asking-stands-nothing s (live s t .in-phase)) ∙ e)))
 
 pub answered-by-state : Answered-by-state
 unfolding answered failed

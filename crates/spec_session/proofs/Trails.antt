@@ -21,12 +21,13 @@ use Rattle.spec_session.specs.declared.Session.{Session}
 use Rattle.spec_session.specs.declared.SessionAnswer.{SessionAnswer}
 use Rattle.spec_session.specs.Sessions.{held, keptName, keptApplicant, reaches, isKept, asking, isAsking, asked}
 use Rattle.spec_session.specs.Steps.{refusedWith, goesTo, oneUp, closedWith, concluded, byLookup, byRecords, answeredOr, answered, failed, Answer, book, lookupFailed, step, after, isRefusal, accepted}
+use Rattle.spec_session.specs.Theorems.{Ended-stays}
 use Rattle.spec_session.proofs.StepLaws.{Live, live, asks, ended-refuses, refused-book, closed-asks-nothing, state-no-refusal}
 
 -- an ended session stays as it is, whatever comes
-pub ended-stays : (s : Session) → asked s ≡ none → (given : List Answer) → (after s given ≡ s) × (accepted s given ≡ [])
-ended-stays s e [] = (refl, refl)
-ended-stays s e (a ∷ more) = rw (ended-refuses s a e) (ended-stays s e more)
+pub ended-stays : Ended-stays
+ended-stays s [] e = (refl, refl)
+ended-stays s (a ∷ more) e = rw (ended-refuses s a e) (ended-stays s more e)
 
 -- one answer in front: it is refused, or it leads to another session
 module _ (s : Session) (a : Answer) (more : List Answer) where
@@ -103,7 +104,7 @@ module _ (issuer : List ℕ) (who : Applicant) (n : Name) where
       Trail s ((some (next s), a) ∷ []) t → Trail s (accepted s (a ∷ more)) (after s (a ∷ more))
   ends-here s a more t c e nothing done =
       let (front, last) = taken s a more t e in
-      let (same, none-more) = ended-stays t nothing more in
+      let (same, none-more) = ended-stays t more nothing in
       rw (front, last, asks-next c, same, none-more) done
 
   pub trail : (given : List Answer) (s : Session) → OnCourse s → Trail s (accepted s given) (after s given)

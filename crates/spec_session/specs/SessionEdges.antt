@@ -108,13 +108,13 @@ runEdges =
     -- A set of only iodef decides. An unknown critical record, behind one that governs.
     ∷ run (having (caa "www.example.com" 0 "iodef" "mailto:a@example.com" ∷ []) ∷ nothing ∷ []) (asksX ∷ permitted ∷ sessionEnded ∷ [])
     ∷ run (nothing ∷ having (caa "example.com" 0 "issue" "ca1.example.net" ∷ caa "example.com" 128 "tbs" "x" ∷ []) ∷ [])
-        (asksX ∷ asksParent ∷ Judged (UnknownCritical (denial 0 1 1)) ∷ [])
+    (asksX ∷ asksParent ∷ Judged (UnknownCritical (denial 0 1 1)) ∷ [])
     -- For the wildcard X is asked for, without the asterisk. Its set decides by issuewild.
     ∷ starRun (nothing ∷ nothing ∷ nothing ∷ []) (Asks 2 17 ∷ Asks 6 13 ∷ Asks 14 5 ∷ permitted ∷ [])
     ∷ starRun (having (caa "www.example.com" 0 "issue" "ca1.example.net" ∷ caa "www.example.com" 0 "issuewild" "ca2.example.org" ∷ []) ∷ [])
-        (Asks 2 17 ∷ notGranted 1 0 ∷ [])
+    (Asks 2 17 ∷ notGranted 1 0 ∷ [])
     ∷ run (having (caa "www.example.com" 0 "issue" "ca1.example.net" ∷ caa "www.example.com" 0 "issuewild" "ca2.example.org" ∷ []) ∷ [])
-        (asksX ∷ permitted ∷ [])
+    (asksX ∷ permitted ∷ [])
     ∷ starRun (having (caa "*.www.example.com" 0 "issue" ";" ∷ []) ∷ []) (Asks 2 17 ∷ Asks 6 13 ∷ [])
     -- Aliases are followed in the answer: to a set, to nothing, past the eighth. Labels are counted at the name that they start from.
     ∷ run (having (cname "www.example.com" "a.example.org" ∷ caa "a.example.org" 0 "issue" ";" ∷ []) ∷ []) (asksX ∷ notGranted 1 0 ∷ [])

@@ -23,7 +23,7 @@ use Rattle.spec_rule.specs.Theorems.{FirstRow, renumberedVerdict}
 use Rattle.spec_session.specs.declared.Text.{Text}
 use Rattle.spec_session.specs.declared.Session.{Session}
 use Rattle.spec_session.specs.declared.SessionAnswer.{SessionAnswer}
-use Rattle.spec_session.specs.declared.SessionAnswer.the-variants.{Asks, Judged, LookupFailed}
+use Rattle.spec_session.specs.declared.SessionAnswer.the-variants.{Asks, Judged, LookupFailed, NoVerdict}
 use Rattle.spec_session.specs.Sessions.{maxTextOctets, held, textOf, isKept, asked, standing, state}
 use Rattle.spec_session.specs.Steps.{sessionEnded, endedSession, opened, decidedFrom, answered, failed, Answer, book, step, after, isRefusal, accepted}
 use Rattle.spec_session.specs.Meaning.{OpenRow, GoodOpening, KeptWell, Agrees, NumberedBy}
@@ -82,6 +82,17 @@ Failed-ends =
 -- What is not refused is answered by the state of the session after it.
 abbrev pub Answered-by-state : Type 0
 Answered-by-state = (s : Session) (a : Answer) → isRefusal (step s a .answer) ≡ false → step s a .answer ≡ state (step s a .session)
+
+-- A session asks for a name, or has a verdict, or neither; never both. Its state tells which.
+abbrev pub State-tells : Type 0
+State-tells =
+    (s : Session) →
+    (asked s ≢ none → standing s ≡ none) × ((v : SessionAnswer) → standing s ≡ some v → state s ≡ v)
+    × (asked s ≡ none → standing s ≡ none → state s ≡ NoVerdict)
+
+-- An ended session stays as it is, and so does its verdict.
+abbrev pub Ended-stays : Type 0
+Ended-stays = (s : Session) (given : List Answer) → asked s ≡ none → (after s given ≡ s) × (accepted s given ≡ [])
 
 -- The name asked for is told by its length and its offset in the kept name: these octets are its wire form, to the end.
 abbrev pub Asked-octets : Type 0
