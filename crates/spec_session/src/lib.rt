@@ -1,11 +1,14 @@
 // A session: a request for one name, decided as the records of one name after the other come in. The rules for it are in specs/.
 use spec_rule::Judgement;
 
+// How many octets a text has room for.
+pub const MAX_TEXT_OCTETS: usize = 256;
+
 // A text of at most 256 octets: the first `length` of them.
 #[repr(C)]
 pub struct Text {
     pub length: usize,
-    pub octets: [u8; 256],
+    pub octets: [u8; MAX_TEXT_OCTETS],
 }
 
 // What a caller keeps between two calls. Numbers come first, so that the layout has no gaps: 1,088 octets.
