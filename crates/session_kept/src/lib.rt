@@ -14,19 +14,16 @@ pub fn keep_text(s: &[u8]) -> Text
     ensures { λ r. ⌜ r ≡ textOf (now (s .entry)) ⌝ }
 {
     let mut octets = [0u8; MAX_TEXT_OCTETS];
-    let mut end: usize = s.len();
-    if MAX_TEXT_OCTETS < end {
-        end = MAX_TEXT_OCTETS;
-    }
+    let length = s.len();
     let mut i: usize = 0;
-    while i < end {
+    while i < MAX_TEXT_OCTETS {
+        if length <= i {
+            return Text { length, octets };
+        }
         octets[i] = s[i];
         i += 1;
     }
-    Text {
-        length: s.len(),
-        octets,
-    }
+    Text { length, octets }
 }
 
 // How many octets of a kept text count. A length beyond the room leaves no text.
