@@ -31,8 +31,8 @@ module _ (s : List ℕ) (i : ℕ) where
     copy-turn j h fits next =
         let k : j ≡ suc i = omega arith in
         rw (e, one-zero-less maxTextOctets i (omega (arith, room)), k) (
-          set-at (take i s) 0 (replicate (maxTextOctets - suc i) 0) (getD s i 0) i (length-take-le i s (omega arith))
-          ∙ sym (rw (take-suc s i 0 h) (append-assoc (take i s) (getD s i 0 ∷ []) (replicate (maxTextOctets - suc i) 0)))
+        set-at (take i s) 0 (replicate (maxTextOctets - suc i) 0) (getD s i 0) i (length-take-le i s (omega arith))
+        ∙ sym (rw (take-suc s i 0 h) (append-assoc (take i s) (getD s i 0 ∷ []) (replicate (maxTextOctets - suc i) 0)))
         )
 
     as-kept : xs ≡ textOf s .octets → _≡_ {A = Text} (record { length = length s; octets = xs }) (textOf s)
