@@ -4,6 +4,11 @@ use spec_rule::Judgement;
 // How many octets a text has room for.
 pub const MAX_TEXT_OCTETS: usize = 256;
 
+// The phases of a session: it asks for a name; a verdict stands.
+pub const ASKING: usize = 1;
+
+pub const DECIDED: usize = 2;
+
 // A text of at most 256 octets: the first `length` of them.
 #[repr(C)]
 pub struct Text {
