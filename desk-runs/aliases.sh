@@ -5,25 +5,25 @@ begin 'an alias of a name that grants'
 { cname www.example.com web.example.org; caa web.example.org 0 issue ca1.example.net; } > book.bin
 expect 'verdict 0'
 printf %s ca2.example.org > issuer.txt
-expect 'verdict 21 name 0 record 1'
+expect 'verdict 21 name 0 record 1 up 0'
 
 begin 'an alias, letter case ignored'
 { cname WWW.example.com wEb.example.org; caa WEB.example.ORG 0 issue ca2.example.org; } > book.bin
-expect 'verdict 21 name 0 record 1'
+expect 'verdict 21 name 0 record 1 up 0'
 
 begin 'an alias of the name above'
 { cname example.com example.org; caa example.org 128 tbs Unknown; } > book.bin
-expect 'verdict 20 name 0 record 1'
+expect 'verdict 20 name 0 record 1 up 1'
 
 begin 'an alias for a star name'
 name '*.www.example.com' > request.bin
 { cname www.example.com web.example.org; caa web.example.org 0 issuewild ';'; } > book.bin
-expect 'verdict 21 name 0 record 1'
+expect 'verdict 21 name 0 record 1 up 0'
 
 # "the final target's CAA records are the set, whatever name it is"
 begin 'an alias of the root'
 { cname www.example.com ''; caa '' 0 issue ca2.example.org; } > book.bin
-expect 'verdict 21 name 0 record 1'
+expect 'verdict 21 name 0 record 1 up 0'
 
 begin 'the root without an alias'
 caa '' 0 issue ca2.example.org > book.bin
@@ -34,12 +34,12 @@ begin 'a target without records below one that restricts'
 { cname www.example.com web.example.org; caa example.org 0 issue ca2.example.org; } > book.bin
 expect 'verdict 0'
 caa example.com 0 issue ca3.example.com >> book.bin
-expect 'verdict 21 name 0 record 2'
+expect 'verdict 21 name 0 record 2 up 1'
 
 # "up to 8 for that look", "If a ninth alias would be followed": record 0 is another, record 1 the first alias
 begin 'eight aliases'
 { other; chain 8; caa t8 0 issue ca2.example.org; } > book.bin
-expect 'verdict 21 name 0 record 9'
+expect 'verdict 21 name 0 record 9 up 0'
 
 begin 'eight aliases, granted'
 { other; chain 8; caa t8 0 issue ca1.example.net; } > book.bin
@@ -47,32 +47,32 @@ expect 'verdict 0'
 
 begin 'nine aliases'
 { other; chain 9; caa t9 0 issue ca1.example.net; caa example.com 0 issue ca1.example.net; } > book.bin
-expect 'verdict 22 name 0 record 1'
+expect 'verdict 22 name 0 record 1 up 0'
 
 begin 'an alias of itself'
 { caa example.com 0 issue ca1.example.net; cname www.example.com WWW.example.com; } > book.bin
-expect 'verdict 22 name 0 record 1'
+expect 'verdict 22 name 0 record 1 up 0'
 
 begin 'two aliases of each other'
 { cname web.example.com www.example.com; cname www.example.com web.example.com; } > book.bin
-expect 'verdict 22 name 0 record 1'
+expect 'verdict 22 name 0 record 1 up 0'
 
 # the alias of the name looked at is told, which stands above the requested one
 begin 'nine aliases from the name above'
 name a.www.example.com > request.bin
 { cname a.www.example.com b; other; chain 9; } > book.bin
-expect 'verdict 22 name 0 record 2'
+expect 'verdict 22 name 0 record 2 up 1'
 
 # the name that isn't permitted and has the lowest number decides, whichever verdict it has
 begin '22 of the second name'
 { name pay.example.com; name www.example.com; } > request.bin
 { caa pay.example.com 0 issue ca1.example.net; cname www.example.com www.example.com; } > book.bin
-expect 'verdict 22 name 1 record 1'
+expect 'verdict 22 name 1 record 1 up 0'
 
 begin '21 of the first name, and 22 of the second'
 { name pay.example.com; name www.example.com; } > request.bin
 { caa pay.example.com 0 issue ca2.example.org; cname www.example.com www.example.com; } > book.bin
-expect 'verdict 21 name 0 record 0'
+expect 'verdict 21 name 0 record 0 up 0'
 
 # "data is one name by 01's owner rule, filling its length exactly (else refusal 6)": a name of 255 octets is 64 + 64 + 64 + 62 + 1
 begin 'a target of 255'
@@ -106,11 +106,11 @@ expect 'refused 6 at 0'
 # only type 5 of class 1 counts
 begin 'type 5 of class 3'
 { name www.example.com; two 5; two 3; two 0; two 0; two 2; octets 192 0; caa www.example.com 0 issue ca2.example.org; } > book.bin
-expect 'verdict 21 name 0 record 1'
+expect 'verdict 21 name 0 record 1 up 0'
 
 begin 'a DNAME record'
 { name www.example.com; fields 39 1; octets 0; caa www.example.com 0 issue ca2.example.org; } > book.bin
-expect 'verdict 21 name 0 record 1'
+expect 'verdict 21 name 0 record 1 up 0'
 
 # "An owner with an alias and a CAA record, or two aliases, is refusal 12 with the later record's number, the lowest such"
 begin 'an alias and a CAA record'

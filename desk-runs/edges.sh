@@ -194,7 +194,7 @@ expect 'refused 6 at 1023'
 begin 'the 250th name and the 1,024th record'
 { repeated 249 labels 1; name www.example.com; } > request.bin
 { repeated 1023 other; caa example.com 0 issue ca2.example.org; } > book.bin
-expect 'verdict 21 name 249 record 1023'
+expect 'verdict 21 name 249 record 1023 up 1'
 
 # the limit before was 256
 begin '256 records'
@@ -203,7 +203,7 @@ expect 'verdict 0'
 
 begin '257 records'
 { repeated 256 other; caa example.com 0 issue ca2.example.org; } > book.bin
-expect 'verdict 21 name 0 record 256'
+expect 'verdict 21 name 0 record 256 up 1'
 
 # At most 49,152 octets: a root owner and the fields take 11, and the data the rest.
 begin 'a book of 49,152'
@@ -266,7 +266,7 @@ expect 'refused 6 at 1'
 begin 'a name and an owner of 255'
 labels 63 63 63 61 > request.bin
 { labels 63 63 63 61; fields 257 7; octets 0 5; printf issue; } > book.bin
-expect 'verdict 21 name 0 record 0'
+expect 'verdict 21 name 0 record 0 up 0'
 
 # CAA data has at least 2 octets, a tag of at least one, and the tag within it. A tag that fills it leaves an empty value, which
 # governs and grants nobody.
@@ -280,7 +280,7 @@ expect 'refused 6 at 0'
 
 begin 'a tag that fills the data'
 { name example.com; fields 257 7; octets 0 5; printf issue; } > book.bin
-expect 'verdict 21 name 0 record 0'
+expect 'verdict 21 name 0 record 0 up 1'
 
 begin 'a tag past the data'
 { name example.com; fields 257 7; octets 0 6; printf issue; } > book.bin
@@ -298,7 +298,7 @@ expect 'refused 6 at 0'
 # The critical flag is the bit worth 128.
 begin 'an unknown tag with flags 128'
 caa example.com 128 tbs Unknown > book.bin
-expect 'verdict 20 name 0 record 0'
+expect 'verdict 20 name 0 record 0 up 1'
 
 begin 'an unknown tag with flags 127'
 caa example.com 127 tbs Unknown > book.bin

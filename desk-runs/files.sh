@@ -17,12 +17,12 @@ done
 for file in account.txt method.txt; do
     cmp $file "$whole/$file"
 done
-expect 'verdict 21 name 1 record 3'
+expect 'verdict 21 name 1 record 3 up 0'
 
 # records 0 and 1 govern nothing that is asked for; record 2 is critical and its tag unknown
 begin 'an unknown critical record'
 { caa example.org 0 issue 'ca1.example.net'; other; caa example.com 128 tbs Unknown; } > book.bin
-expect 'verdict 20 name 0 record 2'
+expect 'verdict 20 name 0 record 2 up 1'
 
 # four good records, then one that ends inside its type
 begin 'a book that breaks off in record 4'
@@ -130,11 +130,11 @@ begin 'a record for this account and this method'
 caa example.com 0 issue 'ca1.example.net; accounturi=https://ca1.example.net/acct/230123; validationmethods=http-01,dns-01' > book.bin
 expect 'verdict 0'
 printf %s https://ca1.example.net/acct/230124 > account.txt
-expect 'verdict 21 name 0 record 0'
+expect 'verdict 21 name 0 record 0 up 1'
 
 begin 'a record for another method'
 caa example.com 0 issue 'ca1.example.net; validationmethods=http-01,dns-02' > book.bin
-expect 'verdict 21 name 0 record 0'
+expect 'verdict 21 name 0 record 0 up 1'
 printf %s http-01 > method.txt
 expect 'verdict 0'
 
@@ -179,5 +179,5 @@ mkfifo book.bin
     sleep 0.2
     tail -c +71 "$whole/book.bin"
 } > book.bin &
-expect 'verdict 21 name 1 record 3'
+expect 'verdict 21 name 1 record 3 up 0'
 kill $! 2> /dev/null || true

@@ -25,19 +25,19 @@ expect_run 0 'verdict 0' .
 begin 'run.sh: not granted, by a path from here'
 caa example.com 0 issue ca2.example.org > book.bin
 cd ..
-expect_run 1 'verdict 21 name 0 record 0' folder
+expect_run 1 'verdict 21 name 0 record 0 up 1' folder
 
 begin 'run.sh: unknown critical'
 caa example.com 128 tbs Unknown > book.bin
-expect_run 1 'verdict 20 name 0 record 0' "$PWD"
+expect_run 1 'verdict 20 name 0 record 0 up 1' "$PWD"
 
 begin 'run.sh: too many aliases'
 cname www.example.com www.example.com > book.bin
-expect_run 1 'verdict 22 name 0 record 0' .
+expect_run 1 'verdict 22 name 0 record 0 up 0' .
 
 begin 'run.sh: the stored example, in an empty folder'
 rm request.bin issuer.txt account.txt method.txt book.bin
-expect_run 1 'verdict 21 name 1 record 3'
+expect_run 1 'verdict 21 name 1 record 3 up 0'
 
 begin 'run.sh: refused'
 echo >> issuer.txt
@@ -98,9 +98,9 @@ begin_copy 'a permission' 'verdict 0
 expect_run 0 'verdict 0' .
 expect_said 'crate 1 of'
 
-begin_copy 'a verdict of a later release' 'verdict 22 name 0 record 1 up 2
+begin_copy 'a verdict of a later release' 'verdict 24 name 0 record 1 up 2 at 3
 '
-expect_run 1 'verdict 22 name 0 record 1 up 2' .
+expect_run 1 'verdict 24 name 0 record 1 up 2 at 3' .
 
 begin_copy 'a verdict of a later release, with no numbers' 'verdict 23
 '

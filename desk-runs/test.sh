@@ -134,6 +134,7 @@ other() { octets 0; fields 1 0; }
 . "$here/files.sh"
 . "$here/edges.sh"
 . "$here/aliases.sh"
+. "$here/up.sh"
 . "$here/statuses.sh"
 
 echo "desk: $runs runs, $failures failed"

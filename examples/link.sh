@@ -138,7 +138,7 @@ build() {
     "${CC:-cc}" -std=c99 -O2 $strict -Iinclude -o "$3" "$1" "$2/libsplinepearl.a"
 }
 build examples/c/judge.c "$libs" "$work/judge"
-expect 'verdict 21 name 1 record 3
+expect 'verdict 21 name 1 record 3 up 0
 list of 1 in 16 octets
 ca2.example.org [1]' "$work/judge" "$whole"
 expect 'verdict 0
@@ -147,17 +147,17 @@ ca1.example.net
 ca2.example.org [0]' "$work/judge" "$work/www"
 expect 'verdict 0
 anyone [0]' "$work/judge" "$work/anyone"
-expect 'verdict 20 name 0 record 0
+expect 'verdict 20 name 0 record 0 up 1
 list of 0 in 0 octets [1]' "$work/judge" "$work/critical"
 expect 'verdict 0
 list of 1 in 16 octets
 ca1.example.net [0]' "$work/judge" "$work/limited"
-expect 'verdict 21 name 0 record 0
+expect 'verdict 21 name 0 record 0 up 1
 list of 0 in 0 octets [1]' "$work/judge" "$work/other-account"
-expect 'verdict 21 name 0 record 4
+expect 'verdict 21 name 0 record 4 up 0
 list of 1 in 16 octets
 ca2.example.org [1]' "$work/judge" "$work/alias"
-expect 'verdict 22 name 0 record 0
+expect 'verdict 22 name 0 record 0 up 1
 list of 0 in 0 octets [1]' "$work/judge" "$work/alias-of-itself"
 expect 'refused 12 at 4
 refused 12 at 4 [2]' "$work/judge" "$work/alias-conflict"
@@ -206,6 +206,33 @@ end
 build "$work/refusals.c" "$libs" "$work/refusals"
 expect '1 2 3 4 5 6 7 8 9 10 11 12 15  [0]' "$work/refusals"
 
+# Which bits each function takes: all ones in one field, none in the others; then all four fields.
+cat > "$work/fields.c" <<'end'
+#include <stdio.h>
+#include "splinepearl.h"
+static void print_fields(uint64_t answer)
+{
+    printf("%u %zu %zu %zu %zu %zu %zu %zu\n", caa_number(answer), caa_place(answer), caa_name_number(answer),
+           caa_octets(answer), caa_length(answer), caa_record_number(answer), caa_count(answer),
+           caa_labels_off(answer));
+}
+int main(void)
+{
+    print_fields(UINT64_C(0x00000000000000FF));
+    print_fields(UINT64_C(0x00000000FFFFFF00));
+    print_fields(UINT64_C(0x0000FFFF00000000));
+    print_fields(UINT64_C(0xFFFF000000000000));
+    print_fields(UINT64_C(0x007E03FF0000F915));
+    return 0;
+}
+end
+build "$work/fields.c" "$libs" "$work/fields"
+expect '255 0 0 0 0 0 0 0
+0 16777215 16777215 16777215 16777215 0 0 0
+0 0 0 0 0 65535 65535 0
+0 0 0 0 0 0 0 65535
+21 249 249 249 249 1023 1023 126 [0]' "$work/fields"
+
 build tools/caa-lines.c "$libs" "$work/caa-lines"
 expect '128 tbs "Unk\"\\\000n"
 refused 11 at 0 [0]' "$work/caa-lines" write <<< '8003544253556E6B225C006E
@@ -233,14 +260,14 @@ rust() {
 }
 rust "$libs" test
 desk() { rust "$libs" run --example desk -- "$@"; }
-expect 'verdict 21 name 1 record 3 [1]' desk "$whole"
+expect 'verdict 21 name 1 record 3 up 0 [1]' desk "$whole"
 expect 'verdict 0 [0]' desk "$work/www"
 expect 'verdict 0 [0]' desk "$work/anyone"
-expect 'verdict 20 name 0 record 0 [1]' desk "$work/critical"
+expect 'verdict 20 name 0 record 0 up 1 [1]' desk "$work/critical"
 expect 'verdict 0 [0]' desk "$work/limited"
-expect 'verdict 21 name 0 record 0 [1]' desk "$work/other-account"
-expect 'verdict 21 name 0 record 4 [1]' desk "$work/alias"
-expect 'verdict 22 name 0 record 0 [1]' desk "$work/alias-of-itself"
+expect 'verdict 21 name 0 record 0 up 1 [1]' desk "$work/other-account"
+expect 'verdict 21 name 0 record 4 up 0 [1]' desk "$work/alias"
+expect 'verdict 22 name 0 record 0 up 1 [1]' desk "$work/alias-of-itself"
 expect 'refused 12 at 4 [2]' desk "$work/alias-conflict"
 expect 'refused 4 at 0 [2]' desk "$work/line-end"
 for folder in account-line-end method-comma no-account no-method; do

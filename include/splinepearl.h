@@ -8,7 +8,7 @@
  *     bits 0 to 7     the number of the answer, one of enum caa_answer
  *     bits 8 to 31    field a
  *     bits 32 to 47   field b
- *     bits 48 to 63   field c, not used yet
+ *     bits 48 to 63   field c
  *
  * The functions at the end of this file read the fields. A field that an answer doesn't use is 0. A
  * later release may use it, so don't compare whole answers. Treat a number that you don't know as
@@ -57,7 +57,8 @@ enum caa_answer {
                                   a = number of the later record */
     CAA_BAD_ACCOUNT_OR_METHOD = 15, /* account or method breaks a rule: see caa_judge_for */
 
-    /* judge_for: this issuer may not issue. a = number of the first name not permitted, b = number of a record */
+    /* judge_for: this issuer may not issue. a = number of the first name not permitted, b = number of a record,
+       c = labels taken off that name: see caa_labels_off */
     CAA_UNKNOWN_CRITICAL = 20, /* its tag is unknown and critical; b = the first such record */
     CAA_NOT_GRANTED = 21,      /* restricted, and not granted to this issuer for this account and method;
                                   b = the first governing record */
@@ -155,6 +156,17 @@ static inline size_t caa_name_number(uint64_t answer)
 static inline size_t caa_record_number(uint64_t answer)
 {
     return (size_t)(answer >> 32 & 0xFFFF);
+}
+
+/*
+ * 20 to 22: how many labels were taken off the name to reach the place that decided, 0 if that is the name
+ * itself. A star is not a label of the name: for *.example.com it is 0 at example.com. The place is the owner
+ * of the CAA records, or the name with the first alias if aliases led to them; for 22 the name whose aliases
+ * are too many.
+ */
+static inline size_t caa_labels_off(uint64_t answer)
+{
+    return (size_t)(answer >> 48);
 }
 
 /* 31: how many names are listed. */

@@ -59,7 +59,7 @@ NOT_NAMES = [
     (r"[A-Za-z]", "one letter: an octet or a variable"),
     (r"[A-Z]{2,}", "a word that stands for another, as NAME"),
     (r"\\.*", "an escape of a line of text"),
-    (r"no book|(?:verdict|refused)(?: [0-9A-Z]+(?: (?:name|record|at) [0-9A-Z]+)*)?|N passed, 0 failed", "a line of output"),
+    (r"no book|(?:verdict|refused)(?: [0-9A-Z]+(?: (?:name|record|at|up) [0-9A-Z]+)*)?|N passed, 0 failed", "a line of output"),
     (r"(?:\*\.)?X|(?:\*\.)?(?:[a-z0-9-]+\.)+(?:example|com|net|org)\.?|(?:\*\.)?(?:[a-z]\.)+", "a domain name"),
     (r"(?:\S+ )?(?:CAA|TYPE257) .*", "a record as text"),
     (r"(?=.*[;=])(?!.* = )[A-Za-z0-9 .;=-]+", "a value, or a part of one"),

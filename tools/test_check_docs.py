@@ -175,7 +175,7 @@ class Copy(unittest.TestCase):
         """Each of these is missing, and told; and what is no name is not."""
         missing = ["No-such-theorem", "noSuchDefinition", "NoSuchType", "no_such_function", "no-such-law", "Climbing::up_and_up", "checked (noSuchThing b)",
                    "docs/NO-SUCH.md", "crates/*/no-such-folder/", "--no-such" + "-option", "rt check no_such_crate", "SuchRecord.no-field", ".. no-such-ending"]
-        told = ["256", "\\", "*.X", "ca1.example.net", "n; a=1;", "verdict 21 name K record R", "CAA 0 issue \"x\"", "NAME", "no book", "A"]
+        told = ["256", "\\", "*.X", "ca1.example.net", "n; a=1;", "verdict 21 name K record R up U", "CAA 0 issue \"x\"", "NAME", "no book", "A"]
         text = "\n\n".join(f"`{w}`" for w in missing + told)
         self.changed(self.root / "docs/TOUR.md", (self.root / "docs/TOUR.md").read_text() + "\n" + text + "\n")
         found = self.new_errors()

@@ -67,9 +67,9 @@ func judge(request, issuer, book []byte, way func([]record) find) (string, error
 	find := way(records)
 	for number, name := range names {
 		wildcard := strings.HasPrefix(name, "*.")
-		set := climb(find, strings.TrimPrefix(name, "*."))
+		set, up := climb(find, strings.TrimPrefix(name, "*."))
 		if r := first(set, isUnknownCritical); r != nil {
-			return fmt.Sprintf("verdict 20 name %d record %d", number, r.number), nil
+			return fmt.Sprintf("verdict 20 name %d record %d up %d", number, r.number, up), nil
 		}
 		tag := "issue"
 		if wildcard && first(set, hasTag("issuewild")) != nil {
@@ -78,20 +78,22 @@ func judge(request, issuer, book []byte, way func([]record) find) (string, error
 		governing := first(set, hasTag(tag))
 		grants := func(r record) bool { return hasTag(tag)(r) && isGrantee(r.caa.Value, string(issuer)) }
 		if governing != nil && first(set, grants) == nil {
-			return fmt.Sprintf("verdict 21 name %d record %d", number, governing.number), nil
+			return fmt.Sprintf("verdict 21 name %d record %d up %d", number, governing.number, up), nil
 		}
 	}
 	return "verdict 0", nil
 }
 
-// The records of the nearest name that owns any.
-func climb(find find, name string) []record {
+// The records of the nearest name that owns any, and how many labels were taken off to reach it.
+func climb(find find, name string) ([]record, int) {
+	up := 0
 	for at, end := 0, false; !end; at, end = dns.NextLabel(name, at) {
 		if set := find(name[at:]); len(set) > 0 {
-			return set
+			return set, up
 		}
+		up++
 	}
-	return nil
+	return nil, up
 }
 
 func first(set []record, is func(record) bool) *record {

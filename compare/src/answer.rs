@@ -83,6 +83,10 @@ impl fmt::Display for Refusal {
 }
 
 /// The answer of [`judge`](crate::judge()): a verdict, or a refusal.
+///
+/// Where a name X or `*.X` is not permitted, `up` is the number of labels taken off X to reach the name
+/// that was looked at last, 0 where that is X: the owner of the set, or the name that its aliases start
+/// from.
 #[derive(Clone, Copy, Debug, PartialEq, Eq)]
 pub enum Answer {
     /// Verdict 0.
@@ -91,32 +95,56 @@ pub enum Answer {
     UnknownCritical {
         name: usize,
         record: usize,
+        up: usize,
     },
     /// Verdict 21: the lowest name not permitted, and the first record that governs it.
     NotGranted {
         name: usize,
         record: usize,
+        up: usize,
     },
     /// Verdict 22: the lowest name not permitted, and the first alias of the look that met too many.
     TooManyAliases {
         name: usize,
         record: usize,
+        up: usize,
     },
     Refused(Refusal),
+}
+
+impl Answer {
+    /// The same verdict with other numbers for name, record and labels taken off. What tells none stays.
+    pub fn with(self, numbers: impl FnOnce([usize; 3]) -> [usize; 3]) -> Answer {
+        match self {
+            Answer::UnknownCritical { name, record, up } => {
+                let [name, record, up] = numbers([name, record, up]);
+                Answer::UnknownCritical { name, record, up }
+            }
+            Answer::NotGranted { name, record, up } => {
+                let [name, record, up] = numbers([name, record, up]);
+                Answer::NotGranted { name, record, up }
+            }
+            Answer::TooManyAliases { name, record, up } => {
+                let [name, record, up] = numbers([name, record, up]);
+                Answer::TooManyAliases { name, record, up }
+            }
+            Answer::Permitted | Answer::Refused(_) => self,
+        }
+    }
 }
 
 impl fmt::Display for Answer {
     fn fmt(&self, f: &mut fmt::Formatter<'_>) -> fmt::Result {
         match self {
             Answer::Permitted => write!(f, "verdict 0"),
-            Answer::UnknownCritical { name, record } => {
-                write!(f, "verdict 20 name {name} record {record}")
+            Answer::UnknownCritical { name, record, up } => {
+                write!(f, "verdict 20 name {name} record {record} up {up}")
             }
-            Answer::NotGranted { name, record } => {
-                write!(f, "verdict 21 name {name} record {record}")
+            Answer::NotGranted { name, record, up } => {
+                write!(f, "verdict 21 name {name} record {record} up {up}")
             }
-            Answer::TooManyAliases { name, record } => {
-                write!(f, "verdict 22 name {name} record {record}")
+            Answer::TooManyAliases { name, record, up } => {
+                write!(f, "verdict 22 name {name} record {record} up {up}")
             }
             Answer::Refused(refusal) => refusal.fmt(f),
         }

@@ -29,16 +29,17 @@ fn verdict(
         match standing(&records, requested) {
             Standing::Unrestricted => {}
             Standing::Governed { grantees, .. } if grantees.contains(&&issuer) => {}
-            Standing::UnknownCritical { record } => {
-                return Ok(Answer::UnknownCritical { name, record })
+            Standing::UnknownCritical { record, up } => {
+                return Ok(Answer::UnknownCritical { name, record, up })
             }
-            Standing::TooManyAliases { record } => {
-                return Ok(Answer::TooManyAliases { name, record })
+            Standing::TooManyAliases { record, up } => {
+                return Ok(Answer::TooManyAliases { name, record, up })
             }
             Standing::Governed {
                 first_governing: record,
+                up,
                 ..
-            } => return Ok(Answer::NotGranted { name, record }),
+            } => return Ok(Answer::NotGranted { name, record, up }),
         }
     }
     Ok(Answer::Permitted)

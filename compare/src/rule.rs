@@ -155,32 +155,44 @@ fn look<'r, 'a>(records: &'r Records<'a>, name: Name) -> Found<'r, 'a> {
     }
 }
 
-/// What the climb from a requested name comes to: the nearest name with anything found, or nothing
-/// (RFC 8659 section 3). What the records say plays no part: a set of `iodef` alone ends the climb too.
-fn climb<'r, 'a>(records: &'r Records<'a>, name: &RequestedName) -> Found<'r, 'a> {
-    name.fqdn
-        .ancestors()
-        .map(|ancestor| look(records, ancestor))
-        .find(|found| !found.is_nothing())
-        .unwrap_or(Found::Set(Vec::new()))
+/// Where the climb from X ends, and what it finds there.
+struct End<'r, 'a> {
+    /// Labels taken off X, 0 where the climb ends at X. A star is no label of X.
+    up: usize,
+    found: Found<'r, 'a>,
 }
 
-/// How a requested name stands. In all cases but the first it is restricted.
+/// The climb from a requested name ends at the nearest name where anything is found, or nowhere
+/// (RFC 8659 section 3). What the records say plays no part: a set of `iodef` alone ends the climb too.
+fn climb<'r, 'a>(records: &'r Records<'a>, name: &RequestedName) -> Option<End<'r, 'a>> {
+    let looks = name
+        .fqdn
+        .ancestors()
+        .map(|ancestor| look(records, ancestor));
+    let mut ends = looks.enumerate().map(|(up, found)| End { up, found });
+    ends.find(|end| !end.found.is_nothing())
+}
+
+/// How a requested name stands. In all cases but the first it is restricted, and `up` tells how many
+/// labels the climb took off X.
 #[derive(Clone, Debug, PartialEq, Eq)]
 pub enum Standing<'a> {
     Unrestricted,
     /// Granted to nobody; `record` is the first unknown critical one.
     UnknownCritical {
         record: usize,
+        up: usize,
     },
     /// Granted to nobody; `record` is the first alias of the look that met too many.
     TooManyAliases {
         record: usize,
+        up: usize,
     },
     /// Granted to `grantees`, in the order of the records, repeats included; `first_governing` is
     /// the first record that governs, whether or not it grants anybody.
     Governed {
         first_governing: usize,
+        up: usize,
         grantees: Vec<&'a IssuerName>,
     },
 }
@@ -189,7 +201,7 @@ pub enum Standing<'a> {
 /// aliases, none does.
 pub fn governing_values<'a>(book: &'a [Record<'a>], name: &RequestedName) -> Vec<&'a [u8]> {
     let records = Records::of(book, Applicant::SOMEONE);
-    let Found::Set(relevant) = climb(&records, name) else {
+    let Some(Found::Set(relevant)) = climb(&records, name).map(|end| end.found) else {
         return Vec::new();
     };
     if relevant.iter().any(|record| record.is_unknown_critical()) {
@@ -206,9 +218,7 @@ pub fn governing_values<'a>(book: &'a [Record<'a>], name: &RequestedName) -> Vec
 /// How many labels the climb takes off X to reach the name where it ends, 0 where that is X; `None`
 /// where it finds nothing.
 pub fn labels_taken_off(records: &Records, name: &RequestedName) -> Option<usize> {
-    name.fqdn
-        .ancestors()
-        .position(|ancestor| !look(records, ancestor).is_nothing())
+    climb(records, name).map(|end| end.up)
 }
 
 /// One look of a climb, as far as its aliases go.
@@ -245,13 +255,17 @@ pub fn chains<'a>(records: &Records<'a>, name: &RequestedName<'a>) -> Vec<Chain<
 }
 
 pub fn standing<'a>(records: &'a Records, name: &RequestedName) -> Standing<'a> {
-    let relevant = match climb(records, name) {
+    let Some(End { up, found }) = climb(records, name) else {
+        return Standing::Unrestricted;
+    };
+    let relevant = match found {
         Found::Set(relevant) => relevant,
-        Found::TooManyAliases { first } => return Standing::TooManyAliases { record: first },
+        Found::TooManyAliases { first } => return Standing::TooManyAliases { record: first, up },
     };
     if let Some(record) = relevant.iter().find(|record| record.is_unknown_critical()) {
         return Standing::UnknownCritical {
             record: record.number,
+            up,
         };
     }
     let governing = governing_records(&relevant, name.wildcard);
@@ -259,6 +273,7 @@ pub fn standing<'a>(records: &'a Records, name: &RequestedName) -> Standing<'a> 
         None => Standing::Unrestricted,
         Some(&(first_governing, _)) => Standing::Governed {
             first_governing,
+            up,
             grantees: governing
                 .iter()
                 .filter_map(|(_, grantee)| *grantee)

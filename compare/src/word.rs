@@ -45,9 +45,9 @@ impl Word {
     pub fn judged(self) -> Result<Answer, Word> {
         match self.fields() {
             (0, 0, 0, 0) => Ok(Answer::Permitted),
-            (20, name, record, 0) => Ok(Answer::UnknownCritical { name, record }),
-            (21, name, record, 0) => Ok(Answer::NotGranted { name, record }),
-            (22, name, record, 0) => Ok(Answer::TooManyAliases { name, record }),
+            (20, name, record, up) => Ok(Answer::UnknownCritical { name, record, up }),
+            (21, name, record, up) => Ok(Answer::NotGranted { name, record, up }),
+            (22, name, record, up) => Ok(Answer::TooManyAliases { name, record, up }),
             _ => self.refused().map(Answer::Refused).ok_or(self),
         }
     }
@@ -138,13 +138,28 @@ mod tests {
             Word::number(15).judged(),
             Ok(Answer::Refused(Refusal::BadApplicant))
         );
+        let (name, record, up) = (1, 3, 2);
+        let fields = [name, record, up];
         assert_eq!(
-            Word::with(21, [1, 3, 0]).judged(),
-            Ok(Answer::NotGranted { name: 1, record: 3 })
+            Word::with(20, fields).judged(),
+            Ok(Answer::UnknownCritical { name, record, up })
         );
         assert_eq!(
-            Word::with(22, [1, 3, 0]).judged(),
-            Ok(Answer::TooManyAliases { name: 1, record: 3 })
+            Word::with(21, fields).judged(),
+            Ok(Answer::NotGranted { name, record, up })
+        );
+        assert_eq!(
+            Word::with(22, fields).judged(),
+            Ok(Answer::TooManyAliases { name, record, up })
+        );
+        // As the library packs it: c is the highest 16 bits.
+        assert_eq!(
+            Word::unpacked(0x007E_03FF_0000_F915).judged(),
+            Ok(Answer::NotGranted {
+                name: 249,
+                record: 1_023,
+                up: 126
+            })
         );
         let refusal = Refusal::AliasConflict { record: 4 };
         assert_eq!(
@@ -174,13 +189,19 @@ mod tests {
             Word::with(4, [1, 0, 0]),
             Word::with(15, [1, 0, 0]),
             Word::with(2, [0, 1, 0]),
-            Word::with(21, [0, 0, 1]),
-            Word::with(22, [0, 0, 1]),
+            Word::with(0, [0, 0, 1]),
+            Word::with(2, [0, 0, 1]),
             Word::with(12, [1, 1, 0]),
+            Word::with(12, [1, 0, 1]),
         ] {
             assert_eq!(word.judged(), Err(word));
         }
-        for word in [Word::number(0), Word::number(20), Word::with(30, [1, 0, 0])] {
+        for word in [
+            Word::number(0),
+            Word::number(20),
+            Word::with(30, [1, 0, 0]),
+            Word::with(31, [32, 2, 1]),
+        ] {
             assert_eq!(word.permitted(), Err(word));
         }
         for word in [Word::number(99), Word::with(9, [1, 0, 0])] {

@@ -1,5 +1,5 @@
 //! Aliases on random inputs: a book gives the answers that it gives with the aliases replaced by the
-//! CAA records that they lead to.
+//! CAA records that they lead to. So labels are counted to the name that the aliases start from.
 
 use compare::book::{read_raw_record, read_target};
 use compare::generate::Generator;
@@ -100,21 +100,15 @@ fn aliases_stand_for_the_records_that_they_lead_to() {
             let of_resolved = judge(name, &issuer, &account, &method, &resolved);
             let is_alias = |number| records.iter().any(|r| r.is_alias && r.number == number);
             let expected = match of_resolved {
-                Answer::UnknownCritical { name, record } if is_alias(numbers[record]) => {
+                Answer::UnknownCritical { name, record, up } if is_alias(numbers[record]) => {
                     too_many += 1;
                     let record = numbers[record];
-                    Answer::TooManyAliases { name, record }
+                    Answer::TooManyAliases { name, record, up }
                 }
-                Answer::UnknownCritical { name, record } => {
-                    let record = numbers[record];
-                    Answer::UnknownCritical { name, record }
+                other => {
+                    others += usize::from(matches!(other, Answer::NotGranted { .. }));
+                    other.with(|[name, record, up]| [name, numbers[record], up])
                 }
-                Answer::NotGranted { name, record } => {
-                    others += 1;
-                    let record = numbers[record];
-                    Answer::NotGranted { name, record }
-                }
-                other => other,
             };
             assert_eq!(answer, expected);
         }

@@ -50,7 +50,7 @@ fn whole_case_folder() -> PathBuf {
 fn the_whole_case() {
     assert_eq!(
         judge_folder(&whole_case_folder()).to_string(),
-        "verdict 21 name 1 record 3"
+        "verdict 21 name 1 record 3 up 0"
     );
 }
 
@@ -118,13 +118,13 @@ fn account_and_method_files_are_taken_octet_for_octet() {
     let folder = folder.with("account.txt", b"https://x/1\n");
     assert_eq!(folder.line(), "refused 15 at 0");
     let folder = folder.with("account.txt", b"https://x/2");
-    assert_eq!(folder.line(), "verdict 21 name 0 record 0");
+    assert_eq!(folder.line(), "verdict 21 name 0 record 0 up 0");
     let folder = folder
         .with("account.txt", b"https://x/1")
         .with("method.txt", b"dns-01\n");
     assert_eq!(folder.line(), "refused 15 at 0");
     let folder = folder.with("method.txt", b"DNS-01");
-    assert_eq!(folder.line(), "verdict 21 name 0 record 0");
+    assert_eq!(folder.line(), "verdict 21 name 0 record 0 up 0");
     // A bad issuer name is told first.
     let folder = folder.with("method.txt", b"").with("issuer.txt", b"x\n");
     assert_eq!(folder.line(), "refused 4 at 0");
@@ -137,7 +137,11 @@ fn aliases_are_told() {
         .with("request.bin", REQUEST)
         .with("issuer.txt", b"x")
         .with("book.bin", to_itself);
-    assert_eq!(folder.line(), "verdict 22 name 0 record 0");
+    assert_eq!(folder.line(), "verdict 22 name 0 record 0 up 0");
+    // The star is not counted.
+    let folder = folder.with("request.bin", b"\x01*\x01w\x01x\x01a\x00");
+    assert_eq!(folder.line(), "verdict 22 name 0 record 0 up 2");
+    let folder = folder.with("request.bin", REQUEST);
     let folder = folder.with("book.bin", &to_itself.repeat(2));
     assert_eq!(folder.line(), "refused 12 at 1");
     let folder = folder.with("book.bin", &to_itself[..to_itself.len() - 1]);

@@ -41,7 +41,10 @@ fn stored_cases_are_run() {
 #[test]
 fn a_folder_is_judged() {
     for (folder, line) in [
-        ("../examples/whole-case", "verdict 21 name 1 record 3\n"),
+        (
+            "../examples/whole-case",
+            "verdict 21 name 1 record 3 up 0\n",
+        ),
         ("../examples/no-such-folder", "no book\n"),
     ] {
         let output = run(&["judge", folder]);

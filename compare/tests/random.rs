@@ -4,6 +4,8 @@ use std::collections::BTreeMap;
 
 use compare::book::read_raw_record;
 use compare::generate::{Generator, Inputs};
+use compare::limits::NAME_OCTETS;
+use compare::request::read_requested_name;
 use compare::{judge, permitted_issuers, read_issuer, Answer, Permitted, Refusal};
 
 /// The names of a list, read back from the front of a buffer.
@@ -175,21 +177,7 @@ fn a_verdict_is_that_of_the_first_name_not_permitted() {
         let mut names_before = 0;
         let mut expected = Answer::Permitted;
         for part in &parts {
-            expected = match judge(part) {
-                Answer::NotGranted { name, record } => Answer::NotGranted {
-                    name: names_before + name,
-                    record,
-                },
-                Answer::UnknownCritical { name, record } => Answer::UnknownCritical {
-                    name: names_before + name,
-                    record,
-                },
-                Answer::TooManyAliases { name, record } => Answer::TooManyAliases {
-                    name: names_before + name,
-                    record,
-                },
-                other => other,
-            };
+            expected = judge(part).with(|[name, record, up]| [names_before + name, record, up]);
             if expected != Answer::Permitted {
                 break;
             }
@@ -216,23 +204,62 @@ fn a_record_in_front_moves_the_numbers_and_nothing_else() {
             }
         };
         let judge = |book: &[u8]| judge(&request, &issuer, &account, &method, book);
-        let expected = match judge(&book) {
-            Answer::NotGranted { name, record } => Answer::NotGranted {
-                name,
-                record: record + 1,
-            },
-            Answer::UnknownCritical { name, record } => Answer::UnknownCritical {
-                name,
-                record: record + 1,
-            },
-            Answer::TooManyAliases { name, record } => Answer::TooManyAliases {
-                name,
-                record: record + 1,
-            },
-            other => other,
-        };
+        let expected = judge(&book).with(|[name, record, up]| [name, record + 1, up]);
         let moved = [owner, forbids, &book].concat();
         assert_eq!(judge(&moved), expected);
+    }
+}
+
+/// A verdict's labels lead to the name that it came from: with one of them taken off beforehand one fewer
+/// is told, and with a label before X one more. A star stays where it is, and is not counted.
+#[test]
+fn labels_taken_off_lead_to_the_name_that_decides() {
+    let mut generator = Generator::new(10);
+    let mut told: BTreeMap<usize, usize> = BTreeMap::new();
+    for _ in 0..3_000 {
+        let issuer = generator.issuer();
+        let (account, method) = (generator.account(), generator.method());
+        let (request, book) = match generator.once_in(2) {
+            true => generator.request_and_book_of_heights(),
+            false => any_request_and_book(&mut generator, &account, &method),
+        };
+        let judge = |request: &[u8]| judge(request, &issuer, &account, &method, &book);
+        let mut rest = &request[..];
+        while let Some((requested, behind)) = read_requested_name(rest) {
+            let name = &rest[..rest.len() - behind.len()];
+            rest = behind;
+            let (star, x) = name.split_at(if requested.wildcard { 2 } else { 0 });
+            let answer = judge(name);
+            let mut up = None;
+            answer.with(|numbers| {
+                up = Some(numbers[2]);
+                numbers
+            });
+            let Some(up) = up else {
+                continue;
+            };
+            *told.entry(up.min(3)).or_default() += 1;
+            let mut tail = x;
+            for fewer in 1..=up {
+                tail = &tail[1 + usize::from(tail[0])..];
+                assert_eq!(
+                    judge(&[star, tail].concat()),
+                    answer.with(|[name, record, up]| [name, record, up - fewer])
+                );
+            }
+            // No record has this label.
+            let longer = [star, b"\x03q-q", x].concat();
+            if longer.len() <= NAME_OCTETS {
+                assert_eq!(
+                    judge(&longer),
+                    answer.with(|[name, record, up]| [name, record, up + 1])
+                );
+            }
+        }
+    }
+    for up in 0..=3 {
+        let times = told.get(&up).copied().unwrap_or_default();
+        assert!(times >= 100, "{up} labels came {times} times: {told:?}");
     }
 }
 

@@ -6,7 +6,9 @@ use std::path::Path;
 
 use compare::calls::{Convert, Desk, Judge, Lines, PermittedIssuers};
 use compare::cases::{self, run};
-use compare::{permitted_issuers, read_line, write_line, Answer, Made, Permitted, Word};
+use compare::{
+    permitted_issuers, read_line, read_request, write_line, Answer, Made, Permitted, Word,
+};
 
 #[test]
 fn every_stored_case_is_answered_rightly() {
@@ -42,11 +44,60 @@ fn wrong_cases(desk: Desk) -> usize {
 fn a_desk_with_one_verdict_is_found_out() {
     let judges: [Judge; 3] = [
         |_, _, _, _, _| Ok(Answer::Permitted),
-        |_, _, _, _, _| Ok(Answer::NotGranted { name: 0, record: 0 }),
+        |_, _, _, _, _| {
+            Ok(Answer::NotGranted {
+                name: 0,
+                record: 0,
+                up: 0,
+            })
+        },
         |_, _, _, _, _| Err(Word::number(99)),
     ];
     for judge in judges {
         assert!(wrong_cases(Desk { judge, ..Desk::OWN }) > 50);
+    }
+}
+
+/// One more or fewer than there are, none for all, and counted from the star.
+#[test]
+fn a_desk_that_counts_labels_wrongly_is_found_out() {
+    let judges: [(Judge, usize); 4] = [
+        (
+            |request, issuer, account, method, book| {
+                let answer = compare::judge(request, issuer, account, method, book);
+                Ok(answer.with(|[name, record, up]| [name, record, up + 1]))
+            },
+            200,
+        ),
+        (
+            |request, issuer, account, method, book| {
+                let answer = compare::judge(request, issuer, account, method, book);
+                Ok(answer.with(|[name, record, up]| [name, record, up.saturating_sub(1)]))
+            },
+            50,
+        ),
+        (
+            |request, issuer, account, method, book| {
+                let answer = compare::judge(request, issuer, account, method, book);
+                Ok(answer.with(|[name, record, _]| [name, record, 0]))
+            },
+            50,
+        ),
+        (
+            |request, issuer, account, method, book| {
+                let answer = compare::judge(request, issuer, account, method, book);
+                let names = read_request(request).unwrap_or_default();
+                Ok(answer.with(|[name, record, up]| {
+                    let star = usize::from(names[name].wildcard);
+                    [name, record, up + star]
+                }))
+            },
+            20,
+        ),
+    ];
+    for (number, (judge, at_least)) in judges.into_iter().enumerate() {
+        let wrong = wrong_cases(Desk { judge, ..Desk::OWN });
+        assert!(wrong >= at_least, "judge {number}: {wrong}");
     }
 }
 

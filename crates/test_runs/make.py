@@ -9,11 +9,11 @@ import sys
 from pathlib import Path
 
 sys.dont_write_bytecode = True  # a run leaves nothing but the two files
-from cases import applicants, limits, lines, lists, rfc8659, rule  # noqa: E402
+from cases import aliases, applicants, limits, lines, lists, rfc8659, rule, up  # noqa: E402
 from cases.forms import case_octets, case_line, number  # noqa: E402
 
 here = Path(__file__).resolve().parent
-cases = [case for topic in (rule, rfc8659, limits, lists, lines, applicants) for case in topic.cases]
+cases = [case for topic in (rule, rfc8659, limits, lists, lines, applicants, aliases, up) for case in topic.cases]
 titles = [case.title for case in cases]
 twice = {title for title in titles if titles.count(title) > 1}
 if twice:

@@ -72,8 +72,8 @@ static enum status print_judgement(uint64_t answer)
     case CAA_UNKNOWN_CRITICAL:
     case CAA_NOT_GRANTED:
     case CAA_TOO_MANY_ALIASES:
-        printf("verdict %u name %zu record %zu\n", caa_number(answer), caa_name_number(answer),
-               caa_record_number(answer));
+        printf("verdict %u name %zu record %zu up %zu\n", caa_number(answer), caa_name_number(answer),
+               caa_record_number(answer), caa_labels_off(answer));
         return NOT_PERMITTED;
     default:
         print_other(answer);

@@ -8,7 +8,8 @@ use crate::Refusal;
 
 /// The answer of [`judge`]: a verdict, or a refusal to decide. Issue only on [`Judgement::Permitted`].
 ///
-/// Displayed as the line of the desk program, such as `verdict 21 name 1 record 3`. `{:#}` adds the reason.
+/// Displayed as the line of the desk program, such as `verdict 21 name 1 record 3 up 0`. `{:#}` adds the
+/// reason.
 #[derive(Clone, Copy, Debug, PartialEq, Eq, Hash)]
 #[must_use = "anything but `Permitted` means: don't issue"]
 pub enum Judgement {
@@ -20,6 +21,9 @@ pub enum Judgement {
         name: usize,
         /// The number of the first unknown critical record in that name's relevant set, from 0 over the book.
         record: usize,
+        /// How many labels were taken off the name to reach that set, 0 at the name itself. A star is not a
+        /// label of the name. If aliases led to the set: to reach the name with the first of them.
+        up: usize,
     },
     /// Verdict 21: a name is restricted, and not granted to this issuer for this account and method.
     NotGranted {
@@ -27,6 +31,8 @@ pub enum Judgement {
         name: usize,
         /// The number of the first record that governs it, from 0 over the book.
         record: usize,
+        /// How many labels were taken off the name to reach its relevant set, counted as for verdict 20.
+        up: usize,
     },
     /// Verdict 22: more than 8 aliases (CNAME records) follow one another, so nobody may issue for a name.
     TooManyAliases {
@@ -34,6 +40,8 @@ pub enum Judgement {
         name: usize,
         /// The number of the first of these aliases, from 0 over the book.
         record: usize,
+        /// How many labels were taken off the name to reach the owner of that alias, counted as for verdict 20.
+        up: usize,
     },
     /// Nothing was decided.
     Refused(Refusal),
@@ -84,17 +92,20 @@ impl Judgement {
                 number: 20,
                 a: name,
                 b: record,
-            } => Judgement::UnknownCritical { name, record },
+                c: up,
+            } => Judgement::UnknownCritical { name, record, up },
             Word {
                 number: 21,
                 a: name,
                 b: record,
-            } => Judgement::NotGranted { name, record },
+                c: up,
+            } => Judgement::NotGranted { name, record, up },
             Word {
                 number: 22,
                 a: name,
                 b: record,
-            } => Judgement::TooManyAliases { name, record },
+                c: up,
+            } => Judgement::TooManyAliases { name, record, up },
             _ => Judgement::Refused(word.refusal()),
         }
     }
@@ -104,11 +115,11 @@ impl fmt::Display for Judgement {
     fn fmt(&self, f: &mut fmt::Formatter<'_>) -> fmt::Result {
         match self {
             Judgement::Permitted => write!(f, "verdict 0")?,
-            Judgement::UnknownCritical { name, record }
-            | Judgement::NotGranted { name, record }
-            | Judgement::TooManyAliases { name, record } => {
+            Judgement::UnknownCritical { name, record, up }
+            | Judgement::NotGranted { name, record, up }
+            | Judgement::TooManyAliases { name, record, up } => {
                 let number = self.number();
-                write!(f, "verdict {number} name {name} record {record}")?;
+                write!(f, "verdict {number} name {name} record {record} up {up}")?;
             }
             Judgement::Refused(refusal) => return refusal.fmt(f),
         }
@@ -154,7 +165,12 @@ mod tests {
     #[test]
     fn a_number_of_a_newer_library_is_no_permission() {
         for number in [13, 23, 30, 255] {
-            let judgement = Judgement::of(Word { number, a: 1, b: 2 });
+            let judgement = Judgement::of(Word {
+                number,
+                a: 1,
+                b: 2,
+                c: 3,
+            });
             let unknown = Refusal::Unknown { number, place: 1 };
             assert_eq!(judgement, Judgement::Refused(unknown));
             assert!(!judgement.is_permitted());
@@ -162,19 +178,44 @@ mod tests {
     }
 
     #[test]
+    fn each_field_of_a_verdict_is_told() {
+        let of = |number| {
+            Judgement::of(Word {
+                number,
+                a: 249,
+                b: 1_023,
+                c: 126,
+            })
+        };
+        let (name, record, up) = (249, 1_023, 126);
+        assert_eq!(of(20), Judgement::UnknownCritical { name, record, up });
+        assert_eq!(of(21), Judgement::NotGranted { name, record, up });
+        assert_eq!(of(22), Judgement::TooManyAliases { name, record, up });
+        for number in 20..=22 {
+            assert!(!of(number).is_permitted());
+            assert_eq!(
+                of(number).to_string(),
+                format!("verdict {number} name 249 record 1023 up 126")
+            );
+        }
+    }
+
+    #[test]
     fn the_desk_s_line_and_the_reason() {
-        let judgement = Judgement::NotGranted { name: 1, record: 3 };
-        assert_eq!(judgement.to_string(), "verdict 21 name 1 record 3");
-        let judgement = Judgement::of(Word {
-            number: 22,
-            a: 1,
-            b: 3,
-        });
-        assert_eq!(judgement, Judgement::TooManyAliases { name: 1, record: 3 });
-        assert!(!judgement.is_permitted());
+        let judgement = Judgement::NotGranted {
+            name: 1,
+            record: 3,
+            up: 0,
+        };
+        assert_eq!(judgement.to_string(), "verdict 21 name 1 record 3 up 0");
+        let judgement = Judgement::TooManyAliases {
+            name: 1,
+            record: 3,
+            up: 2,
+        };
         assert_eq!(
             format!("{judgement:#}"),
-            "verdict 22 name 1 record 3: this record is the first of more than 8 aliases \
+            "verdict 22 name 1 record 3 up 2: this record is the first of more than 8 aliases \
              that follow one another, so nobody may issue for this name"
         );
         assert_eq!(Judgement::Permitted.to_string(), "verdict 0");

@@ -27,7 +27,8 @@
 //! );
 //! assert_eq!(
 //!     judge(request, b"notca1.example.net", account, method, book),
-//!     Judgement::NotGranted { name: 0, record: 0 }
+//!     // The first name, by the first record, which stands one label up: www is taken off.
+//!     Judgement::NotGranted { name: 0, record: 0, up: 1 }
 //! );
 //!
 //! let mut buffer = vec![0; book.len()];

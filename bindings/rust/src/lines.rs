@@ -70,6 +70,7 @@ mod tests {
             number: 0,
             a: 3,
             b: 0,
+            c: 0,
         };
         assert_eq!(made(word, b"abc"), Ok(&b"abc"[..]));
         assert_eq!(

@@ -2,13 +2,13 @@
 
 use crate::Refusal;
 
-/// The number in bits 0 to 7, field `a` in bits 8 to 31, `b` in bits 32 to 47. Bits 48 to 63 are not
-/// used yet.
+/// The number in bits 0 to 7, field `a` in bits 8 to 31, `b` in bits 32 to 47, `c` in bits 48 to 63.
 #[derive(Clone, Copy, Debug, PartialEq, Eq)]
 pub struct Word {
     pub number: u8,
     pub a: usize,
     pub b: usize,
+    pub c: usize,
 }
 
 impl Word {
@@ -17,6 +17,7 @@ impl Word {
             number: (word & 0xFF) as u8,
             a: (word >> 8 & 0xFF_FFFF) as usize,
             b: (word >> 32 & 0xFFFF) as usize,
+            c: (word >> 48) as usize,
         }
     }
 
@@ -38,7 +39,8 @@ mod tests {
             Word {
                 number: 0xEF,
                 a: 0x89_ABCD,
-                b: 0x4567
+                b: 0x4567,
+                c: 0x0123
             }
         );
     }

@@ -8,14 +8,19 @@ use splinepearl::{Judgement, PermittedIssuers, Refusal};
 const CA1: &[u8] = b"ca1.example.net";
 const CA2: &[u8] = b"ca2.example.org";
 
-/// Record `record` governs the first name, and grants it to ca1 alone.
+/// Record `record` governs the first name, and grants it to ca1 alone. Its set, or the alias that leads
+/// there, stands so many labels up.
 #[track_caller]
-fn granted_to_ca1(names: &[&str], book: &[u8], record: usize) {
+fn granted_to_ca1(names: &[&str], book: &[u8], record: usize, up: usize) {
     let request = request(names);
     assert_eq!(judge(&request, CA1, book), Judgement::Permitted);
     assert_eq!(
         judge(&request, CA2, book),
-        Judgement::NotGranted { name: 0, record }
+        Judgement::NotGranted {
+            name: 0,
+            record,
+            up
+        }
     );
     let mut buffer = vec![0; book.len()];
     match permitted_issuers(&request, book, &mut buffer) {
@@ -36,11 +41,11 @@ fn unrestricted(names: &[&str], book: &[u8]) {
 
 /// Verdict 22, and an empty list that needs no room.
 #[track_caller]
-fn too_many(names: &[&str], book: &[u8], name: usize, record: usize) {
+fn too_many(names: &[&str], book: &[u8], [name, record, up]: [usize; 3]) {
     let request = request(names);
     assert_eq!(
         judge(&request, CA1, book),
-        Judgement::TooManyAliases { name, record }
+        Judgement::TooManyAliases { name, record, up }
     );
     let mut buffer = [0xA5; 8];
     for room in [0, 8] {
@@ -88,17 +93,18 @@ fn chain(owner: &str, prefix: &str, count: usize) -> Vec<u8> {
 fn the_target_s_records_count() {
     let alias = cname("www.example.com", "web.example.org");
     let book = [alias, ca1("web.example.org"), ca2("example.com")].concat();
-    granted_to_ca1(&["www.example.com"], &book, 1);
-    granted_to_ca1(&["*.www.example.com"], &book, 1);
+    granted_to_ca1(&["www.example.com"], &book, 1, 0);
+    granted_to_ca1(&["*.www.example.com"], &book, 1, 0);
     // Below an alias, the climb comes to it.
-    granted_to_ca1(&["a.b.www.example.com"], &book, 1);
+    granted_to_ca1(&["a.b.www.example.com"], &book, 1, 2);
+    granted_to_ca1(&["*.a.b.www.example.com"], &book, 1, 2);
 }
 
 #[test]
 fn letter_case_does_not_count() {
     let alias = cname("WWW.example.com", "web.EXAMPLE.org");
     let book = [alias, ca1("Web.example.ORG")].concat();
-    granted_to_ca1(&["www.Example.com"], &book, 1);
+    granted_to_ca1(&["www.Example.com"], &book, 1, 0);
 }
 
 #[test]
@@ -111,7 +117,7 @@ fn targets_of_every_kind() {
         "",
     ] {
         let book = [cname("www.example.com", target), ca1(target)].concat();
-        granted_to_ca1(&["www.example.com"], &book, 1);
+        granted_to_ca1(&["www.example.com"], &book, 1, 0);
     }
 }
 
@@ -120,7 +126,7 @@ fn targets_of_every_kind() {
 fn the_target_is_not_climbed() {
     let alias = cname("www.example.com", "web.example.org");
     let book = [alias.clone(), ca2("example.org"), ca1("example.com")].concat();
-    granted_to_ca1(&["www.example.com"], &book, 2);
+    granted_to_ca1(&["www.example.com"], &book, 2, 1);
     let book = [alias, ca2("example.org"), ca2("org")].concat();
     unrestricted(&["www.example.com"], &book);
 }
@@ -142,51 +148,58 @@ fn eight_aliases_and_nine() {
         [ca2("elsewhere"), chain, ca1(&format!("t{count}"))].concat()
     };
     for count in 1..=8 {
-        granted_to_ca1(&["www.example.com"], &book(count), count + 1);
+        granted_to_ca1(&["www.example.com"], &book(count), count + 1, 0);
     }
-    too_many(&["www.example.com"], &book(9), 0, 1);
-    too_many(&["*.www.example.com"], &book(9), 0, 1);
+    too_many(&["www.example.com"], &book(9), [0, 1, 0]);
+    too_many(&["*.www.example.com"], &book(9), [0, 1, 0]);
+    too_many(&["*.a.b.c.www.example.com"], &book(9), [0, 1, 3]);
     // From the first target it is one less.
-    granted_to_ca1(&["t1"], &book(9), 10);
+    granted_to_ca1(&["t1"], &book(9), 10, 0);
 }
 
 #[test]
 fn loops() {
     let book = [cname("b", "a"), cname("a", "B"), ca1("com")].concat();
-    too_many(&["a"], &book, 0, 1);
-    too_many(&["b"], &book, 0, 0);
+    too_many(&["a"], &book, [0, 1, 0]);
+    too_many(&["b"], &book, [0, 0, 0]);
     // The climb doesn't go on above an alias without an end.
-    too_many(&["x.a"], &book, 0, 1);
+    too_many(&["x.a"], &book, [0, 1, 1]);
     let book = [cname("a.com", "a.com"), ca1("com")].concat();
-    too_many(&["a.com"], &book, 0, 0);
+    too_many(&["a.com"], &book, [0, 0, 0]);
     // What stands nearer than the alias decides.
-    granted_to_ca1(&["x.a"], &[cname("a", "a"), ca1("x.a")].concat(), 1);
+    granted_to_ca1(&["x.a"], &[cname("a", "a"), ca1("x.a")].concat(), 1, 0);
 }
 
 #[test]
 fn aliases_are_counted_anew_at_each_name() {
     let below = chain("x.y", "c", 5);
     let above = chain("y", "d", 5);
-    granted_to_ca1(&["x.y"], &[below, above, ca1("d5")].concat(), 10);
+    granted_to_ca1(&["x.y"], &[below, above, ca1("d5")].concat(), 10, 1);
     // The first alias of the name looked at is told, not that of the requested name.
     let book = [chain("x.y", "c", 5), chain("y", "d", 9)].concat();
-    too_many(&["x.y"], &book, 0, 5);
+    too_many(&["x.y"], &book, [0, 5, 1]);
 }
 
 #[test]
 fn the_lowest_name_decides() {
     let book = [cname("a", "a"), ca1("b"), ca2("c")].concat();
-    too_many(&["b", "a"], &book, 1, 0);
-    too_many(&["a", "c"], &book, 0, 0);
+    too_many(&["b", "a"], &book, [1, 0, 0]);
+    too_many(&["a", "c"], &book, [0, 0, 0]);
+    // The labels of the name that decides, whatever the others have.
+    too_many(&["x.y.z.b", "x.a"], &book, [1, 0, 1]);
     assert_eq!(
         judge(&request(&["c", "a"]), CA1, &book),
-        Judgement::NotGranted { name: 0, record: 2 }
+        Judgement::NotGranted {
+            name: 0,
+            record: 2,
+            up: 0
+        }
     );
 }
 
 #[test]
 fn a_name_without_records_beside_one_without_an_end() {
-    too_many(&["open.example", "a"], &cname("a", "a"), 1, 0);
+    too_many(&["open.example", "a"], &cname("a", "a"), [1, 0, 0]);
 }
 
 /// Type 5 of another class, and DNAME, are no aliases; their data may hold anything.
@@ -196,7 +209,7 @@ fn other_types_and_classes() {
     other_class[20] = 3;
     let dname = record("www.example.com", 39, &[0xC0]);
     let book = [other_class, dname, ca1("www.example.com")].concat();
-    granted_to_ca1(&["www.example.com"], &book, 2);
+    granted_to_ca1(&["www.example.com"], &book, 2, 0);
 }
 
 #[test]

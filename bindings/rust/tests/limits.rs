@@ -142,7 +142,11 @@ fn grants(parameters: &str, granted: bool) {
     let verdict = if granted {
         Judgement::Permitted
     } else {
-        Judgement::NotGranted { name: 0, record: 0 }
+        Judgement::NotGranted {
+            name: 0,
+            record: 0,
+            up: 0,
+        }
     };
     assert_eq!(judge(&name("a"), ISSUER, ACCOUNT, METHOD, &book), verdict);
     let mut buffer = vec![0; book.len()];

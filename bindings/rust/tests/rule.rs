@@ -33,7 +33,11 @@ fn nobody() {
     let (request, book) = (name("example.com"), caa("example.com", "issue", ";"));
     assert_eq!(
         judge(&request, b"ca1.example.net", &book),
-        Judgement::NotGranted { name: 0, record: 0 }
+        Judgement::NotGranted {
+            name: 0,
+            record: 0,
+            up: 0
+        }
     );
     match permitted_issuers(&request, &book, &mut []) {
         PermittedIssuers::List(list) => assert!(list.is_empty()),
@@ -49,8 +53,15 @@ fn unknown_critical() {
         record("example.com", 1, &[192, 0, 2, 1]),
     );
     let judgement = judge(&request, b"x", &[address, tbs(128)].concat());
-    assert_eq!(judgement, Judgement::UnknownCritical { name: 0, record: 1 });
-    assert_eq!(judgement.to_string(), "verdict 20 name 0 record 1");
+    assert_eq!(
+        judgement,
+        Judgement::UnknownCritical {
+            name: 0,
+            record: 1,
+            up: 1
+        }
+    );
+    assert_eq!(judgement.to_string(), "verdict 20 name 0 record 1 up 1");
     assert!(judge(&request, b"x", &tbs(127)).is_permitted());
 }
 
@@ -64,7 +75,8 @@ fn the_largest_numbers() {
         judge(&request, b"ca1.example.net", &book),
         Judgement::NotGranted {
             name: 249,
-            record: 1_023
+            record: 1_023,
+            up: 0
         }
     );
     let issuers: Vec<String> = (0..1_024).map(|k| format!("ca{k}.example")).collect();
@@ -76,6 +88,31 @@ fn the_largest_numbers() {
     match permitted_issuers(&request, &book, &mut buffer) {
         PermittedIssuers::List(list) => assert!(list.into_iter().eq(&issuers)),
         other => panic!("{other}"),
+    }
+}
+
+/// From the name itself, its parent and the top label of the deepest name. A star is not counted.
+#[test]
+fn labels_taken_off() {
+    let book = caa("example.com", "issue", "ca2.example.org");
+    let deepest = format!("{}c", "a.".repeat(126));
+    for (requested, book, up) in [
+        ("example.com", &book, 0),
+        ("www.example.com", &book, 1),
+        ("a.b.www.example.com", &book, 3),
+        ("*.example.com", &book, 0),
+        ("*.www.example.com", &book, 1),
+        (&deepest, &caa("c", "issue", ";"), 126),
+    ] {
+        assert_eq!(
+            judge(&name(requested), b"ca1.example.net", book),
+            Judgement::NotGranted {
+                name: 0,
+                record: 0,
+                up
+            },
+            "{requested}"
+        );
     }
 }
 

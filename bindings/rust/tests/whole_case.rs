@@ -28,12 +28,23 @@ fn www_and_pay() {
     );
 
     let judgement = judge(&request, b"ca1.example.net", &book);
-    assert_eq!(judgement, Judgement::NotGranted { name: 1, record: 3 });
-    assert_eq!(judgement.to_string(), "verdict 21 name 1 record 3");
+    assert_eq!(
+        judgement,
+        Judgement::NotGranted {
+            name: 1,
+            record: 3,
+            up: 0
+        }
+    );
+    assert_eq!(judgement.to_string(), "verdict 21 name 1 record 3 up 0");
     assert!(judge(&request, b"ca2.example.org", &book).is_permitted());
     assert_eq!(
         judge(&request, b"ca3.example.com", &book),
-        Judgement::NotGranted { name: 0, record: 0 }
+        Judgement::NotGranted {
+            name: 0,
+            record: 0,
+            up: 1
+        }
     );
 
     let mut buffer = vec![FILL; book.len()];

@@ -36,12 +36,9 @@ struct Climb {
     restricted: bool,
 }
 
-/// Where a verdict came from the set of this name.
-pub fn count_of_name(tally: &mut Tally, request: &[u8], book: &[u8], name: usize) {
-    let climbs = climbs(request, book).unwrap_or_default();
-    if let Some(height) = climbs.get(name).and_then(|climb| climb.height) {
-        tally.count(kind(height));
-    }
+/// Where a verdict says how far up its set stood.
+pub fn count_verdict(tally: &mut Tally, up: usize) {
+    tally.count(kind(up));
 }
 
 /// Where a list came from all restricted names: the farthest set.
@@ -110,14 +107,12 @@ mod tests {
             (126, "100 and more: 1"),
         ] {
             let book = record(&name[2 * height..], governs);
-            for count in [
-                count_of_restricted,
-                |tally: &mut Tally, request: &_, book: &_| count_of_name(tally, request, book, 0),
-            ] {
-                let mut tally = Tally::new(&OF_LISTS);
-                count(&mut tally, &name, &book);
-                assert!(tally.to_string().contains(counted), "{height}: {tally}");
-            }
+            let mut tally = Tally::new(&OF_LISTS);
+            count_of_restricted(&mut tally, &name, &book);
+            assert!(tally.to_string().contains(counted), "{height}: {tally}");
+            let mut tally = Tally::new(&OF_VERDICTS);
+            count_verdict(&mut tally, height);
+            assert!(tally.to_string().contains(counted), "{height}: {tally}");
             let mut tally = Tally::new(&OF_VERDICTS);
             count_in_vain(&mut tally, &name, &book);
             assert!(

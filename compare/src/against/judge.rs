@@ -1,10 +1,11 @@
 //! The judge against ours.
 
 use super::aliases::{self, count_aliases};
-use super::heights::{self, count_in_vain, count_of_name};
+use super::heights::{self, count_in_vain, count_verdict};
 use super::limits::{self, count_limits};
 use super::log::{Call, Differences, Tally};
 use super::parameters::{self, count_parameters};
+use super::up::{self, count_up, ToldUp};
 use super::Part;
 use crate::answer::Answer;
 use crate::calls::{told, Judge};
@@ -36,6 +37,7 @@ pub struct JudgeComparison {
     tally: Tally,
     /// Of the generated cases alone, like the limits.
     heights: Tally,
+    up: Tally,
     limits: Tally,
     parameters: Tally,
     aliases: Tally,
@@ -47,6 +49,7 @@ impl JudgeComparison {
             theirs,
             tally: Tally::new(&JUDGE),
             heights: Tally::new(&heights::OF_VERDICTS),
+            up: Tally::new(&up::OF_VERDICTS),
             limits: Tally::new(&limits::OF_VERDICTS),
             parameters: Tally::new(&parameters::OF_VERDICTS),
             aliases: Tally::new(&aliases::OF_VERDICTS),
@@ -104,10 +107,16 @@ impl Part for JudgeComparison {
         }
         match answer {
             Answer::Permitted => count_in_vain(&mut self.heights, request, book),
-            Answer::UnknownCritical { name, .. }
-            | Answer::NotGranted { name, .. }
-            | Answer::TooManyAliases { name, .. } => {
-                count_of_name(&mut self.heights, request, book, name);
+            Answer::UnknownCritical { name, up, .. }
+            | Answer::NotGranted { name, up, .. }
+            | Answer::TooManyAliases { name, up, .. } => {
+                count_verdict(&mut self.heights, up);
+                let told = ToldUp {
+                    verdict: kind(answer),
+                    name,
+                    up,
+                };
+                count_up(&mut self.up, request, book, told);
             }
             Answer::Refused(_) => {}
         }
@@ -117,6 +126,7 @@ impl Part for JudgeComparison {
         vec![
             self.tally,
             self.heights,
+            self.up,
             self.limits,
             self.parameters,
             self.aliases,

@@ -10,6 +10,7 @@ mod list;
 mod log;
 mod parameters;
 mod readers;
+mod up;
 
 use std::fmt;
 

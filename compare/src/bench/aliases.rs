@@ -109,7 +109,12 @@ mod tests {
                 judge(request, issuer.as_bytes(), ACCOUNT, METHOD, book)
             };
             assert_eq!(by(ISSUER), Answer::Permitted);
-            let refused = Answer::NotGranted { name: 0, record: 0 };
+            // The set stands at the top, or its aliases start there.
+            let refused = Answer::NotGranted {
+                name: 0,
+                record: 0,
+                up: DEEPEST_OF_ALL - 1,
+            };
             assert_eq!(by("ca9.example.net"), refused);
         }
     }

@@ -220,41 +220,51 @@ fn many_sets(octets: usize) -> Alike {
 }
 
 /// Deep names whose every ancestor has one key and goes along as many aliases as are followed. That of
-/// the top leads to the one set. All owners have the key; the aliases that no look comes to fill the
-/// book.
+/// the top leads to the one set. All owners have the key. The aliases that the looks begin with stand
+/// last, so that each look passes by all other records. Aliases that no look comes to fill the book:
+/// their owners differ from an ancestor in two octets, and their targets are found last.
 fn chains_of_aliases() -> Alike {
     let name = deepest(&wire("kk"), REQUEST_OCTETS / REQUEST_NAMES);
-    let other = longer(&[0], 17, key(&name))
-        .next()
-        .expect("an owner has the key");
-    let other = |number| numbered(&other, unread(&other), number);
     let starts: Vec<&[u8]> = ancestors(&name).collect();
     let labels = starts.len();
-    let set = other(0);
-    let mut records = vec![full_record(&set, SHORT)];
+    let between = longer(&[0], 19, key(&name))
+        .next()
+        .expect("an owner has the key");
+    let between = |number| numbered(&between, unread(&between), number);
+    let set = between(0);
+    let mut behind = vec![full_record(&set, SHORT)];
+    let mut first = Vec::new();
     for (chain, start) in starts.iter().enumerate() {
         for number in ALIASES * chain..ALIASES * (chain + 1) {
-            let owner = match number % ALIASES {
-                0 => start.to_vec(),
-                _ => other(number),
-            };
             let target = match number + 1 == ALIASES * labels {
                 true => set.clone(),
-                false => other(number + 1),
+                false => between(number + 1),
             };
-            records.push(cname(&owner, &target));
+            match number % ALIASES {
+                0 => first.push(cname(start, &target)),
+                _ => behind.push(cname(&between(number), &target)),
+            }
         }
     }
-    for number in records.len()..BOOK_RECORDS {
-        records.push(cname(&other(number), &other(number + 1)));
+    behind.extend(first);
+    let rest = behind.concat();
+    let ancestor = ancestors(&name).find(|x| x.len() <= 33).expect("the top");
+    let mut book = Vec::new();
+    for number in 0..BOOK_RECORDS - behind.len() {
+        let owner = numbered(ancestor, unread(ancestor), number);
+        let record = cname(&owner, starts[labels - 1]);
+        if owner != ancestor && book.len() + record.len() + rest.len() <= BOOK_OCTETS {
+            book.extend(record);
+        }
     }
+    book.extend(rest);
     Alike {
         title: format!(
             "keys alike, {REQUEST_NAMES} names of {labels} labels, aliases in chains of {ALIASES}"
         ),
         request: name.repeat(REQUEST_NAMES),
         issuer: SHORT,
-        book: book_of(|record| records[record].clone()),
+        book,
     }
 }
 

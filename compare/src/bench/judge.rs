@@ -224,7 +224,7 @@ mod tests {
     use super::*;
     use crate::book::RecordData;
     use crate::judge::judge;
-    use crate::read_book;
+    use crate::{read_book, read_request};
 
     #[test]
     fn every_load_is_permitted() {
@@ -265,11 +265,29 @@ mod tests {
             let title = &load.title;
             if title.contains("no set") {
                 assert_eq!(answer, Answer::Permitted, "{title}");
-            } else if title.contains("set at the top") || title.contains("found at the top") {
-                let record = records - 1;
-                assert_eq!(answer, Answer::NotGranted { name: 0, record }, "{title}");
+                continue;
+            }
+            let Answer::NotGranted { name, record, up } = answer else {
+                panic!("{title}: {answer}");
+            };
+            assert_eq!(name, 0, "{title}");
+            let top = read_request(&load.request).unwrap()[0]
+                .fqdn
+                .labels()
+                .count()
+                - 1;
+            if title.contains("set at the top") || title.contains("found at the top") {
+                assert_eq!((record, up), (records - 1, top), "{title}");
             } else {
-                assert_eq!(answer, Answer::NotGranted { name: 0, record: 0 }, "{title}");
+                assert_eq!(record, 0, "{title}");
+            }
+            for (said, taken_off) in [
+                ("found at X", 0),
+                ("found at the parent", 1),
+                ("records at the top", top),
+                ("records at two tops", top),
+            ] {
+                assert!(!title.contains(said) || up == taken_off, "{title}: {up}");
             }
         }
     }

@@ -162,7 +162,7 @@ fn look_at(load: &Load, library: Judge) -> Result<Seen, String> {
     };
 
     for name in names_of(&load.request) {
-        is_restricted_and_granted(load, name, library)?;
+        is_restricted_and_granted(load, name, up, library)?;
     }
     Ok(Seen {
         owners: owners.len(),
@@ -181,8 +181,14 @@ pub fn names_of(request: &[u8]) -> impl Iterator<Item = &[u8]> {
     })
 }
 
-/// The one name alone, judged for the load's issuer and for another one.
-fn is_restricted_and_granted(load: &Load, name: &[u8], library: Judge) -> Result<(), String> {
+/// The one name alone, judged for the load's issuer and for another one. Its set stands so many labels
+/// up.
+fn is_restricted_and_granted(
+    load: &Load,
+    name: &[u8],
+    up: usize,
+    library: Judge,
+) -> Result<(), String> {
     let judges: [(&str, Judge); 3] = [
         ("library", library),
         ("independent", Desk::OWN.judge),
@@ -193,16 +199,17 @@ fn is_restricted_and_granted(load: &Load, name: &[u8], library: Judge) -> Result
     for (side, judge) in judges {
         let granted = judge(name, &load.issuer, ACCOUNT, METHOD, &load.book);
         let other = judge(name, OTHER_ISSUER, ACCOUNT, METHOD, &load.book);
-        match (granted, other) {
-            (Ok(Answer::Permitted), Ok(Answer::NotGranted { .. })) => {}
-            _ => {
-                return Err(format!(
-                    "{}: a name is not restricted and granted, by the {side}: {}, for another issuer {}",
-                    load.title,
-                    told(granted),
-                    told(other)
-                ))
-            }
+        let is_as_said = match (granted, other) {
+            (Ok(Answer::Permitted), Ok(Answer::NotGranted { up: told, .. })) => told == up,
+            _ => false,
+        };
+        if !is_as_said {
+            return Err(format!(
+                "{}: a name is not restricted and granted, by the {side}: {}, for another issuer {}",
+                load.title,
+                told(granted),
+                told(other)
+            ));
         }
     }
     Ok(())

@@ -24,12 +24,14 @@ fn verdict(request: &[u8], issuer: &[u8], asker: Asker, book: &[u8]) -> Result<A
     let records = parse_book(book)?;
     let mut previous = None;
     for (number, name) in names.iter().enumerate() {
-        let set = match climb(&records, name.fqdn) {
+        let (up, looked) = climb(&records, name.fqdn);
+        let set = match looked {
             Ok(set) => set,
             Err(TooManyAliases { first }) => {
                 return Ok(Answer::TooManyAliases {
                     name: number,
                     record: first,
+                    up,
                 })
             }
         };
@@ -40,6 +42,7 @@ fn verdict(request: &[u8], issuer: &[u8], asker: Asker, book: &[u8]) -> Result<A
             return Ok(Answer::UnknownCritical {
                 name: number,
                 record: record.number,
+                up,
             });
         }
         let mut governing = governing(&set, name.wildcard).peekable();
@@ -53,6 +56,7 @@ fn verdict(request: &[u8], issuer: &[u8], asker: Asker, book: &[u8]) -> Result<A
             return Ok(Answer::NotGranted {
                 name: number,
                 record: first,
+                up,
             });
         }
     }
@@ -82,7 +86,7 @@ fn list(
     let mut listed: Option<Vec<&[u8]>> = None;
     for name in &names {
         // Too many aliases grant nobody, whatever the other names say.
-        let Ok(set) = climb(&records, name.fqdn) else {
+        let (_, Ok(set)) = climb(&records, name.fqdn) else {
             listed = Some(Vec::new());
             break;
         };
@@ -211,28 +215,27 @@ struct TooManyAliases {
     first: usize,
 }
 
-/// The set of the nearest name that has one, itself or by aliases. The root is not looked at.
-fn climb<'r, 'a>(
-    records: &'r [Record<'a>],
-    fqdn: &[u8],
-) -> Result<Vec<&'r Record<'a>>, TooManyAliases> {
+type Looked<'r, 'a> = Result<Vec<&'r Record<'a>>, TooManyAliases>;
+
+/// The set of the nearest name that has one, itself or by aliases, behind the number of labels taken off
+/// to get there. The root is not looked at.
+fn climb<'r, 'a>(records: &'r [Record<'a>], fqdn: &[u8]) -> (usize, Looked<'r, 'a>) {
     let mut name = fqdn;
+    let mut up = 0;
     while name != [0] {
-        let set = look(records, name)?;
-        if !set.is_empty() {
-            return Ok(set);
+        match look(records, name) {
+            Ok(set) if set.is_empty() => {}
+            found => return (up, found),
         }
         name = &name[1 + usize::from(name[0])..];
+        up += 1;
     }
-    Ok(Vec::new())
+    (up, Ok(Vec::new()))
 }
 
 /// The CAA records of the name that the aliases lead to from this one. An owner of an alias has no
 /// other record here.
-fn look<'r, 'a>(
-    records: &'r [Record<'a>],
-    name: &[u8],
-) -> Result<Vec<&'r Record<'a>>, TooManyAliases> {
+fn look<'r, 'a>(records: &'r [Record<'a>], name: &[u8]) -> Looked<'r, 'a> {
     let mut set = owned_by(records, name);
     let mut followed = 0;
     let mut first = 0;

@@ -12,13 +12,14 @@ pub use reader::{read_cases, Case};
 pub use runner::{run, Report};
 
 /// Every stored case file, by name.
-pub const FILES: [(&str, &str); 12] = [
+pub const FILES: [(&str, &str); 13] = [
     ("whole-case.txt", include_str!("../../cases/whole-case.txt")),
     ("rfc8659.txt", include_str!("../../cases/rfc8659.txt")),
     ("values.txt", include_str!("../../cases/values.txt")),
     ("accounts.txt", include_str!("../../cases/accounts.txt")),
     ("rule.txt", include_str!("../../cases/rule.txt")),
     ("climb.txt", include_str!("../../cases/climb.txt")),
+    ("up.txt", include_str!("../../cases/up.txt")),
     ("aliases.txt", include_str!("../../cases/aliases.txt")),
     ("permitted.txt", include_str!("../../cases/permitted.txt")),
     ("request.txt", include_str!("../../cases/request.txt")),

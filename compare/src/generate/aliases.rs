@@ -8,7 +8,7 @@ use crate::limits::{BOOK_RECORDS, LABEL_OCTETS, NAME_OCTETS};
 use crate::request::read_requested_name;
 
 /// Aliases of one chain.
-const LENGTHS: [usize; 14] = [1, 1, 1, 2, 3, 4, 7, 8, 8, 8, 8, 9, 9, 10];
+const LENGTHS: [usize; 14] = [1, 2, 3, 4, 5, 6, 7, 8, 8, 8, 8, 9, 9, 10];
 /// Targets that are no name, or not the whole data.
 const WRONG_TARGETS: [&[u8]; 9] = [
     b"",
@@ -60,7 +60,7 @@ impl Generator {
     /// wrong target or a conflict.
     pub(super) fn request_and_book_of_aliases(&mut self) -> (Vec<u8>, Vec<u8>) {
         let (request, mut records) = self.request_and_records_of_aliases();
-        if self.once_in(6) {
+        if self.once_in(4) {
             self.add_conflicts(&mut records);
         }
         if self.once_in(12) {
@@ -236,9 +236,9 @@ impl Generator {
         for _ in 0..self.near_front(&[1, 2]) {
             let beside = records[self.below(records.len())].clone();
             let owner = self.any_case(owner_of(&beside));
-            let record = match self.below(4) {
+            let record = match self.below(5) {
                 0 => beside,
-                1 => {
+                1 | 2 => {
                     let rdata = self.caa_data();
                     self.record_of(owner, 257, 1, &rdata)
                 }
@@ -278,7 +278,7 @@ impl Generator {
 }
 
 /// The name with one label more, where that has room.
-fn with_label(label: &[u8], name: &[u8]) -> Vec<u8> {
+pub(super) fn with_label(label: &[u8], name: &[u8]) -> Vec<u8> {
     match 1 + label.len() + name.len() <= NAME_OCTETS {
         true => [&[label.len() as u8], label, name].concat(),
         false => name.to_vec(),

@@ -43,9 +43,13 @@ impl Generator {
                 let book = self.book_of_limits(&issuer, &account, &method);
                 (self.request(), book, issuer)
             }
-            10..=14 => {
+            10..=13 => {
                 let (request, book) = self.request_and_book_of_aliases();
                 (request, book, self.any_issuer())
+            }
+            14 | 15 => {
+                let (request, book) = self.request_and_book_of_heights();
+                (request, book, self.issuer())
             }
             _ => (self.any_request(), self.any_book(), self.any_issuer()),
         };

@@ -5,6 +5,7 @@ mod applicants;
 mod books;
 mod deep;
 mod every;
+mod heights;
 mod inputs;
 mod lines;
 mod names;

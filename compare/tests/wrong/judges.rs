@@ -1,5 +1,7 @@
 //! Judges that answer wrongly to what they judged rightly.
 
+use std::cell::Cell;
+
 use compare::against::Other;
 use compare::calls::Judge;
 use compare::limits::{APPLICANT_OCTETS, BOOK_OCTETS, ISSUER_OCTETS, REQUEST_OCTETS};
@@ -11,6 +13,14 @@ use super::is_found_at_random;
 const TOO_LONG_A_REQUEST: usize = REQUEST_OCTETS + 1;
 const TOO_LONG_A_BOOK: usize = BOOK_OCTETS + 1;
 
+/// A change of a verdict's numbers, and the verdict whose are changed.
+type WrongNumbers = (fn([usize; 3]) -> [usize; 3], fn(&Answer) -> bool);
+
+thread_local! {
+    /// A judge is a plain function, so it is told here what to change.
+    static WRONG_NUMBERS: Cell<WrongNumbers> = const { Cell::new((|numbers| numbers, |_| false)) };
+}
+
 #[test]
 fn wrong_judges_are_found_out() {
     let wrong_ones: [Judge; 9] = [
@@ -18,9 +28,10 @@ fn wrong_judges_are_found_out() {
         |_, _, _, _, _| Err(Word::number(99)),
         |request, issuer, account, method, book| match judge(request, issuer, account, method, book)
         {
-            Answer::NotGranted { name, record } => Ok(Answer::NotGranted {
+            Answer::NotGranted { name, record, up } => Ok(Answer::NotGranted {
                 name: record,
                 record: name,
+                up,
             }),
             other => Ok(other),
         },
@@ -112,9 +123,10 @@ fn judges_that_leave_out_what_stands_far_behind_are_found_out() {
         // Keeps a record number in one octet.
         |request, issuer, account, method, book| match judge(request, issuer, account, method, book)
         {
-            Answer::NotGranted { name, record } => Ok(Answer::NotGranted {
+            Answer::NotGranted { name, record, up } => Ok(Answer::NotGranted {
                 name,
                 record: record % 256,
+                up,
             }),
             other => Ok(other),
         },
@@ -301,23 +313,27 @@ fn judges_that_tell_aliases_wrongly_are_found_out() {
         },
         |request, issuer, account, method, book| match judge(request, issuer, account, method, book)
         {
-            Answer::TooManyAliases { name, record } => Ok(Answer::NotGranted { name, record }),
+            Answer::TooManyAliases { name, record, up } => {
+                Ok(Answer::NotGranted { name, record, up })
+            }
             other => Ok(other),
         },
         |request, issuer, account, method, book| match judge(request, issuer, account, method, book)
         {
-            Answer::TooManyAliases { name, record } => Ok(Answer::TooManyAliases {
+            Answer::TooManyAliases { name, record, up } => Ok(Answer::TooManyAliases {
                 name: record,
                 record: name,
+                up,
             }),
             other => Ok(other),
         },
         // Keeps a record number in one octet.
         |request, issuer, account, method, book| match judge(request, issuer, account, method, book)
         {
-            Answer::TooManyAliases { name, record } => Ok(Answer::TooManyAliases {
+            Answer::TooManyAliases { name, record, up } => Ok(Answer::TooManyAliases {
                 name,
                 record: record % 256,
+                up,
             }),
             other => Ok(other),
         },
@@ -338,6 +354,37 @@ fn judges_that_tell_aliases_wrongly_are_found_out() {
             other => Ok(other),
         },
     ]);
+}
+
+/// How labels are counted wrongly is among the mistakes in the rule.
+#[test]
+fn judges_that_tell_labels_taken_off_wrongly_are_found_out() {
+    let wrong_ones: [fn([usize; 3]) -> [usize; 3]; 4] = [
+        // In the place of the record, and of the name.
+        |[name, record, up]| [name, up, record],
+        |[name, record, up]| [up, record, name],
+        |[name, record, _]| [name, record, 0],
+        // Keeps them in six bits: no name has more than 127 labels.
+        |[name, record, up]| [name, record, up % 64],
+    ];
+    // Each for one verdict alone.
+    let verdicts: [fn(&Answer) -> bool; 3] = [
+        |answer| matches!(answer, Answer::UnknownCritical { .. }),
+        |answer| matches!(answer, Answer::NotGranted { .. }),
+        |answer| matches!(answer, Answer::TooManyAliases { .. }),
+    ];
+    for numbers in wrong_ones {
+        for is_wrong in verdicts {
+            WRONG_NUMBERS.set((numbers, is_wrong));
+            all_are_found_out(&[|request, issuer, account, method, book| {
+                let (numbers, is_wrong) = WRONG_NUMBERS.get();
+                Ok(match judge(request, issuer, account, method, book) {
+                    answer if is_wrong(&answer) => answer.with(numbers),
+                    answer => answer,
+                })
+            }]);
+        }
+    }
 }
 
 /// The text without these octets.

@@ -95,6 +95,21 @@ nearestFrom (suc steps) book table links heads onward s at =
 unfoldable pub nearestRecord : List ℕ → List ℕ → List ℕ → List ℕ → List ℕ → List ℕ → FirstRecord
 nearestRecord book table links heads onward s = nearestFrom (length s) book table links heads onward s 0
 
+-- How many labels the same climb takes off: one for each name whose lookup finds nothing.
+abbrev pub oneMore : FirstRecord → ℕ → ℕ
+oneMore Nothing above = suc above
+oneMore (At r) above = 0
+
+abbrev pub labelsOffFrom : ℕ → List ℕ → List ℕ → List ℕ → List ℕ → List ℕ → List ℕ → ℕ → ℕ
+labelsOffFrom zero book table links heads onward s at = 0
+labelsOffFrom (suc steps) book table links heads onward s at =
+    cond (eqb (parentPlace s at) at) 0
+    (oneMore (lookedUpAt book table links heads onward (drop at s)) (labelsOffFrom steps book table links heads onward s (parentPlace s at)))
+
+-- How many labels the climb from the whole name s takes off, up to the name where it finds a record: 0 at s itself. If it finds none, all labels.
+unfoldable pub labelsOffAt : List ℕ → List ℕ → List ℕ → List ℕ → List ℕ → List ℕ → ℕ
+labelsOffAt book table links heads onward s = labelsOffFrom (length s) book table links heads onward s 0
+
 -- The set that is named by its first record: all CAA records with the same owner, from there on along the chain.
 unfoldable pub setAt : List ℕ → List ℕ → List ℕ → ℕ → List ℕ
 setAt book table links first = ownedFrom book table links (ownerAt book table first) first

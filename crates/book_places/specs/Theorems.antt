@@ -16,12 +16,12 @@ use Rattle.spec_record.specs.declared.PropertyTag.the-variants.{Issue, IssueWil
 use Rattle.spec_record.specs.Property.{Property, property, tagOf, isCritical}
 use Rattle.spec_record.specs.Records.{Record, isCaa, isAlias, records, bookRefusal}
 use Rattle.spec_applicant.specs.Applicant.{Applicant}
-use Rattle.spec_rule.specs.RelevantSet.{CaaRecord, asBook, Lookup, empty, found, endless, lookup, relevantSet}
+use Rattle.spec_rule.specs.RelevantSet.{CaaRecord, asBook, Lookup, empty, found, endless, lookup, relevantSet, labelsOff}
 use Rattle.spec_rule.specs.Authorizations.{authorizationFrom}
 use Rattle.book_places.specs.Table.{tabled, roomFor, tableOf, ownerAt, dataAt, isCaaAt, isAliasAt}
 use Rattle.book_places.specs.Keys.{keyOf}
 use Rattle.book_places.specs.Chains.{chainsOf}
-use Rattle.book_places.specs.Sets.{isOwnedOf, ownedOf, ownedFrom, firstOf, lookedUpAt, nearestRecord, setAt, dataHasTag, dataIsUnknownCritical, dataGrants, setGrants}
+use Rattle.book_places.specs.Sets.{isOwnedOf, ownedOf, ownedFrom, firstOf, lookedUpAt, nearestRecord, labelsOffAt, setAt, dataHasTag, dataIsUnknownCritical, dataGrants, setGrants}
 use Rattle.book_places.specs.Onward.{onwardOf}
 use Rattle.book_places.specs.declared.Kind.{Kind}
 use Rattle.book_places.specs.NameAuthorizations.{questionNumber, setAuthorization, nameAuthorization, answerTo, setGrantees, meaning}
@@ -119,6 +119,12 @@ Climb-by-offset =
     (book : List ℕ) (x : Name) → bookRefusal book ≡ none → GoodName x →
     Finds book (tableOf book) (chainsOf book .links) (relevantSet (asBook (records book)) x)
     (nearestRecord book (tableOf book) (chainsOf book .links) (chainsOf book .heads) (onwardOf book) (wire x))
+
+-- For an accepted book, the climb by table and chains takes off as many labels as the rule. This holds where nothing is found, too.
+abbrev pub Labels-off-by-offset : Type 0
+Labels-off-by-offset =
+    (book : List ℕ) (x : Name) → bookRefusal book ≡ none → GoodName x →
+    labelsOffAt book (tableOf book) (chainsOf book .links) (chainsOf book .heads) (onwardOf book) (wire x) ≡ labelsOff (asBook (records book)) x
 
 -- The tests on CAA data hold exactly when the property that is read from the data is so. Malformed data passes none of them.
 abbrev pub Tests-of-data : Type 0

@@ -33,6 +33,12 @@ pub enum FirstRecord {
     Nothing,
 }
 
+// The end of a climb: the record found, if there is one, and how many labels were taken off the name.
+pub struct Nearest {
+    pub found: FirstRecord,
+    pub up: usize,
+}
+
 // The records that govern a name: those of the relevant set with one tag. `set` is the first record of the set, `first` the first record that
 // governs.
 pub struct Governing {

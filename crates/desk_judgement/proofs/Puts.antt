@@ -1,17 +1,16 @@
 -- Pieces of a line written one after the other.
 use Prim.Native.Nat.{ℕ, _+_, _-_, _^_, _≤_, _<_}
 use native.Mathlib.Omega.{arith}
-use mathlib.Core.Path.{_≡_, refl, _∙_}
-use mathlib.Core.List.{List, [], _∷_, _++_, append-assoc}
-use lib.ListN.{length, take, drop, set, length-set}
+use mathlib.Core.Path.{_≡_, refl}
+use mathlib.Core.List.{List, _++_, append-assoc}
+use lib.ListN.{length, take, drop}
 use mir.Syntax.{w64}
 use mir.Val.{Fits}
 use Rattle.spec_octets.specs.Buffer.{Put, filled, filledLength}
 use Rattle.text_buffer.proofs.Filled.{put-room}
-use Rattle.text_buffer.proofs.LentRest.{rest-room, put-length, put-more, put-octet}
+use Rattle.text_buffer.proofs.LentRest.{rest-room, put-length, put-more}
 use Rattle.spec_octets.specs.WrittenDecimal.{decimal}
 use Rattle.text_decimal.proofs.DecimalPieces.{decimal-few}
-use Rattle.spec_desk.specs.Lines.{lineEnd, numbered}
 
 -- A text and a number.
 module _ (first d x : List ℕ) (w : ℕ) (put : x ≡ filled first d) (count : w ≡ filledLength first d) (room : length first + 20 ≤ length d) where
@@ -44,23 +43,8 @@ module _ (first d x : List ℕ) (w : ℕ) (put : x ≡ filled first d) (count : 
     pub number-put : Put (first ++ decimal n) d (take w x ++ (y ++ drop (length x - w) (drop w x))) (w + r)
     number-put = put-more first-put (decimal n) (first ++ decimal n) refl y r digits-put
 
--- Two of them, and the line end.
-module _
-    (first second d x y : List ℕ) (a b w r : ℕ) (p : Put (first ++ decimal a) d x w)
-    (q : Put (second ++ decimal b) (take (length x - w) (drop w x)) y r) (short : w ≤ length first + 20) (few : r ≤ length second + 20)
-    (room : length first + length second + 41 ≤ length d) where
-  abbrev both : List ℕ
-  both = take w x ++ (y ++ drop (length x - w) (drop w x))
-
-  both-put : Put (numbered first a second b) d both (w + r)
-  both-put = put-more p (second ++ decimal b) (numbered first a second b) (append-assoc (first ++ decimal a) second (decimal b)) y r q
-
-  both-length : length both ≡ length d
-  both-length = put-length both-put (omega (arith, both-put .count))
-
-  pub numbered-put : Put (numbered first a second b ++ (lineEnd ∷ [])) d (set (take w x ++ (y ++ drop (length x - w) (drop w x))) (w + r) 10) (w + r + 1)
-  numbered-put = put-octet both-put 10 (numbered first a second b ++ (lineEnd ∷ [])) (omega (arith, both-length)) refl
-
-  -- whatever octet is set last
-  pub numbered-same : (z : ℕ) → length (set (take w x ++ (y ++ drop (length x - w) (drop w x))) (w + r) z) ≡ length d
-  numbered-same z = length-set both (w + r) z ∙ both-length
+-- Another text and number behind what is written.
+pub more-put :
+    (e d x second y : List ℕ) (b w r : ℕ) → Put e d x w → Put (second ++ decimal b) (take (length x - w) (drop w x)) y r →
+    Put (e ++ second ++ decimal b) d (take w x ++ (y ++ drop (length x - w) (drop w x))) (w + r)
+more-put e d x second y b w r p q = put-more p (second ++ decimal b) (e ++ second ++ decimal b) (append-assoc e second (decimal b)) y r q

@@ -14,7 +14,7 @@ use Rattle.spec_rule.specs.Calls.{judge}
 use Rattle.spec_desk.specs.Lines.{judgementLine, deskLine}
 
 module _ (d x : List ℕ) (n : ℕ) where
-  module _ (size : length d ≡ 65) where
+  module _ (size : length d ≡ 89) where
     pub bookless-put :
         (found : Bool) (request issuer : List ℕ) (who : Applicant) (book : List ℕ) → x ≡ filled (text "no book\n") d → n ≡ filledLength (text "no book\n") d → found ≡ false →
         Put (deskLine found request issuer who book) d x n

@@ -10,11 +10,15 @@ use lib.ListN.{length, getD, set as put, replicate, length-set, length-replicate
 use lib.Seq.{getD-set-other}
 use borrow.Author.Tests.{eqb-true, eqb-false}
 use Rattle.spec_limits.specs.Limits.{maxRecords}
+use Rattle.spec_octets.specs.Lists.{any}
+use Rattle.spec_octets.specs.Octets.{same, lowered}
 use Rattle.spec_octets.proofs.ListLaws.{true-or-false}
 use Rattle.spec_refusal.specs.declared.RecordNo.{RecordNo}
 use Rattle.spec_applicant.specs.Applicant.{Applicant}
+use Rattle.spec_rule.specs.declared.Judgement.{Judgement}
 use Rattle.spec_rule.specs.declared.Judgement.the-variants.{Permitted, UnknownCritical, NotGranted, TooManyAliases}
-use Rattle.spec_rule.specs.Authorizations.{permits}
+use Rattle.spec_rule.specs.Authorizations.{Authorization, unrestricted, forbidden, granted, unresolved, permits}
+use Rattle.spec_rule.specs.Verdicts.{denied}
 use Rattle.book_places.specs.declared.Governing.{Governing}
 use Rattle.book_places.specs.declared.NameAuthorization.{NameAuthorization}
 use Rattle.book_places.specs.declared.NameAuthorization.the-variants.{Unrestricted, Forbidden, Governed, Unresolved}
@@ -26,30 +30,41 @@ use Rattle.book_places.proofs.AuthorizationLaws.{set-grants}
 use Rattle.book_places.proofs.Questions.{question-by-number}
 use Rattle.judge_call.specs.Asked.{verdictBySet, answerPermits, Asked}
 
+module _ (issuer : List ℕ) (k u : ℕ) where
+  pub permits-it : (a : Authorization) → Permitted ≡ cond (permits issuer a) Permitted (denied k u a) → permits issuer a ≡ true
+  permits-it unrestricted e = refl
+  permits-it (forbidden r) e = let z : _≡_ {A = ℕ} 0 1 = cc in absurd (omega arith)
+  permits-it (unresolved r) e = let z : _≡_ {A = ℕ} 0 1 = cc in absurd (omega arith)
+  permits-it (granted r ns) e = go (any (same (lowered issuer)) ns) e
+    where
+      go : (t : Bool) → Permitted ≡ cond t Permitted (denied k u (granted r ns)) → t ≡ true
+      go true f = refl
+      go false f = let z : _≡_ {A = ℕ} 0 1 = cc in absurd (omega arith)
+
 module _ (who : Applicant) (issuer book table links : List ℕ) where
   -- a is what the set says
-  module _ (k : ℕ) (set : RecordNo) (wildcard : Bool) (a : NameAuthorization) (d : a ≡ setAuthorization book table links wildcard set) where
-    pub by-unrestricted : a ≡ Unrestricted → Permitted ≡ verdictBySet who issuer book table links k set wildcard
+  module _ (k : ℕ) (set : RecordNo) (up : ℕ) (wildcard : Bool) (a : NameAuthorization) (d : a ≡ setAuthorization book table links wildcard set) where
+    pub by-unrestricted : a ≡ Unrestricted → Permitted ≡ verdictBySet who issuer book table links k set up wildcard
     unfolding verdictBySet
     by-unrestricted e = rw (← d, e)
 
     pub by-critical :
-        (rr : RecordNo) → a ≡ Forbidden rr → UnknownCritical (record { name = record { 0 = k }; rr = rr }) ≡ verdictBySet who issuer book table links k set wildcard
+        (rr : RecordNo) → a ≡ Forbidden rr → UnknownCritical (record { name = record { 0 = k }; rr = rr; up = record { 0 = up } }) ≡ verdictBySet who issuer book table links k set up wildcard
     unfolding verdictBySet
     by-critical rr e = rw (← d, e)
 
     pub by-alias :
-        (rr : RecordNo) → a ≡ Unresolved rr → TooManyAliases (record { name = record { 0 = k }; rr = rr }) ≡ verdictBySet who issuer book table links k set wildcard
+        (rr : RecordNo) → a ≡ Unresolved rr → TooManyAliases (record { name = record { 0 = k }; rr = rr; up = record { 0 = up } }) ≡ verdictBySet who issuer book table links k set up wildcard
     unfolding verdictBySet
     by-alias rr e = rw (← d, e)
 
     module _ (g : Governing) (e : a ≡ Governed g) (b : Bool) (q : b ≡ setGrants who (g .tag) issuer book table links (g .set .0)) where
-      pub by-grant : b ≡ true → Permitted ≡ verdictBySet who issuer book table links k set wildcard
+      pub by-grant : b ≡ true → Permitted ≡ verdictBySet who issuer book table links k set up wildcard
       unfolding verdictBySet
       by-grant h = rw (← d, e, ← set-grants who book table links issuer (g .tag) (g .set .0), ← q, h)
 
       pub by-no-grant :
-          b ≡ false → NotGranted (record { name = record { 0 = k }; rr = g .first }) ≡ verdictBySet who issuer book table links k set wildcard
+          b ≡ false → NotGranted (record { name = record { 0 = k }; rr = g .first; up = record { 0 = up } }) ≡ verdictBySet who issuer book table links k set up wildcard
       unfolding verdictBySet
       by-no-grant h = rw (← d, e, ← set-grants who book table links issuer (g .tag) (g .set .0), ← q, h)
 
@@ -94,15 +109,26 @@ module _ (who : Applicant) (issuer book table links : List ℕ) where
     unfolding maxRecords
     answered = rw f (question-by-number book table links set wildcard (omega (arith, room-enough book .1)))
 
-    pub permitted-before :
+    permitted-before :
         (asked : List Bool) → Asked who issuer book table links asked → getD asked n false ≡ true →
         permits issuer (meaning who book table links (setAuthorization book table links wildcard set)) ≡ true
     unfolding answerPermits
     permitted-before asked k e = rw answered at (k .permit n e)
 
-    pub now-asked :
+    now-asked :
         (asked : List Bool) → Asked who issuer book table links asked →
         permits issuer (meaning who book table links (setAuthorization book table links wildcard set)) ≡ true →
         Asked who issuer book table links (put asked n true)
     unfolding answerPermits
     now-asked asked k e = one-asked asked k n (rw answered e)
+
+    -- the verdict by a set that was asked, and by one that is asked now
+    module _ (asked : List Bool) (notes : Asked who issuer book table links asked) (k up : ℕ) where
+      pub by-note : getD asked n false ≡ true → Permitted ≡ verdictBySet who issuer book table links k set up wildcard
+      unfolding verdictBySet
+      by-note h = rw (permitted-before asked notes h)
+
+      pub noted : (j : Judgement) → j ≡ verdictBySet who issuer book table links k set up wildcard → j ≡ Permitted → Asked who issuer book table links (put asked n true)
+      unfolding verdictBySet
+      noted j q h =
+          now-asked asked notes (permits-it issuer k up (meaning who book table links (setAuthorization book table links wildcard set)) (sym h ∙ q))

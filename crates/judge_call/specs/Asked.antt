@@ -27,9 +27,10 @@ pub record Ready (who : Applicant) (request issuer book table links heads onward
   pub pointed : onward ≡ onwardOf book
 
 module _ (who : Applicant) (issuer book table links : List ℕ) where
-  -- The verdict on name k alone, given its relevant set.
-  unfoldable pub verdictBySet : ℕ → RecordNo → Bool → Judgement
-  verdictBySet k set wildcard = verdictFrom k issuer (meaning who book table links (setAuthorization book table links wildcard set) ∷ [])
+  -- The verdict on name k alone, given its relevant set and how many labels were taken off to reach it.
+  unfoldable pub verdictBySet : ℕ → RecordNo → ℕ → Bool → Judgement
+  verdictBySet k set up wildcard =
+      verdictFrom k issuer (record { says = meaning who book table links (setAuthorization book table links wildcard set); up = up } ∷ [])
 
   -- Whether the answer to the question with this number permits the issuer.
   unfoldable pub answerPermits : ℕ → Bool

@@ -15,7 +15,7 @@ use Rattle.spec_rule.specs.Calls.{judge}
 use Rattle.spec_rule.specs.Theorems.{Verdict-on, JudgeRow, FirstRow}
 
 -- Take any answer that equals the definition, as the contract promises. It is a refusal exactly when the table of refusals has a row for it. If no
--- row applies, it is the rule's verdict: 0, 20, 21 or 22, with the numbers of the name and the record.
+-- row applies, it is the rule's verdict: 0, 20, 21 or 22, with the numbers of the name, the record and the labels taken off.
 abbrev pub Answer-exactly : Type 0
 Answer-exactly =
     (request issuer : List ℕ) (who : Applicant) (book : List ℕ) → Octets request → Octets book → (answer : Judgement) → answer ≡ judge request issuer who book →

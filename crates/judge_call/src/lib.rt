@@ -14,20 +14,21 @@ use spec_refusal::RecordNo;
 use spec_refusal::Refusal;
 use spec_rule::Denial;
 use spec_rule::Judgement;
+use spec_rule::LabelsOff;
 ghost use mathlib.Core.Path.{_≡_};
 ghost use mathlib.Core.Option.{none};
 ghost use Rattle.spec_rule.specs.Calls.{firstRefusal, judgeChecks, judge};
 ghost use Rattle.judge_call.specs.Asked.{Ready, verdictBySet, Asked, Lent, HeadsLent};
 ghost use Prim.Native.Nat.{_≤_, _<_};
 ghost use lib.ListN.{length};
-ghost use Rattle.book_places.specs.Table.{shortBook};
+ghost use Rattle.book_places.specs.Table.{shortBook, roomFor};
 
 // Two notes for each record: the set that begins with this record permits the issuer for X; and it does so for *.X.
 const NOTES: usize = 2 * MAX_RECORDS;
 
 const SHORT_NOTES: usize = 2 * FEW_RECORDS;
 
-// Judges one name, given its relevant set.
+// Judges one name, given its relevant set and how many labels were taken off to reach it.
 fn judge_by_set(
     issuer: &[u8],
     account: &[u8],
@@ -37,14 +38,15 @@ fn judge_by_set(
     links: &[u16],
     name: NameNo,
     set: RecordNo,
+    up: LabelsOff,
     wildcard: bool,
 ) -> Judgement
-    ensures { λ r. ⌜ r ≡ verdictBySet (record { account = now (account .entry); method = now (method .entry) }) (now (issuer .entry)) (now (book .entry)) (now (table .entry)) (now (links .entry)) (name .0) set wildcard ⌝ }
+    ensures { λ r. ⌜ r ≡ verdictBySet (record { account = now (account .entry); method = now (method .entry) }) (now (issuer .entry)) (now (book .entry)) (now (table .entry)) (now (links .entry)) (name .0) set (up .0) wildcard ⌝ }
 {
     match book_authorization::set_authorization(book, table, links, set, wildcard) {
         NameAuthorization::Unrestricted => Judgement::Permitted,
-        NameAuthorization::Forbidden(rr) => Judgement::UnknownCritical(Denial { name, rr }),
-        NameAuthorization::Unresolved(rr) => Judgement::TooManyAliases(Denial { name, rr }),
+        NameAuthorization::Forbidden(rr) => Judgement::UnknownCritical(Denial { name, rr, up }),
+        NameAuthorization::Unresolved(rr) => Judgement::TooManyAliases(Denial { name, rr, up }),
         NameAuthorization::Governed(g) => {
             let governing = g.set;
             let from = governing.0;
@@ -53,9 +55,50 @@ fn judge_by_set(
             if book_set::any_grants(book, table, links, from, tag, issuer, account, method) {
                 return Judgement::Permitted;
             }
-            Judgement::NotGranted(Denial { name, rr })
+            Judgement::NotGranted(Denial { name, rr, up })
         }
     }
+}
+
+// The same, and notes if the set permits the issuer. Where that is noted already, the set is not asked again.
+fn judge_once(
+    issuer: &[u8],
+    account: &[u8],
+    method: &[u8],
+    book: &[u8],
+    table: &[u16],
+    links: &[u16],
+    name: NameNo,
+    set: RecordNo,
+    up: LabelsOff,
+    wildcard: bool,
+    asked: &mut [bool],
+) -> Judgement
+    requires { ⌜ Asked (record { account = now account; method = now method }) (now issuer) (now book) (now table) (now links) (now asked) × (set .0 < roomFor (now book)) ⌝ }
+    ensures answer { λ r. ⌜ r ≡ verdictBySet (record { account = now (account .entry); method = now (method .entry) }) (now (issuer .entry)) (now (book .entry)) (now (table .entry)) (now (links .entry)) (name .0) set (up .0) wildcard ⌝ }
+    ensures notes { λ r. ⌜ Asked (record { account = now (account .entry); method = now (method .entry) }) (now (issuer .entry)) (now (book .entry)) (now (table .entry)) (now (links .entry)) (now (asked .exit)) ⌝ }
+{
+    let question = book_authorization::question_number(set, wildcard);
+    if asked[question] {
+        return Judgement::Permitted;
+    }
+    let judgement = judge_by_set(
+        issuer,
+        account,
+        method,
+        book,
+        table,
+        links,
+        name,
+        set,
+        up,
+        wildcard,
+    );
+    let Judgement::Permitted = judgement else {
+        return judgement;
+    };
+    asked[question] = true;
+    judgement
 }
 
 // Judges the names one after the other. A set is asked at most once for X and at most once for *.X.
@@ -86,21 +129,12 @@ fn judge_names(
         let name = NameNo(k);
         at = next;
         k += 1;
-        let FirstRecord::At(set) = book_climb::nearest_record(
-            book,
-            table,
-            links,
-            heads,
-            onward,
-            &request[base..next],
-        ) else {
+        let nearest = book_climb::nearest(book, table, links, heads, onward, &request[base..next]);
+        let found = nearest.found;
+        let FirstRecord::At(set) = found else {
             continue;
         };
-        let question = book_authorization::question_number(set, n.wildcard);
-        if asked[question] {
-            continue;
-        }
-        let judgement = judge_by_set(
+        let judgement = judge_once(
             issuer,
             account,
             method,
@@ -109,12 +143,13 @@ fn judge_names(
             links,
             name,
             set,
+            LabelsOff(nearest.up),
             n.wildcard,
+            asked,
         );
         let Judgement::Permitted = judgement else {
             return judgement;
         };
-        asked[question] = true;
     }
     Judgement::Permitted
 }

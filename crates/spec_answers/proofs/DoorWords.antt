@@ -1,4 +1,4 @@
--- Which answer a word stands for, by its number n and its fields a and b.
+-- Which answer a word stands for, by its number n and its fields a, b and c.
 use Prim.Native.Nat.{ℕ, _≤_}
 use native.Mathlib.Omega.{arith}
 use mathlib.Core.Path.{_≡_, refl}
@@ -35,7 +35,7 @@ number-range BadAccountOrMethod = omega arith
 module _ (n a b c : ℕ) where
   -- the word's number and fields are those of the answer
   abbrev pub Holds : AnswerCode → Type 0
-  Holds t = (n ≡ t .number) × (a ≡ valueOf t 0) × (b ≡ valueOf t 1) × (c ≡ 0)
+  Holds t = (n ≡ t .number) × (a ≡ valueOf t 0) × (b ≡ valueOf t 1) × (c ≡ valueOf t 2)
 
   pub of-answer : {A : Type 0} (code : A → AnswerCode) {x y : A} → x ≡ y → Holds (code x) → Holds (code y)
   of-answer code e h = rw e at h
@@ -56,28 +56,28 @@ module _ (n a b c : ℕ) where
   judge-0 (TooManyAliases d) h e = absurd (omega arith)
   judge-0 (Refused r) h e = absurd (omega (arith, number-range r))
 
-  pub judge-20 : (j : Judgement) → Holds (judgementCode j) → n ≡ 20 → j ≡ UnknownCritical (denial a b)
+  pub judge-20 : (j : Judgement) → Holds (judgementCode j) → n ≡ 20 → j ≡ UnknownCritical (denial a b c)
   unfolding judgementCode
   judge-20 Permitted h e = absurd (omega arith)
-  judge-20 (UnknownCritical d) h e = rw (h .1, h .2)
+  judge-20 (UnknownCritical d) h e = rw (h .1, h .2, h .3)
   judge-20 (NotGranted d) h e = absurd (omega arith)
   judge-20 (TooManyAliases d) h e = absurd (omega arith)
   judge-20 (Refused r) h e = absurd (omega (arith, number-range r))
 
-  pub judge-21 : (j : Judgement) → Holds (judgementCode j) → n ≡ 21 → j ≡ NotGranted (denial a b)
+  pub judge-21 : (j : Judgement) → Holds (judgementCode j) → n ≡ 21 → j ≡ NotGranted (denial a b c)
   unfolding judgementCode
   judge-21 Permitted h e = absurd (omega arith)
   judge-21 (UnknownCritical d) h e = absurd (omega arith)
-  judge-21 (NotGranted d) h e = rw (h .1, h .2)
+  judge-21 (NotGranted d) h e = rw (h .1, h .2, h .3)
   judge-21 (TooManyAliases d) h e = absurd (omega arith)
   judge-21 (Refused r) h e = absurd (omega (arith, number-range r))
 
-  pub judge-22 : (j : Judgement) → Holds (judgementCode j) → n ≡ 22 → j ≡ TooManyAliases (denial a b)
+  pub judge-22 : (j : Judgement) → Holds (judgementCode j) → n ≡ 22 → j ≡ TooManyAliases (denial a b c)
   unfolding judgementCode
   judge-22 Permitted h e = absurd (omega arith)
   judge-22 (UnknownCritical d) h e = absurd (omega arith)
   judge-22 (NotGranted d) h e = absurd (omega arith)
-  judge-22 (TooManyAliases d) h e = rw (h .1, h .2)
+  judge-22 (TooManyAliases d) h e = rw (h .1, h .2, h .3)
   judge-22 (Refused r) h e = absurd (omega (arith, number-range r))
 
   -- the fields that it has no use for
@@ -88,6 +88,14 @@ module _ (n a b c : ℕ) where
   judge-b (NotGranted d) h less = absurd (omega arith)
   judge-b (TooManyAliases d) h less = absurd (omega arith)
   judge-b (Refused r) h less = h .2
+
+  pub judge-c : (j : Judgement) → Holds (judgementCode j) → n ≤ 19 → c ≡ 0
+  unfolding judgementCode
+  judge-c Permitted h less = h .3
+  judge-c (UnknownCritical d) h less = absurd (omega arith)
+  judge-c (NotGranted d) h less = absurd (omega arith)
+  judge-c (TooManyAliases d) h less = absurd (omega arith)
+  judge-c (Refused r) h less = h .3
 
   pub judge-a : (j : Judgement) → Holds (judgementCode j) → n ≡ 0 → a ≡ 0
   unfolding judgementCode
@@ -118,6 +126,12 @@ module _ (n a b c : ℕ) where
   list-b (Listed count octets) h less = absurd (omega arith)
   list-b (ListRefused r) h less = h .2
 
+  pub list-c : (x : PermittedIssuers) → Holds (permittedIssuersCode x) → c ≡ 0
+  unfolding permittedIssuersCode
+  list-c Anyone h = h .3
+  list-c (Listed count octets) h = h .3
+  list-c (ListRefused r) h = h .3
+
   pub list-a : (x : PermittedIssuers) → Holds (permittedIssuersCode x) → n ≡ 30 → a ≡ 0
   unfolding permittedIssuersCode
   list-a x h e = of-answer permittedIssuersCode (list-30 x h e) h .1
@@ -131,6 +145,11 @@ module _ (n a b c : ℕ) where
   unfolding lineCode
   line-b (Length k) h = h .2
   line-b (LineRefused r) h = h .2
+
+  pub line-c : (m : LineAnswer) → Holds (lineCode m) → c ≡ 0
+  unfolding lineCode
+  line-c (Length k) h = h .3
+  line-c (LineRefused r) h = h .3
 
   pub line-0 : (m : LineAnswer) → Holds (lineCode m) → n ≡ 0 → m ≡ Length a
   unfolding lineCode

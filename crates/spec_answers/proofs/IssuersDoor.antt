@@ -40,7 +40,7 @@ use Rattle.spec_packed.specs.Packed.{numberIn, fieldA, fieldB, fieldC}
 use Rattle.spec_answers.specs.Door.{caaJudgeFor, caaPermittedIssuersFor, row-8, ListTable, FirstToHold, NoneHolds, Lists, IssuersWord, Caa-permitted-issuers-for}
 use Rattle.spec_answers.proofs.ListUnpacks.{list-unpacks}
 use Rattle.spec_answers.proofs.DoorRows.{list-rows, one-of, among, none-holds, never-refuses, refuses-exactly}
-use Rattle.spec_answers.proofs.DoorWords.{Holds, of-answer, list-refused, list-30, list-31, list-b, list-a}
+use Rattle.spec_answers.proofs.DoorWords.{Holds, of-answer, list-refused, list-30, list-31, list-b, list-c, list-a}
 use Rattle.spec_answers.proofs.JudgeDoor.{permitted-word}
 
 -- entries at the front of the buffer are read back
@@ -258,7 +258,7 @@ module _ (request : List ℕ) (who : Applicant) (book buffer : List ℕ) (reques
     book-length-enough = λ long n. let (e, (r, a, b)) = at-8 n in book-length-is-room request who book buffer book-octets r a b long _ e;
     room-asked-enough = asked;
     numbers = number-found (L .answer) refl;
-    c-unused = u .3;
+    c-unused = list-c _ _ _ _ (L .answer) u;
     b-unused = list-b _ _ _ _ (L .answer) u;
     a-unused = list-a _ _ _ _ (L .answer) u;
   }

@@ -23,9 +23,10 @@ use Rattle.spec_rule.proofs.RefusalLaws.{judgeNumbers, judge-keeps, judge-refus
 use Rattle.spec_rule.proofs.VerdictLaws.{judge-accepted}
 use Rattle.spec_packed.specs.Packed.{numberIn, fieldA, fieldB, fieldC}
 use Rattle.spec_answers.specs.Door.{caaJudgeFor, JudgeTable, FirstToHold, NoneHolds, JudgeWord, Caa-judge-for}
-use Rattle.spec_answers.proofs.JudgementUnpacks.{judgement-unpacks}
+use Rattle.spec_answers.proofs.NumberBounds.{judge-fits}
+use Rattle.spec_answers.proofs.JudgementUnpacks.{up-small, judgement-unpacks}
 use Rattle.spec_answers.proofs.DoorRows.{judge-rows, one-of, among, none-holds, never-refuses, refuses-exactly}
-use Rattle.spec_answers.proofs.DoorWords.{Holds, of-answer, judge-refused, judge-0, judge-20, judge-21, judge-22, judge-b, judge-a}
+use Rattle.spec_answers.proofs.DoorWords.{Holds, of-answer, judge-refused, judge-0, judge-20, judge-21, judge-22, judge-b, judge-c, judge-a}
 
 apart : _≡_ {A = ℕ} 0 1 → ⊥
 apart e = omega arith
@@ -111,20 +112,21 @@ module _ (request issuer : List ℕ) (who : Applicant) (book : List ℕ) where
     judge-word = record {
       refused-exactly = refused-word;
       permitted-exactly = verdict-exactly Permitted (λ r e. apart (cc)) permitted-word (λ v. v .0);
-      unknown-critical-exactly = λ k r. verdict-exactly (UnknownCritical (denial k r)) (λ q e. apart (cc)) (
-        λ (n, a, b). rw (← a, ← b) (judge-20 _ _ _ _ j u n),
-        λ e. let h = of-answer _ _ _ _ judgementCode e u in (h .0, h .1, h .2),
-      ) (λ v. v .1 k r);
-      not-granted-exactly = λ k r. verdict-exactly (NotGranted (denial k r)) (λ q e. apart (cc)) (
-        λ (n, a, b). rw (← a, ← b) (judge-21 _ _ _ _ j u n),
-        λ e. let h = of-answer _ _ _ _ judgementCode e u in (h .0, h .1, h .2),
-      ) (λ v. v .2 k r);
-      too-many-aliases-exactly = λ k r. verdict-exactly (TooManyAliases (denial k r)) (λ q e. apart (cc)) (
-        λ (n, a, b). rw (← a, ← b) (judge-22 _ _ _ _ j u n),
-        λ e. let h = of-answer _ _ _ _ judgementCode e u in (h .0, h .1, h .2),
-      ) (λ v. v .3 k r);
+      unknown-critical-exactly = λ k r u₀. verdict-exactly (UnknownCritical (denial k r u₀)) (λ q e. apart (cc)) (
+        λ (n, a, b, c). rw (← a, ← b, ← c) (judge-20 _ _ _ _ j u n),
+        λ e. let h = of-answer _ _ _ _ judgementCode e u in (h .0, h .1, h .2, h .3),
+      ) (λ v. v .1 k r u₀);
+      not-granted-exactly = λ k r u₀. verdict-exactly (NotGranted (denial k r u₀)) (λ q e. apart (cc)) (
+        λ (n, a, b, c). rw (← a, ← b, ← c) (judge-21 _ _ _ _ j u n),
+        λ e. let h = of-answer _ _ _ _ judgementCode e u in (h .0, h .1, h .2, h .3),
+      ) (λ v. v .2 k r u₀);
+      too-many-aliases-exactly = λ k r u₀. verdict-exactly (TooManyAliases (denial k r u₀)) (λ q e. apart (cc)) (
+        λ (n, a, b, c). rw (← a, ← b, ← c) (judge-22 _ _ _ _ j u n),
+        λ e. let h = of-answer _ _ _ _ judgementCode e u in (h .0, h .1, h .2, h .3),
+      ) (λ v. v .3 k r u₀);
       numbers = number-found j refl;
-      c-unused = u .3;
+      c-small = rw (u .3) (up-small j (judge-fits request issuer who book));
+      c-unused = judge-c _ _ _ _ j u;
       b-unused = judge-b _ _ _ _ j u;
       a-unused = judge-a _ _ _ _ j u;
       names-read = λ h. let k = request-is-its-names request request-octets (requestedNames request) .0 (passed h .0, refl) in (k .0, k .1);

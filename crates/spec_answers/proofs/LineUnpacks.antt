@@ -85,8 +85,8 @@ line-codes = (λ n. refl, λ r. refl)
 
 fitting-unpacks : (m : LineAnswer) → MadeFits m → Unpacked (packedLine m) (lineCode m)
 unfolding packedLine lineCode
-fitting-unpacks (Length n) h = told-unpacks (lineCode (Length n)) (omega arith) h (omega arith)
-fitting-unpacks (Refused r) h = told-unpacks (lineCode (Refused r)) (number-small r) h (omega arith)
+fitting-unpacks (Length n) h = told-unpacks (lineCode (Length n)) (omega arith) h (omega arith) (omega arith)
+fitting-unpacks (Refused r) h = told-unpacks (lineCode (Refused r)) (number-small r) h (omega arith) (omega arith)
 
 pub small-flags-unpack : (d b : List ℕ) → FlagsFit d → Unpacked (packedLine (writeLine d b .answer)) (lineCode (writeLine d b .answer))
 small-flags-unpack d b flags = fitting-unpacks (writeLine d b .answer) (write-fits d b flags)

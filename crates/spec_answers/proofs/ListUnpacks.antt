@@ -65,9 +65,9 @@ module _ (request : List ℕ) (who : Applicant) (book buffer : List ℕ) (octets
 
 fitting-unpacks : (x : PermittedIssuers) → ListFits x → Unpacked (packedIssuers x) (permittedIssuersCode x)
 unfolding packedIssuers permittedIssuersCode
-fitting-unpacks Anyone h = told-unpacks (permittedIssuersCode Anyone) (omega arith) (omega arith) (omega arith)
-fitting-unpacks (Listed count octets) h = told-unpacks (permittedIssuersCode (Listed count octets)) (omega arith) (h .0) (h .1)
-fitting-unpacks (Refused r) h = told-unpacks (refusalCode r) (number-small r) h (omega arith)
+fitting-unpacks Anyone h = told-unpacks (permittedIssuersCode Anyone) (omega arith) (omega arith) (omega arith) (omega arith)
+fitting-unpacks (Listed count octets) h = told-unpacks (permittedIssuersCode (Listed count octets)) (omega arith) (h .0) (h .1) (omega arith)
+fitting-unpacks (Refused r) h = told-unpacks (refusalCode r) (number-small r) h (omega arith) (omega arith)
 
 pub list-unpacks : List-unpacks
 list-unpacks request who book buffer octets =

@@ -27,7 +27,7 @@ use Rattle.spec_answers.specs.LineAnswers.{lineCode}
 use Rattle.spec_answers.specs.Door.{caaWriteLine, caaReadLine, Outputs, frontOf, ReadLineWord, Caa-read-line}
 use Rattle.spec_answers.proofs.LineUnpacks.{FlagsFit, small-flags-unpack, read-line-unpacks}
 use Rattle.spec_answers.proofs.DoorRows.{one-of}
-use Rattle.spec_answers.proofs.DoorWords.{Holds, line-b}
+use Rattle.spec_answers.proofs.DoorWords.{Holds, line-b, line-c}
 use Rattle.spec_answers.proofs.LineDoors.{at-most-11, fits-or-not, no-room-word, placeless-word, a-unused, outputs, atFront, Number, Fills, fills}
 use Rattle.spec_answers.proofs.WriteLineDoor.{line-within, line-reads}
 
@@ -145,7 +145,7 @@ module _ (s buffer : List ℕ) (octets : Octets s) where
     reads-again = reads-again;
     data-limit-enough = enough;
     numbers = number-of (k .number-found);
-    c-unused = u .3;
+    c-unused = line-c _ _ _ _ (O .answer) u;
     b-unused = line-b _ _ _ _ (O .answer) u;
     a-unused = λ big. a-unused O buffer W u big (at-most-11 _ refl (number-of (k .number-found)));
   }

@@ -12,7 +12,7 @@ use Rattle.spec_answers.specs.Theorems.{Packed-answers, Largest-answers}
 pub packed-answers : Packed-answers
 unfolding maxNames maxRecords number place packed judgementCode permittedIssuersCode packedJudgement packedIssuers lineCode packedLine
 packed-answers =
-    (refl, refl, refl, refl, refl, refl, refl, refl, refl, refl, refl, refl, refl, refl, refl, refl, refl, refl, refl, refl, refl, refl)
+    (refl, refl, refl, refl, refl, refl, refl, refl, refl, refl, refl, refl, refl, refl, refl, refl, refl, refl, refl, refl, refl, refl, refl)
 
 pub largest-answers : Largest-answers
 unfolding maxNames maxRecords number place packed judgementCode permittedIssuersCode packedJudgement packedIssuers lineCode packedLine

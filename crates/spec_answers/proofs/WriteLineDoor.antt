@@ -28,7 +28,7 @@ use Rattle.spec_answers.specs.LineAnswers.{lineCode}
 use Rattle.spec_answers.specs.Door.{caaWriteLine, caaReadLine, Outputs, WriteLineWord, Caa-write-line}
 use Rattle.spec_answers.proofs.LineUnpacks.{written-line-unpacks, read-line-unpacks}
 use Rattle.spec_answers.proofs.DoorRows.{one-of}
-use Rattle.spec_answers.proofs.DoorWords.{Holds, line-b}
+use Rattle.spec_answers.proofs.DoorWords.{Holds, line-b, line-c}
 use Rattle.spec_answers.proofs.LineDoors.{at-most-11, fits-or-not, no-room-word, placeless-word, a-unused, outputs, atFront, Number, Fills, fills}
 
 -- the line of data within its limit is within the limit of lines
@@ -142,7 +142,7 @@ module _ (d buffer : List ℕ) (octets : Octets d) where
     reads-back = reads-back;
     line-limit-enough = enough;
     numbers = number-of (k .number-found);
-    c-unused = u .3;
+    c-unused = line-c _ _ _ _ (O .answer) u;
     b-unused = line-b _ _ _ _ (O .answer) u;
     a-unused = λ big. a-unused O buffer W u (omega arith) (at-most-11 _ refl (number-of (k .number-found)));
   }

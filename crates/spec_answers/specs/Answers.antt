@@ -10,7 +10,7 @@ abbrev pub valueOf : AnswerCode → ℕ → ℕ
 valueOf t k = getD (t .values) k 0
 
 abbrev pub packedCode : AnswerCode → ℕ
-packedCode t = packed (t .number) (valueOf t 0) (valueOf t 1) 0
+packedCode t = packed (t .number) (valueOf t 0) (valueOf t 1) (valueOf t 2)
 
 unfoldable pub packedJudgement : Judgement → ℕ
 packedJudgement j = packedCode (judgementCode j)

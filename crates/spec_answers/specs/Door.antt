@@ -9,6 +9,7 @@
 --   order                            the order of checks, as refusal numbers: Order.antt of spec_refusal
 --   WellFormed                       a valid issuer domain name: Issuer.antt of spec_issuer
 --   PermittedTo, Unrestricted, ..    the rule of issue for one name: Meaning.antt of spec_rule
+--   DecidedAt                        how many labels are taken off X: Meaning.antt of spec_rule
 --   Writable, smallTag               which data has a line, and data with its tag in lower case: Theorems.antt of spec_line
 --   LineOf                           which lines stand for which data: Grammar.antt of spec_line
 use Prim.Native.Nat.{ℕ, _≤_, _<_}
@@ -34,7 +35,7 @@ use Rattle.spec_applicant.specs.Theorems.{Row-15}
 use Rattle.spec_rule.specs.RelevantSet.{CaaRecord, asBook}
 use Rattle.spec_rule.specs.IssuerLists.{entries, readEntry}
 use Rattle.spec_rule.specs.Calls.{judge, listIssuers}
-use Rattle.spec_rule.specs.Meaning.{Unrestricted, PermittedTo, ForbiddenBy, GovernedFrom, GoverningRecords, UnresolvedFrom, LowestNot, Before, GrantedBefore}
+use Rattle.spec_rule.specs.Meaning.{Unrestricted, PermittedTo, ForbiddenBy, GovernedFrom, GoverningRecords, UnresolvedFrom, DecidedAt, LowestNot, Before, GrantedBefore}
 use Rattle.spec_rule.specs.Theorems.{Row-8}
 use Rattle.spec_line.specs.Written.{line}
 use Rattle.spec_line.specs.Grammar.{LineOf}
@@ -127,29 +128,33 @@ pub record JudgeWord (request issuer : List ℕ) (who : Applicant) (book : List 
       ((numberIn word ≡ n) × (fieldA word ≡ p)) ↔ FirstToHold (JudgeTable request issuer who book) n p
   -- 0, permitted: exactly when no row holds and every name is unrestricted or granted to the issuer for the applicant.
   pub permitted-exactly : (numberIn word ≡ 0) ↔ (NoneHolds (JudgeTable request issuer who book) × EveryPermitted request issuer who book)
-  -- 20, unknown critical: exactly when no row holds, k in a is the lowest name denied, and r in b is the first critical record
-  -- with an unknown tag in its relevant set.
-  pub unknown-critical-exactly : (k r : ℕ) →
-      ((numberIn word ≡ 20) × (fieldA word ≡ k) × (fieldB word ≡ r))
+  -- 20, unknown critical: exactly when no row holds, k in a is the lowest name denied, r in b is the first critical record
+  -- with an unknown tag in its relevant set, and u in c says how many labels were taken off X to find that set.
+  pub unknown-critical-exactly : (k r u : ℕ) →
+      ((numberIn word ≡ 20) × (fieldA word ≡ k) × (fieldB word ≡ r) × (fieldC word ≡ u))
       ↔ (NoneHolds (JudgeTable request issuer who book)
-      × ((n : Name) × LowestDenied request issuer who book k n × ForbiddenBy (asBook (records book)) n r))
+      × ((n : Name) × LowestDenied request issuer who book k n × ForbiddenBy (asBook (records book)) n r
+      × DecidedAt (asBook (records book)) n u))
   -- 21, not granted: exactly when no row holds, k in a is the lowest name denied, its relevant set has no critical record with an
-  -- unknown tag, and r in b is the first record that governs it.
-  pub not-granted-exactly : (k r : ℕ) →
-      ((numberIn word ≡ 21) × (fieldA word ≡ k) × (fieldB word ≡ r))
+  -- unknown tag, r in b is the first record that governs it, and u in c is as for 20.
+  pub not-granted-exactly : (k r u : ℕ) →
+      ((numberIn word ≡ 21) × (fieldA word ≡ k) × (fieldB word ≡ r) × (fieldC word ≡ u))
       ↔ (NoneHolds (JudgeTable request issuer who book)
-      × ((n : Name) × LowestDenied request issuer who book k n × GovernedFrom (asBook (records book)) n r))
-  -- 22, too many aliases: exactly when no row holds, k in a is the lowest name denied, and r in b is the first alias of X, or of a name above it,
-  -- whose aliases don't end and by which the search ends.
-  pub too-many-aliases-exactly : (k r : ℕ) →
-      ((numberIn word ≡ 22) × (fieldA word ≡ k) × (fieldB word ≡ r))
+      × ((n : Name) × LowestDenied request issuer who book k n × GovernedFrom (asBook (records book)) n r
+      × DecidedAt (asBook (records book)) n u))
+  -- 22, too many aliases: exactly when no row holds, k in a is the lowest name denied, r in b is the first alias of X, or of a name above it,
+  -- whose aliases don't end and by which the search ends, and u in c says how many labels were taken off X to reach the owner of r.
+  pub too-many-aliases-exactly : (k r u : ℕ) →
+      ((numberIn word ≡ 22) × (fieldA word ≡ k) × (fieldB word ≡ r) × (fieldC word ≡ u))
       ↔ (NoneHolds (JudgeTable request issuer who book)
-      × ((n : Name) × LowestDenied request issuer who book k n × UnresolvedFrom (asBook (records book)) n r))
+      × ((n : Name) × LowestDenied request issuer who book k n × UnresolvedFrom (asBook (records book)) n r
+      × DecidedAt (asBook (records book)) n u))
   -- No other number is ever returned.
   pub numbers : List·Memᴰ (numberIn word) (0 ∷ 1 ∷ 2 ∷ 3 ∷ 4 ∷ 15 ∷ 5 ∷ 6 ∷ 7 ∷ 12 ∷ 20 ∷ 21 ∷ 22 ∷ [])
-  -- Field c is always 0.
-  pub c-unused : fieldC word ≡ 0
-  -- Field b is 0 except for 20, 21 and 22.
+  -- Field c is at most 126: a name has at most 127 labels.
+  pub c-small : fieldC word ≤ 126
+  -- Fields b and c are 0 except for 20, 21 and 22.
+  pub c-unused : numberIn word ≤ 19 → fieldC word ≡ 0
   pub b-unused : numberIn word ≤ 19 → fieldB word ≡ 0
   -- Field a is 0 if the number is 0.
   pub a-unused : numberIn word ≡ 0 → fieldA word ≡ 0

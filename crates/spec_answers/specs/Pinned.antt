@@ -11,10 +11,16 @@ use Rattle.spec_answers.specs.LineAnswers.{lineCode}
 -- The values of an answer in their order, and 0 for those that it doesn't have.
 abbrev pub Values-in-order : Type 0
 Values-in-order =
-    ((n a b : ℕ) →
-    (valueOf (record { number = n; values = a ∷ b ∷ [] }) 0 ≡ a) × (valueOf (record { number = n; values = a ∷ b ∷ [] }) 1 ≡ b))
-    × ((n a : ℕ) → (valueOf (record { number = n; values = a ∷ [] }) 0 ≡ a) × (valueOf (record { number = n; values = a ∷ [] }) 1 ≡ 0))
-    × ((n : ℕ) → (valueOf (record { number = n; values = [] }) 0 ≡ 0) × (valueOf (record { number = n; values = [] }) 1 ≡ 0))
+    ((n a b c : ℕ) →
+    (valueOf (record { number = n; values = a ∷ b ∷ c ∷ [] }) 0 ≡ a) × (valueOf (record { number = n; values = a ∷ b ∷ c ∷ [] }) 1 ≡ b)
+    × (valueOf (record { number = n; values = a ∷ b ∷ c ∷ [] }) 2 ≡ c))
+    × ((n a b : ℕ) →
+    (valueOf (record { number = n; values = a ∷ b ∷ [] }) 0 ≡ a) × (valueOf (record { number = n; values = a ∷ b ∷ [] }) 1 ≡ b)
+    × (valueOf (record { number = n; values = a ∷ b ∷ [] }) 2 ≡ 0))
+    × ((n a : ℕ) → (valueOf (record { number = n; values = a ∷ [] }) 0 ≡ a) × (valueOf (record { number = n; values = a ∷ [] }) 1 ≡ 0)
+    × (valueOf (record { number = n; values = a ∷ [] }) 2 ≡ 0))
+    × ((n : ℕ) → (valueOf (record { number = n; values = [] }) 0 ≡ 0) × (valueOf (record { number = n; values = [] }) 1 ≡ 0)
+    × (valueOf (record { number = n; values = [] }) 2 ≡ 0))
 
 -- Number 0 with the length of the output, or a refusal with its number and place.
 abbrev pub Line-codes : Type 0

@@ -17,9 +17,9 @@ use Rattle.spec_answers.specs.Answers.{valueOf, packedJudgement}
 use Rattle.spec_answers.specs.ListAnswers.{packedIssuers}
 use Rattle.spec_answers.specs.LineAnswers.{lineCode, packedLine}
 
--- Unpacking x gives the number and the values of the answer t, and 0 in field c.
+-- Unpacking x gives the number and the values of the answer t, at most three of them.
 abbrev pub Unpacked : ℕ → AnswerCode → Type 0
-Unpacked x t = (numberIn x ≡ t .number) × (fieldA x ≡ valueOf t 0) × (fieldB x ≡ valueOf t 1) × (fieldC x ≡ 0)
+Unpacked x t = (numberIn x ≡ t .number) × (fieldA x ≡ valueOf t 0) × (fieldB x ≡ valueOf t 1) × (fieldC x ≡ valueOf t 2)
 
 -- For every input of the call that judges.
 abbrev pub Judgement-unpacks : Type 0
@@ -41,8 +41,9 @@ Written-line-unpacks =
 abbrev pub Read-line-unpacks : Type 0
 Read-line-unpacks = (s buffer : List ℕ) → Unpacked (packedLine (parseLine s buffer .answer)) (lineCode (parseLine s buffer .answer))
 
--- Packed answers, worked out by hand: the number, plus the place or the first value times 256, plus the second value times 4294967296.
--- Names 7, 2, 1 and 3, records 4, 6, 5, 3 and 1, 32 octets, a list of 2 names in 32 octets, a line of 36 octets.
+-- Packed answers, worked out by hand: the number, plus the place or the first value times 256, plus the second value times 4294967296, plus
+-- the third value times 281474976710656. Names 7, 2, 1 and 3, records 4, 6, 5, 3 and 1, 3, 0, 1 and 2 labels taken off, 32 octets, a list of 2
+-- names in 32 octets, a line of 36 octets.
 abbrev pub Packed-answers : Type 0
 Packed-answers =
     (packedJudgement Permitted ≡ 0)
@@ -54,9 +55,10 @@ Packed-answers =
     × (packedJudgement (Refused (BadRecord (record { 0 = 4 }))) ≡ 1030)
     × (packedJudgement (Refused TooManyRecords) ≡ 262151)
     × (packedJudgement (Refused (AliasConflict (record { 0 = 6 }))) ≡ 1548)
-    × (packedJudgement (UnknownCritical (denial 2 5)) ≡ 21474837012)
-    × (packedJudgement (NotGranted (denial 1 3)) ≡ 12884902165)
-    × (packedJudgement (TooManyAliases (denial 3 1)) ≡ 4294968086)
+    × (packedJudgement (UnknownCritical (denial 2 5 3)) ≡ 844446404968980)
+    × (packedJudgement (NotGranted (denial 1 3 0)) ≡ 12884902165)
+    × (packedJudgement (NotGranted (denial 1 3 1)) ≡ 281487861612821)
+    × (packedJudgement (TooManyAliases (denial 3 1 2)) ≡ 562954248389398)
     × (packedIssuers (ListRefused (BadName (record { 0 = 7 }))) ≡ 1794)
     × (packedIssuers (ListRefused (AliasConflict (record { 0 = 6 }))) ≡ 1548)
     × (packedIssuers (ListRefused (NoRoom 32)) ≡ 8200)
@@ -68,17 +70,21 @@ Packed-answers =
     × (packedLine (LineRefused LineTooLong) ≡ 10)
     × (packedLine (LineRefused BadData) ≡ 11)
 
--- An answer is packed as the word x. Taken apart again, x gives the number n, a and b, and 0 in field c.
-abbrev pub PackedAs : ℕ → ℕ → ℕ → ℕ → ℕ → Type 0
-PackedAs answer x n a b = (answer ≡ x) × (numberIn x ≡ n) × (fieldA x ≡ a) × (fieldB x ≡ b) × (fieldC x ≡ 0)
+-- An answer is packed as the word x. Taken apart again, x gives the number n and the fields a, b and c.
+abbrev pub PackedWith : ℕ → ℕ → ℕ → ℕ → ℕ → ℕ → Type 0
+PackedWith answer x n a b c = (answer ≡ x) × (numberIn x ≡ n) × (fieldA x ≡ a) × (fieldB x ≡ b) × (fieldC x ≡ c)
 
--- No field cuts off a number that the limits allow. The largest ones, worked out by hand: name 249, record 1,023, the places 250 and 1,024, a
--- list of 1,024 names, 49,152 octets of a list, 16,384 octets of a line.
+-- The same with 0 in field c.
+abbrev pub PackedAs : ℕ → ℕ → ℕ → ℕ → ℕ → Type 0
+PackedAs answer x n a b = PackedWith answer x n a b 0
+
+-- No field cuts off a number that the limits allow. The largest ones, worked out by hand: name 249, record 1,023, 126 labels taken off, the
+-- places 250 and 1,024, a list of 1,024 names, 49,152 octets of a list, 16,384 octets of a line.
 abbrev pub Largest-answers : Type 0
 Largest-answers =
-    PackedAs (packedJudgement (UnknownCritical (denial 249 1023))) 4393751607572 20 249 1023
-    × PackedAs (packedJudgement (NotGranted (denial 249 1023))) 4393751607573 21 249 1023
-    × PackedAs (packedJudgement (TooManyAliases (denial 249 1023))) 4393751607574 22 249 1023
+    PackedWith (packedJudgement (UnknownCritical (denial 249 1023 126))) 35470240817150228 20 249 1023 126
+    × PackedWith (packedJudgement (NotGranted (denial 249 1023 126))) 35470240817150229 21 249 1023 126
+    × PackedWith (packedJudgement (TooManyAliases (denial 249 1023 126))) 35470240817150230 22 249 1023 126
     × PackedAs (packedJudgement (Refused (BadName (record { 0 = 249 })))) 63746 2 249 0
     × PackedAs (packedJudgement (Refused TooManyNames)) 64003 3 250 0
     × PackedAs (packedJudgement (Refused (BadRecord (record { 0 = 1023 })))) 261894 6 1023 0

@@ -10,7 +10,7 @@ use Rattle.spec_desk.specs.Theorems.{Line-words, Line-examples}
 
 pub line-words : Line-words
 unfolding answerText
-line-words = (λ k r. simp append-assoc, λ k r. simp append-assoc, λ k r. simp append-assoc, λ r. simp append-assoc)
+line-words = (λ k r u. simp append-assoc, λ k r u. simp append-assoc, λ k r u. simp append-assoc, λ r. simp append-assoc)
 
 pub line-examples : Line-examples
 unfolding answerText decimal number place deskLine maxNames maxRecords

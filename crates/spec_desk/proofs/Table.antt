@@ -15,10 +15,10 @@ use Rattle.spec_refusal.specs.Refusal.{number as refusalNumber, place}
 use Rattle.spec_value.specs.Parameters.{parameterIn, parametersIn}
 use Rattle.spec_applicant.specs.Applicant.{isAccount, isMethod, isApplicant, applicantRefusal}
 use Rattle.spec_applicant.specs.Admission.{admits}
-use Rattle.spec_rule.specs.RelevantSet.{lookup, relevantSet}
+use Rattle.spec_rule.specs.RelevantSet.{lookup, relevantSet, labelsOff}
 use Rattle.spec_rule.specs.Authorizations.{isUnknownCritical, governing, grantee, authorization}
-use Rattle.spec_rule.specs.Verdicts.{verdict}
-use Rattle.spec_rule.specs.Calls.{authorizations, judge}
+use Rattle.spec_rule.specs.Verdicts.{decision, verdict}
+use Rattle.spec_rule.specs.Calls.{decisions, judge}
 use Rattle.spec_desk.specs.Lines.{answerText, deskLine}
 use Rattle.spec_desk.specs.Theorems.{Desk-lines}
 
@@ -26,7 +26,7 @@ pub desk-lines : Desk-lines
 unfolding maxLabelOctets maxIssuerOctets maxNameOctets maxRequestOctets maxNames maxBookOctets maxRecords isDigit isUpper isLower
     isLetterOrDigit isBlank lower equalIgnoringCase isLetterDigitHyphen isLabel isHostLabel isWildcard base isIssuer readProperty property
     isCritical tagOf isCaa isAlias target maxAliases isDomainName isParameterOctet isParameterTag isParameter areParameters issueValue parameterIn parametersIn admits lookup relevantSet
-    isUnknownCritical governing grantee authorization verdict name isRequestable requestedName nameItems requestedNames requestRefusal
-    issuerRefusal maxAccountOctets isAccount isMethod isApplicant applicantRefusal isLaidOut resourceRecord recordItems records layoutRefusal clashes conflictRefusal bookRefusal number authorizations judge
+    isUnknownCritical governing grantee authorization labelsOff decision verdict name isRequestable requestedName nameItems requestedNames requestRefusal
+    issuerRefusal maxAccountOctets isAccount isMethod isApplicant applicantRefusal isLaidOut resourceRecord recordItems records layoutRefusal clashes conflictRefusal bookRefusal number decisions judge
     decimal refusalNumber place answerText deskLine
-desk-lines = (refl, refl, refl, refl, refl, refl, refl, refl, refl, refl, refl)
+desk-lines = (refl, refl, refl, refl, refl, refl, refl, refl, refl, refl, refl, refl)

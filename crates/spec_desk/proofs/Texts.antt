@@ -60,16 +60,19 @@ number-first n ws = go (decimal n) (says n .some) (says n .digits) (says n .back
 denial-tells :
     (v : ℕ) (f first : List ℕ) → first ≡ text "verdict " ++ f ++ text " name " → Word f →
     ((ws : List (List ℕ)) → numbersOf (f ∷ ws) ≡ v ∷ numbersOf ws) → (d : Denial) →
-    numbersIn (denialText first d) ≡ v ∷ d .name .0 ∷ d .rr .0 ∷ []
+    numbersIn (denialText first d) ≡ v ∷ d .name .0 ∷ d .rr .0 ∷ d .up .0 ∷ []
 unfolding isLetterOrDigit isUpper isLower isDigit
 denial-tells v f first made clean reads d =
     let k = d .name .0 in
     let r = d .rr .0 in
-    let behind = text "name" ∷ decimal k ∷ text "record" ∷ decimal r ∷ [] in
-    let clean-behind = letters (text "name") refl ∷ᵃ digits k ∷ᵃ letters (text "record") refl ∷ᵃ digits r ∷ᵃ all-nil in
+    let u = d .up .0 in
+    let behind = text "name" ∷ decimal k ∷ text "record" ∷ decimal r ∷ text "up" ∷ decimal u ∷ [] in
+    let clean-behind =
+    letters (text "name") refl ∷ᵃ digits k ∷ᵃ letters (text "record") refl ∷ᵃ digits r ∷ᵃ letters (text "up") refl ∷ᵃ digits u ∷ᵃ all-nil in
     ap numbersOf (words (denialText first d) (text "verdict" ∷ f ∷ behind) (rw made (simp append-assoc)) cons≢nil (letters (text "verdict") refl ∷ᵃ clean ∷ᵃ clean-behind))
     ∙ reads behind
-    ∙ ap (_∷_ v) (number-first k (text "record" ∷ decimal r ∷ []) ∙ ap (_∷_ k) (number-first r []))
+    ∙ ap (_∷_ v) (number-first k (text "record" ∷ decimal r ∷ text "up" ∷ decimal u ∷ [])
+    ∙ ap (_∷_ k) (number-first r (text "up" ∷ decimal u ∷ []) ∙ ap (_∷_ r) (number-first u [])))
 
 refusal-tells : (n p : ℕ) → numbersIn (numbered (text "refused ") n (text " at ") p) ≡ n ∷ p ∷ []
 unfolding isLetterOrDigit isUpper isLower isDigit
@@ -104,8 +107,9 @@ number-range LineTooLong = (omega arith, omega arith)
 number-range BadData = (omega arith, omega arith)
 number-range BadAccountOrMethod = (omega arith, omega arith)
 
-denial-one : (d e : Denial) → d .name .0 ≡ e .name .0 → d .rr .0 ≡ e .rr .0 → d ≡ e
-denial-one d e k r = ap (λ x. denial x (d .rr .0)) k ∙ ap (denial (e .name .0)) r
+denial-one : (d e : Denial) → d .name .0 ≡ e .name .0 → d .rr .0 ≡ e .rr .0 → d .up .0 ≡ e .up .0 → d ≡ e
+denial-one d e k r u =
+    ap (λ x. denial x (d .rr .0) (d .up .0)) k ∙ ap (λ x. denial (e .name .0) x (d .up .0)) r ∙ ap (denial (e .name .0) (e .rr .0)) u
 
 -- a judgement is known by its number and values
 told-one : (i j : Judgement) → judgementCode i .number ≡ judgementCode j .number → judgementCode i .values ≡ judgementCode j .values → i ≡ j
@@ -116,13 +120,13 @@ told-one Permitted (NotGranted e) n v = absurd (omega arith)
 told-one Permitted (TooManyAliases e) n v = absurd (omega arith)
 told-one Permitted (Refused s) n v = absurd (omega (arith, number-range s .0))
 told-one (UnknownCritical d) Permitted n v = absurd (omega arith)
-told-one (UnknownCritical d) (UnknownCritical e) n v = ap UnknownCritical (denial-one d e (cc) (cc))
+told-one (UnknownCritical d) (UnknownCritical e) n v = ap UnknownCritical (denial-one d e (cc) (cc) (cc))
 told-one (UnknownCritical d) (NotGranted e) n v = absurd (omega arith)
 told-one (UnknownCritical d) (TooManyAliases e) n v = absurd (omega arith)
 told-one (UnknownCritical d) (Refused s) n v = absurd (omega (arith, number-range s .1))
 told-one (NotGranted d) Permitted n v = absurd (omega arith)
 told-one (NotGranted d) (UnknownCritical e) n v = absurd (omega arith)
-told-one (NotGranted d) (NotGranted e) n v = ap NotGranted (denial-one d e (cc) (cc))
+told-one (NotGranted d) (NotGranted e) n v = ap NotGranted (denial-one d e (cc) (cc) (cc))
 told-one (NotGranted d) (TooManyAliases e) n v = absurd (omega arith)
 told-one (NotGranted d) (Refused s) n v = absurd (omega (arith, number-range s .1))
 told-one (Refused r) Permitted n v = absurd (omega (arith, number-range r .0))
@@ -132,7 +136,7 @@ told-one (Refused r) (TooManyAliases e) n v = absurd (omega (arith, number-range
 told-one (TooManyAliases d) Permitted n v = absurd (omega arith)
 told-one (TooManyAliases d) (UnknownCritical e) n v = absurd (omega arith)
 told-one (TooManyAliases d) (NotGranted e) n v = absurd (omega arith)
-told-one (TooManyAliases d) (TooManyAliases e) n v = ap TooManyAliases (denial-one d e (cc) (cc))
+told-one (TooManyAliases d) (TooManyAliases e) n v = ap TooManyAliases (denial-one d e (cc) (cc) (cc))
 told-one (TooManyAliases d) (Refused s) n v = absurd (omega (arith, number-range s .1))
 told-one (Refused r) (Refused s) n v = ap Refused (number-and-place-tell r s n (cc))
 

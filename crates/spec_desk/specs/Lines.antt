@@ -19,7 +19,7 @@ abbrev pub numbered : List ℕ → ℕ → List ℕ → ℕ → List ℕ
 numbered first a second b = first ++ decimal a ++ second ++ decimal b
 
 abbrev pub denialText : List ℕ → Denial → List ℕ
-denialText first d = numbered first (d .name .0) (text " record ") (d .rr .0)
+denialText first d = numbered first (d .name .0) (text " record ") (d .rr .0) ++ text " up " ++ decimal (d .up .0)
 
 -- The words of an answer, without the line end.
 unfoldable pub answerText : Judgement → List ℕ

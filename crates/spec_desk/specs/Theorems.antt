@@ -43,20 +43,23 @@ No-book =
 -- The words around the numbers, for all numbers.
 abbrev pub Line-words : Type 0
 Line-words =
-    ((k r : ℕ) → judgementLine (UnknownCritical (denial k r)) ≡ text "verdict 20 name " ++ decimal k ++ text " record " ++ decimal r ++ text "\n")
-    × ((k r : ℕ) → judgementLine (NotGranted (denial k r)) ≡ text "verdict 21 name " ++ decimal k ++ text " record " ++ decimal r ++ text "\n")
-    × ((k r : ℕ) → judgementLine (TooManyAliases (denial k r)) ≡ text "verdict 22 name " ++ decimal k ++ text " record " ++ decimal r ++ text "\n")
+    ((k r u : ℕ) → judgementLine (UnknownCritical (denial k r u))
+    ≡ text "verdict 20 name " ++ decimal k ++ text " record " ++ decimal r ++ text " up " ++ decimal u ++ text "\n")
+    × ((k r u : ℕ) → judgementLine (NotGranted (denial k r u))
+    ≡ text "verdict 21 name " ++ decimal k ++ text " record " ++ decimal r ++ text " up " ++ decimal u ++ text "\n")
+    × ((k r u : ℕ) → judgementLine (TooManyAliases (denial k r u))
+    ≡ text "verdict 22 name " ++ decimal k ++ text " record " ++ decimal r ++ text " up " ++ decimal u ++ text "\n")
     × ((r : Refusal) → judgementLine (Refused r) ≡ text "refused " ++ decimal (number r) ++ text " at " ++ decimal (place r) ++ text "\n")
 
 -- The lines that the requirements print, and some more.
 abbrev pub Line-examples : Type 0
 Line-examples =
     (judgementLine Permitted ≡ text "verdict 0\n")
-    × (judgementLine (NotGranted (denial 1 3)) ≡ text "verdict 21 name 1 record 3\n")
-    × (judgementLine (UnknownCritical (denial 0 2)) ≡ text "verdict 20 name 0 record 2\n")
-    × (judgementLine (UnknownCritical (denial 99 255)) ≡ text "verdict 20 name 99 record 255\n")
-    × (judgementLine (TooManyAliases (denial 3 1)) ≡ text "verdict 22 name 3 record 1\n")
-    × (judgementLine (NotGranted (denial 249 1023)) ≡ text "verdict 21 name 249 record 1023\n")
+    × (judgementLine (NotGranted (denial 1 3 0)) ≡ text "verdict 21 name 1 record 3 up 0\n")
+    × (judgementLine (UnknownCritical (denial 0 2 1)) ≡ text "verdict 20 name 0 record 2 up 1\n")
+    × (judgementLine (UnknownCritical (denial 99 255 10)) ≡ text "verdict 20 name 99 record 255 up 10\n")
+    × (judgementLine (TooManyAliases (denial 3 1 2)) ≡ text "verdict 22 name 3 record 1 up 2\n")
+    × (judgementLine (NotGranted (denial 249 1023 126)) ≡ text "verdict 21 name 249 record 1023 up 126\n")
     × (judgementLine (Refused (BadRecord (record { 0 = 4 }))) ≡ text "refused 6 at 4\n")
     × (judgementLine (Refused BadIssuer) ≡ text "refused 4 at 0\n")
     × (judgementLine (Refused TooManyNames) ≡ text "refused 3 at 250\n")
@@ -69,7 +72,7 @@ Line-examples =
 -- no book. A file that is missing counts as empty.
 abbrev pub Desk-lines : Type 0
 Desk-lines =
-    (deskLine true both ca1 someone (bookOf wholeBook) ≡ text "verdict 21 name 1 record 3\n")
+    (deskLine true both ca1 someone (bookOf wholeBook) ≡ text "verdict 21 name 1 record 3 up 0\n")
     × (deskLine true both ca2 someone (bookOf wholeBook) ≡ text "verdict 0\n")
     × (deskLine true [] ca1 someone (bookOf wholeBook) ≡ text "refused 2 at 0\n")
     × (deskLine true both (ca1 ++ text "\n") someone (bookOf wholeBook) ≡ text "refused 4 at 0\n")
@@ -77,6 +80,7 @@ Desk-lines =
     × (deskLine true both ca1 (record { account = text "https://a/1"; method = text "dns-01\n" }) (bookOf wholeBook) ≡ text "refused 15 at 0\n")
     × (deskLine true both ca1 someone (bookOf wholeBook ++ (64 ∷ [])) ≡ text "refused 6 at 4\n")
     × (deskLine true both ca1 someone conflicting ≡ text "refused 12 at 2\n")
-    × (deskLine true both ca1 someone circular ≡ text "verdict 22 name 1 record 1\n")
+    × (deskLine true both ca1 someone circular ≡ text "verdict 22 name 1 record 1 up 0\n")
+    × (deskLine true both ca2 someone circular ≡ text "verdict 21 name 0 record 0 up 1\n")
     × (deskLine false both ca1 someone (bookOf wholeBook) ≡ text "no book\n")
     × (deskLine false both ca1 (record { account = []; method = [] }) [] ≡ text "no book\n")

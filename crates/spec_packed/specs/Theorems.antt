@@ -33,7 +33,7 @@ Packed-bits =
     (n a b c : ℕ) → n < 2 ^ 8 → a < 2 ^ 24 → b < 2 ^ 16 → c < 2 ^ 16 →
     packed n a b c ≡ n + a * 256 + b * 4294967296 + c * 281474976710656
 
--- A packed answer as one number: 21, name 1, record 3, and 5 in field c, which no answer uses yet.
+-- A packed answer as one number: 21, name 1, record 3, 5 labels taken off.
 abbrev pub Packed-example : Type 0
 Packed-example = packed 21 1 3 5 ≡ 1407387768455445
 

@@ -4,14 +4,15 @@ use native.Mathlib.Nat.{not-suc-le-zero}
 use native.Mathlib.Omega.{arith}
 use mathlib.Core.Path.{_≡_, refl, sym, ap, _∙_}
 use mathlib.Core.Logic.{_≢_}
-use mathlib.Core.Bool.{Bool, true, false, cond, true≢false}
+use mathlib.Core.Bool.{true≢false}
 use mathlib.Core.List.{List, [], _∷_, map}
 use lib.ListN.{length, drop, length-append}
 use Rattle.spec_limits.specs.Limits.{maxNameOctets}
 use Rattle.spec_octets.specs.Lists.{All, all-nil, all-cons}
 use Rattle.spec_name.specs.Names.{Name, wire, ancestors, GoodName}
 use Rattle.spec_name.proofs.NameLaws.{GoodLabel}
-use Rattle.spec_request.specs.Request.{isAsterisk, base}
+use Rattle.spec_request.specs.Request.{base}
+use Rattle.spec_request.proofs.RequestedNames.{good-base}
 use Rattle.spec_rule.specs.RelevantSet.{CaaRecord, Book, Lookup, empty, found, endless, lookup, emptyBefore, relevantSet, labelsOff}
 use Rattle.spec_rule.specs.Meaning.{NearestAt, DecidedAt}
 use Rattle.spec_rule.specs.Theorems.{Labels-taken-off, Decided-once, Up-below-labels}
@@ -76,15 +77,5 @@ few-labels : (n : Name) → GoodName n → length n ≤ 127
 unfolding maxNameOctets
 few-labels n (gs, short) = omega (arith, two-octets-each n gs)
 
--- X has no more labels than X or *.X
-base-shorter : (n : Name) → length (base n) ≤ length n
-unfolding base
-base-shorter [] = omega arith
-base-shorter (l ∷ n) = go (isAsterisk l)
-  where
-    go : (t : Bool) → length (cond t n (l ∷ n)) ≤ length (l ∷ n)
-    go true = omega arith
-    go false = omega arith
-
 pub up-below-labels : Up-below-labels
-up-below-labels book n u (l, near) = (near .0, λ good. omega (arith, near .0, base-shorter n, few-labels n good))
+up-below-labels book n u (l, near) = (near .0, λ good. omega (arith, near .0, few-labels (base n) (good-base n good)))

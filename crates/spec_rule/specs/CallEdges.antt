@@ -181,7 +181,8 @@ Lists-agree =
     -- Aliases that don't end leave nobody, whether the name comes after another or alone.
     × (listing ("www.example.com" ∷ "pay.example.com" ∷ []) circular 3 ≡ record { answer = Listed 0 0; buffer = replicate 3 95 })
     × (listing ("pay.example.com" ∷ []) circular 3 ≡ record { answer = Listed 0 0; buffer = replicate 3 95 })
-    -- An alias and a CAA record of one owner: found after a refused account and a record that is cut off, and before the buffer, which has no room here.
+    -- An alias and a CAA record of one owner: found before the buffer is looked at, whether it is too short for the list (16 octets) or has room for it,
+    -- and after a refused account and a record that is cut off.
     × (listing ("www.example.com" ∷ []) conflicting 3 ≡ record { answer = ListRefused (AliasConflict (record { 0 = 2 })); buffer = replicate 3 95 })
     × (listingFor nobody ("www.example.com" ∷ []) conflicting 3 ≡ record { answer = ListRefused BadAccountOrMethod; buffer = replicate 3 95 })
     × (listing ("www.example.com" ∷ []) (conflicting ++ (64 ∷ [])) 3 ≡ record { answer = ListRefused (BadRecord (record { 0 = 3 })); buffer = replicate 3 95 })

@@ -14,15 +14,15 @@ module _ (x j : Judgement) (is : x ≡ j) where
   unfolding packedJudgement judgementCode packed
   permitted-packed e = rw (← is, e) refl
 
-  pub critical-packed : (r : ℕ) (d : Denial) → r ≡ packed 20 (d .name .0) (d .rr .0) 0 → x ≡ UnknownCritical d → r ≡ packedJudgement j
+  pub critical-packed : (r : ℕ) (d : Denial) → r ≡ packed 20 (d .name .0) (d .rr .0) (d .up .0) → x ≡ UnknownCritical d → r ≡ packedJudgement j
   unfolding packedJudgement judgementCode
   critical-packed r d p e = rw (← is, e) p
 
-  pub not-granted-packed : (r : ℕ) (d : Denial) → r ≡ packed 21 (d .name .0) (d .rr .0) 0 → x ≡ NotGranted d → r ≡ packedJudgement j
+  pub not-granted-packed : (r : ℕ) (d : Denial) → r ≡ packed 21 (d .name .0) (d .rr .0) (d .up .0) → x ≡ NotGranted d → r ≡ packedJudgement j
   unfolding packedJudgement judgementCode
   not-granted-packed r d p e = rw (← is, e) p
 
-  pub too-many-packed : (r : ℕ) (d : Denial) → r ≡ packed 22 (d .name .0) (d .rr .0) 0 → x ≡ TooManyAliases d → r ≡ packedJudgement j
+  pub too-many-packed : (r : ℕ) (d : Denial) → r ≡ packed 22 (d .name .0) (d .rr .0) (d .up .0) → x ≡ TooManyAliases d → r ≡ packedJudgement j
   unfolding packedJudgement judgementCode
   too-many-packed r d p e = rw (← is, e) p
 

@@ -1,12 +1,24 @@
 // The calls for C and Rust. Each returns a word of 64 bits: the number of the answer in bits 0 to 7, and the fields a, b and c above.
 use spec_line::LineAnswer;
+use spec_rule::Denial;
 use spec_rule::Judgement;
 use spec_rule::PermittedIssuers;
 ghost use mathlib.Core.Path.{_≡_};
+ghost use Rattle.spec_packed.specs.Packed.{packed};
 ghost use Rattle.spec_answers.specs.Door.{caaJudgeFor, caaPermittedIssuersFor, caaWriteLine, caaReadLine};
 ghost use Rattle.spec_answers.specs.LineAnswers.{packedLine};
 
-// May this issuer issue, for this account and by this method? 0: permitted. 20, 21 and 22: name number in a, record number in b. A refusal: its place (spec_refusal) in a.
+// A verdict with the numbers of its denial.
+fn pack_denial(number: u64, d: Denial) -> u64
+    ensures { λ r. ⌜ r ≡ packed number (d .name .0) (d .rr .0) (d .up .0) ⌝ }
+{
+    let name = d.name;
+    let rr = d.rr;
+    let up = d.up;
+    spec_packed::pack(number, name.0 as u64, rr.0 as u64, up.0 as u64)
+}
+
+// May this issuer issue, for this account and by this method? 0: permitted. 20, 21 and 22: name number in a, record number in b, labels taken off in c. A refusal: its place (spec_refusal) in a.
 #[no_mangle]
 pub extern "C" fn caa_judge_for(
     request: &[u8],
@@ -19,21 +31,9 @@ pub extern "C" fn caa_judge_for(
 {
     match judge_call::judge(request, issuer, account, method, book) {
         Judgement::Permitted => 0,
-        Judgement::UnknownCritical(d) => {
-            let name = d.name;
-            let rr = d.rr;
-            spec_packed::pack(20, name.0 as u64, rr.0 as u64, 0)
-        }
-        Judgement::NotGranted(d) => {
-            let name = d.name;
-            let rr = d.rr;
-            spec_packed::pack(21, name.0 as u64, rr.0 as u64, 0)
-        }
-        Judgement::TooManyAliases(d) => {
-            let name = d.name;
-            let rr = d.rr;
-            spec_packed::pack(22, name.0 as u64, rr.0 as u64, 0)
-        }
+        Judgement::UnknownCritical(d) => pack_denial(20, d),
+        Judgement::NotGranted(d) => pack_denial(21, d),
+        Judgement::TooManyAliases(d) => pack_denial(22, d),
         Judgement::Refused(r) => spec_packed::pack_refusal(r),
     }
 }

@@ -8,7 +8,7 @@ cases = []
 
 def asked(title, book, permitted, request=X, account=ACCOUNT, method=METHOD):
     """One issuer: granted, or denied by the record 0; and who may issue."""
-    answer, issuers = (PERMITTED, [CA]) if permitted else (not_granted(0, 0), [])
+    answer, issuers = (PERMITTED, [CA]) if permitted else (not_granted(0, 0, 0), [])
     cases.append(judge("applicant: " + title, request, CA, book, answer, account, method))
     cases.append(listed("applicant list: " + title, request, book, issuers, account=account, method=method))
 
@@ -17,7 +17,7 @@ def limits(title, parameters, permitted, **more):
     asked(title, issue("x", f"{CA};{parameters}"), permitted, **more)
 
 
-def bad(title, account=ACCOUNT, method=METHOD, request=X, issuer=CA, book=b"", answer=(15, 0, 0), listing=None):
+def bad(title, account=ACCOUNT, method=METHOD, request=X, issuer=CA, book=b"", answer=refused(15, 0), listing=None):
     cases.append(judge("refused: " + title, request, issuer, book, answer, account, method))
     cases.append(listed("refused list: " + title, request, book, listing or answer, account=account, method=method))
 

@@ -50,6 +50,11 @@ def caa(owner, flags, tag, value=""):
     return record(owner, 257, 1, data(flags, tag, value))
 
 
+def cname(owner, target):
+    """An alias."""
+    return record(owner, 5, 1, name(target))
+
+
 def issue(owner, value):
     return caa(owner, 0, "issue", value)
 
@@ -58,22 +63,28 @@ def issuewild(owner, value):
     return caa(owner, 0, "issuewild", value)
 
 
-# Answers: number, a, b.
+# Answers: number, a, b, c.
 
-PERMITTED = (0, 0, 0)
-ANYONE = (30, 0, 0)
-
-
-def critical(name_number, record_number):
-    return (20, name_number, record_number)
+PERMITTED = (0, 0, 0, 0)
+ANYONE = (30, 0, 0, 0)
 
 
-def not_granted(name_number, record_number):
-    return (21, name_number, record_number)
+# "the number of labels taken off X to reach it (where aliases were followed, to reach the name they start from), 0 at X itself"
+
+def critical(name_number, record_number, labels_off):
+    return (20, name_number, record_number, labels_off)
+
+
+def not_granted(name_number, record_number, labels_off):
+    return (21, name_number, record_number, labels_off)
+
+
+def too_many_aliases(name_number, record_number, labels_off):
+    return (22, name_number, record_number, labels_off)
 
 
 def refused(number_, place):
-    return (number_, place, 0)
+    return (number_, place, 0, 0)
 
 
 # Cases of the four calls. Where no room is told, it is three octets more than what is made, and enough for a list of one or for the data
@@ -92,7 +103,7 @@ def listed(title, request, book, answer, room=None, account=ACCOUNT, method=METH
     made = b""
     if isinstance(answer, list):
         made = b"".join(bytes([len(n)]) + octets(n) for n in answer)
-        answer = (31, len(made), len(answer))
+        answer = (31, len(made), len(answer), 0)
     return Case(title, 2, request, b"", octets(account), octets(method), book, room_for(made) if room is None else room, answer,
                 made)
 
@@ -107,7 +118,7 @@ def of_line(title, call, given, answer, room):
     made = b""
     if not isinstance(answer, tuple):
         made = octets(answer)
-        answer = (0, len(made), 0)
+        answer = (0, len(made), 0, 0)
     return Case(title, call, octets(given), b"", b"", b"", b"", room_for(made) if room is None else room, answer, made)
 
 
@@ -149,5 +160,5 @@ def buffer_text(case):
 
 
 def case_line(case):
-    text = "{}: {} {} {}".format(case.title, *case.answer)
+    text = "{}: {} {} {} {}".format(case.title, *case.answer)
     return octets(text + (buffer_text(case) if case.call != 1 else "") + "\n")

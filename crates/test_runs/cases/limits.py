@@ -34,7 +34,7 @@ request("a star name of 256", star_over, refused(2, 0))
 # names of 255 are looked up whole
 book = issue(at_most, CA1) + issue(star_at_most[2:], CA1)
 for title, octets, rr in ("a name of 255", at_most, 0), ("a star name of 255", star_at_most, 1):
-    cases.append(judge(f"looked up: {title}", octets, "x.example", book, not_granted(0, rr)))
+    cases.append(judge(f"looked up: {title}", octets, "x.example", book, not_granted(0, rr, 0)))
     cases.append(listed(f"looked up: {title}, list", octets, book, [CA1]))
 
 # "250 names"; octets that remain after 250 good ones are refusal 3 at 250
@@ -49,7 +49,7 @@ request("100 names", X * 100, PERMITTED)
 request("101 names", X * 101, PERMITTED)
 for count in 101, 250:
     title, octets = f"request: name {count - 1} decides", X * (count - 1) + name("z")
-    cases.append(judge(title, octets, "x.example", book, not_granted(count - 1, 0)))
+    cases.append(judge(title, octets, "x.example", book, not_granted(count - 1, 0, 0)))
     cases.append(listed(f"{title}, list", octets, book, [CA1]))
 
 # "16,384 request octets": 64 names of 255 and one of 64, or of 65
@@ -97,7 +97,7 @@ assert (len(at_most), len(over)) == (253, 254)
 issuer("253 octets", at_most, PERMITTED)
 issuer("254 octets", over, refused(4, 0))
 issuer("253 octets, granted", at_most, PERMITTED, issue("x", at_most))
-issuer("253 octets, not granted", at_most, not_granted(0, 0), issue("x", at_most[:-1] + "b"))
+issuer("253 octets, not granted", at_most, not_granted(0, 0, 0), issue("x", at_most[:-1] + "b"))
 issuer("1 octet", "a", PERMITTED)
 issuer("empty", "", refused(4, 0))
 issuer("a label of 63", "a" * 63 + ".net", PERMITTED)  # "each label 1 to 63"
@@ -134,18 +134,18 @@ book_of("empty", b"", PERMITTED)  # "An empty book is good."
 
 # "1,024 records"; octets that remain after 1,024 good ones are refusal 7 at 1,024
 least = record("", 1, 1, b"")  # 11 octets
-book_of("1,024 records", least * 1023 + last, not_granted(0, 1023))
+book_of("1,024 records", least * 1023 + last, not_granted(0, 1023, 0))
 book_of("1,025 records", least * 1024 + last, refused(7, 1024))
 book_of("1,024 CAA records", caa("y", 0, "issue") * 1024, PERMITTED)
 cases.append(judge("book: 1,025 CAA records", X, CA1, caa("y", 0, "issue") * 1025, refused(7, 1024)))
 book_of("an octet after 1,024 records", least * 1024 + b"\0", refused(7, 1024))
 book_of("a bad 1,024th record", least * 1023 + b"\x40", refused(6, 1023))
 book_of("a bad record after 1,024", least * 1024 + b"\x40", refused(7, 1024))
-cases.append(judge("book: record 1,023 is critical", X, CA1, least * 1023 + caa("x", 128, "tbs"), critical(0, 1023)))
+cases.append(judge("book: record 1,023 is critical", X, CA1, least * 1023 + caa("x", 128, "tbs"), critical(0, 1023, 0)))
 cases.append(listed("book: record 1,023 is critical, list", X, last + least * 1022 + caa("x", 128, "tbs"), []))
 # 256 records were the limit before
-book_of("256 records", txt * 255 + last, not_granted(0, 255))
-book_of("257 records", txt * 256 + last, not_granted(0, 256))
+book_of("256 records", txt * 255 + last, not_granted(0, 255, 0))
+book_of("257 records", txt * 256 + last, not_granted(0, 256, 0))
 book_of("257 CAA records", caa("y", 0, "issue") * 257, PERMITTED)
 
 
@@ -155,12 +155,12 @@ def of_octets(n):
 
 
 # "49,152 book octets"
-cases.append(judge("book: 49,152 octets", X, "x.example", of_octets(49152), not_granted(0, 1)))
+cases.append(judge("book: 49,152 octets", X, "x.example", of_octets(49152), not_granted(0, 1, 0)))
 cases.append(judge("book: 49,153 octets", X, CA1, of_octets(49153), refused(5, 0)))
 cases.append(judge("book: 49,152 octets, badly laid out", X, CA1, b"\xff" * 49152, refused(6, 0)))
 cases.append(listed("book: 49,153 octets, badly laid out", X, b"\xff" * 49153, refused(5, 0)))
 # 32,768 octets were the limit before
-book_of("32,769 octets", of_octets(32769), not_granted(0, 1))
+book_of("32,769 octets", of_octets(32769), not_granted(0, 1, 0))
 
 # All four limits at once, and the last name is governed by the last record. 250 names of 65 octets take 16,250, and 134 of them have one
 # octet more; 1,024 records of 48 octets.
@@ -168,19 +168,19 @@ full = labels(62, 1) * 133 + labels(63) * 116 + labels(62, 1, of="b")
 one, other = "ca01.authorities.example.net", "ca02.authorities.example.net"
 full_book = issue("y", one) * 1023 + issue("b", other)
 assert (len(full), len(full_book)) == (16384, 49152)
-cases.append(judge("the largest request and book", full, one, full_book, not_granted(249, 1023)))
+cases.append(judge("the largest request and book", full, one, full_book, not_granted(249, 1023, 1)))
 cases.append(listed("the largest request and book, list", full, full_book, [other]))
 
 # "Owner labels may hold any octets; a length octet above 63 is a fault; an owner is at most 255 octets and may be the root."
-book_of("an owner's label of 63", record(labels(63), 16, 1, b"") + last, not_granted(0, 1))
+book_of("an owner's label of 63", record(labels(63), 16, 1, b"") + last, not_granted(0, 1, 0))
 book_of("an owner's label of 64", record(labels(64), 16, 1, b"") + last, refused(6, 0))
-book_of("an owner of 255", record(labels(63, 63, 63, 61), 16, 1, b"") + last, not_granted(0, 1))
+book_of("an owner of 255", record(labels(63, 63, 63, 61), 16, 1, b"") + last, not_granted(0, 1, 0))
 book_of("an owner of 256", record(labels(63, 63, 63, 62), 16, 1, b"") + last, refused(6, 0))
-book_of("a CAA owner of 255", issue(labels(63, 63, 63, 61), CA1), not_granted(0, 0), labels(63, 63, 63, 61))
+book_of("a CAA owner of 255", issue(labels(63, 63, 63, 61), CA1), not_granted(0, 0, 0), labels(63, 63, 63, 61))
 book_of("a CAA owner of 256", issue(labels(63, 63, 63, 62), CA1), refused(6, 0), labels(63, 63, 63, 61))
-book_of("an owner of 255, many labels", issue(labels(*[1] * 127), CA1), not_granted(0, 0), labels(*[1] * 127))
+book_of("an owner of 255, many labels", issue(labels(*[1] * 127), CA1), not_granted(0, 0, 0), labels(*[1] * 127))
 book_of("the root's owner", issue("", CA1), PERMITTED)
-book_of("owners of any octets", record(b"\4\0-*.\0", 16, 1, b"") + issue(b"\2\xff_\1x\0", CA1) + last, not_granted(0, 2))
+book_of("owners of any octets", record(b"\4\0-*.\0", 16, 1, b"") + issue(b"\2\xff_\1x\0", CA1) + last, not_granted(0, 2, 0))
 book_of("compression", record(b"\xc0\x0c", 16, 1, b"") + last, refused(6, 0))  # "without compression"
 book_of("an owner without its zero", b"\1y", refused(6, 0))
 
@@ -188,7 +188,7 @@ book_of("an owner without its zero", b"\1y", refused(6, 0))
 for cut in 1, 4, 5, 7, 12, 13:  # in the owner, the type, the class, the time to live, before the data length and inside it
     book_of(f"the second record cut after {cut}", txt + record("y", 16, 1, b"ab")[:cut], refused(6, 1))
 book_of("data cut short", txt + record("y", 16, 1, b"ab", length=3), refused(6, 1))
-book_of("no data", record("y", 16, 1, b"") + last, not_granted(0, 1))
+book_of("no data", record("y", 16, 1, b"") + last, not_granted(0, 1, 0))
 book_of("a data length of FFFF", record("y", 16, 1, b"ab", length=0xFFFF), refused(6, 0))
 book_of("an octet behind the records", txt + last + b"\0", refused(6, 2))
 
@@ -202,20 +202,20 @@ for title, octets in (
     ("a tag length of 255", b"\0\xffissue"),
 ):
     book_of(title, txt + record("y", 257, 1, octets) + last, refused(6, 1))
-    book_of(title + ", class 3", txt + record("y", 257, 3, octets) + last, not_granted(0, 2))  # "passed over"
-book_of("a tag that fills the data", record("y", 257, 1, b"\0\5issue") + last, not_granted(0, 1))
-book_of("a tag of 255", caa("y", 128, "a" * 255) + last, not_granted(0, 1))
-book_of("data of CAA's least length", record("y", 257, 1, b"\0\1i") + last, not_granted(0, 1))
+    book_of(title + ", class 3", txt + record("y", 257, 3, octets) + last, not_granted(0, 2, 0))  # "passed over"
+book_of("a tag that fills the data", record("y", 257, 1, b"\0\5issue") + last, not_granted(0, 1, 0))
+book_of("a tag of 255", caa("y", 128, "a" * 255) + last, not_granted(0, 1, 0))
+book_of("data of CAA's least length", record("y", 257, 1, b"\0\1i") + last, not_granted(0, 1, 0))
 # a tag octet that is no letter or digit, in any place of the tag; the value and other classes may have any
 for octet in "-", "_", " ", "/", ":", "@", "[", "`", "{", "\0", "\x7f", "\x80", "\xff":
     book_of(f"octet {ord(octet):02x} last in a tag", txt + caa("y", 0, "is" + octet, "a") + last, refused(6, 1))
 book_of("octet 5f first in a tag", txt + caa("y", 0, "_is") + last, refused(6, 1))
 book_of("octet 5f alone in a tag", txt + caa("y", 0, "_") + last, refused(6, 1))
 book_of("octet 5f last in a tag of 255", txt + caa("y", 128, "a" * 254 + "_") + last, refused(6, 1))
-book_of("octet 5f in a tag, class 3", txt + record("y", 257, 3, data(128, "tb_s")) + last, not_granted(0, 2))
-book_of("octet 5f in a tag, type 256", txt + record("y", 256, 1, data(128, "tb_s")) + last, not_granted(0, 2))
-book_of("letters and digits in a tag", txt + caa("y", 128, "09AZaz", "_-/:@[`{\0\xff") + last, not_granted(0, 2))
-book_of("octet 5f behind a tag", txt + caa("y", 0, "is", "_") + last, not_granted(0, 2))
+book_of("octet 5f in a tag, class 3", txt + record("y", 257, 3, data(128, "tb_s")) + last, not_granted(0, 2, 0))
+book_of("octet 5f in a tag, type 256", txt + record("y", 256, 1, data(128, "tb_s")) + last, not_granted(0, 2, 0))
+book_of("letters and digits in a tag", txt + caa("y", 128, "09AZaz", "_-/:@[`{\0\xff") + last, not_granted(0, 2, 0))
+book_of("octet 5f behind a tag", txt + caa("y", 0, "is", "_") + last, not_granted(0, 2, 0))
 # "Reading stops at the first fault."
 book_of("a fault before 1,025 records", b"\x40" + least * 1024, refused(6, 0))
 book_of("two faults", txt + record("y", 257, 1, b"") + record("y", 257, 1, b""), refused(6, 1))

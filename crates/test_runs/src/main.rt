@@ -107,14 +107,16 @@ fn print_buffer(s: &[u8]) {
     io::print_hex(STDOUT_FILENO, checksum(s), 8);
 }
 
-// Prints the number and the fields a and b. No call sets field c; if one did, it would show in b.
+// Prints the number and the fields a, b and c.
 fn print_answer(packed: u64) {
     io::write_all(STDOUT_FILENO, b": ");
     io::print_decimal(STDOUT_FILENO, packed % 256);
     io::write_all(STDOUT_FILENO, b" ");
     io::print_decimal(STDOUT_FILENO, packed / 256 % 16777216);
     io::write_all(STDOUT_FILENO, b" ");
-    io::print_decimal(STDOUT_FILENO, packed / 4294967296);
+    io::print_decimal(STDOUT_FILENO, packed / 4294967296 % 65536);
+    io::write_all(STDOUT_FILENO, b" ");
+    io::print_decimal(STDOUT_FILENO, packed / 281474976710656);
 }
 
 // The packed answer of the call with this number: 1 judges, 2 lists, 3 writes a line, 4 reads one.

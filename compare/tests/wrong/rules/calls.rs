@@ -28,15 +28,19 @@ pub fn judge(
     let mut against = Vec::new();
     for (name, standing) in standings(request, applicant, book).into_iter().enumerate() {
         match standing {
-            Standing::Forbidden { record } => {
-                against.push(Answer::UnknownCritical { name, record });
+            Standing::Forbidden { record, up } => {
+                against.push(Answer::UnknownCritical { name, record, up });
             }
-            Standing::TooManyAliases { record } => {
-                against.push(Answer::TooManyAliases { name, record });
+            Standing::TooManyAliases { record, up } => {
+                against.push(Answer::TooManyAliases { name, record, up });
             }
-            Standing::Governed { record, grantees } => {
+            Standing::Governed {
+                record,
+                up,
+                grantees,
+            } => {
                 if !grantees.iter().any(|grantee| is_same(grantee, issuer)) {
-                    against.push(Answer::NotGranted { name, record });
+                    against.push(Answer::NotGranted { name, record, up });
                 }
             }
             Standing::Open => {}

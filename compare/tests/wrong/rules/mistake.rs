@@ -183,6 +183,21 @@ mistakes! {
         LastFollowedAliasIsTold,
         LowestAliasIsTold,
         AliasOfXIsTold;
+    IN_THE_COUNT:
+        OneLabelTooManyIsCounted,
+        OneLabelTooManyIsCountedAboveX,
+        OneLabelTooFewIsCounted,
+        StarIsCounted,
+        StarAtXIsCounted,
+        LabelsLeftAreTold,
+        OctetsTakenOffAreTold,
+        LabelsOfTheTargetAreTold,
+        LabelsUpToTheTargetAreTold,
+        AliasesAreCounted,
+        LooksAlongAliasesAreNotCounted,
+        LabelsOfTheFirstNameAreTold,
+        LabelsOfTheNameBeforeAreTold,
+        LabelsAreCountedFromNameToName;
     IN_THE_LIST:
         NamesWithLongLabelsAreListed,
         LongNamesAreListed,

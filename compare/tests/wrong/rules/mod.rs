@@ -4,6 +4,7 @@ mod aliases;
 mod book;
 mod calls;
 mod conflicts;
+mod count;
 mod limits;
 mod mistake;
 mod rule;
@@ -22,7 +23,7 @@ const LIST: Other = Other {
     ..Other::NOTHING
 };
 
-fn all_are_found_out(other: Other, groups: [&[Mistake]; 7]) {
+fn all_are_found_out(other: Other, groups: &[&[Mistake]]) {
     let is_missed = |mistake: &Mistake| {
         mistake.is_made_from_now_on();
         !is_found_at_random(other)
@@ -45,7 +46,7 @@ fn without_a_mistake_nothing_differs() {
 fn mistakes_in_judging_are_found_out() {
     all_are_found_out(
         JUDGE,
-        [
+        &[
             Mistake::IN_THE_BOOK,
             Mistake::IN_THE_CONFLICTS,
             Mistake::IN_THE_ALIASES,
@@ -53,6 +54,7 @@ fn mistakes_in_judging_are_found_out() {
             Mistake::IN_THE_SET,
             Mistake::IN_THE_LIMITS,
             Mistake::IN_THE_VERDICT,
+            Mistake::IN_THE_COUNT,
         ],
     );
 }
@@ -61,7 +63,7 @@ fn mistakes_in_judging_are_found_out() {
 fn mistakes_in_listing_are_found_out() {
     all_are_found_out(
         LIST,
-        [
+        &[
             Mistake::IN_THE_BOOK,
             Mistake::IN_THE_CONFLICTS,
             Mistake::IN_THE_ALIASES,

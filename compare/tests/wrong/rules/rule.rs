@@ -10,6 +10,7 @@ use compare::value::{leading_blanks, IssueValue};
 use compare::{read_issuer, read_value};
 
 use super::aliases::{alias_of, aliases, follow, owner_of, Alias, Led};
+use super::count::{labels_taken_off, told, Look};
 use super::limits::limits_are_met;
 use super::mistake::Mistake;
 
@@ -17,12 +18,15 @@ pub enum Standing<'a> {
     Open,
     Forbidden {
         record: usize,
+        up: usize,
     },
     TooManyAliases {
         record: usize,
+        up: usize,
     },
     Governed {
         record: usize,
+        up: usize,
         grantees: Vec<&'a [u8]>,
     },
 }
@@ -36,6 +40,7 @@ pub fn standings<'a>(
     let records = caa_records(book, applicant);
     let aliases = aliases(book);
     let mut standings = Vec::new();
+    let mut counts: Vec<usize> = Vec::new();
     let mut rest = request;
     while let Some((requested, behind)) = read_requested_name(rest) {
         let name = &rest[..rest.len() - behind.len()];
@@ -46,9 +51,13 @@ pub fn standings<'a>(
             true => &name[2..],
             false => name,
         };
-        standings.push(match relevant_set(&records, &aliases, start) {
-            Ok(set) => standing(&set, requested.wildcard),
-            Err(record) => Standing::TooManyAliases { record },
+        let (looks, found) = relevant_set(&records, &aliases, start);
+        let taken_off = labels_taken_off(start, &looks, requested.wildcard);
+        let up = told(taken_off, &counts);
+        counts.push(taken_off);
+        standings.push(match found {
+            Ok(set) => standing(&set, up, requested.wildcard),
+            Err(record) => Standing::TooManyAliases { record, up },
         });
         rest = behind;
     }
@@ -85,11 +94,23 @@ fn caa_records<'a>(book: &'a [u8], applicant: Applicant<'a>) -> Vec<Record<'a>> 
     records
 }
 
-/// The record that is told where there are too many aliases.
-fn relevant_set<'r, 'a>(
+/// The looks up to the one where the climb ends, and the set; or the record that is told where there are
+/// too many aliases.
+fn relevant_set<'r, 'a, 'n>(
     records: &'r [Record<'a>],
-    aliases: &[Alias],
-    name: &[u8],
+    aliases: &[Alias<'n>],
+    name: &'n [u8],
+) -> (Vec<Look<'n>>, Result<Vec<&'r Record<'a>>, usize>) {
+    let mut looks = Vec::new();
+    let set = set_of_climb(records, aliases, name, &mut looks);
+    (looks, set)
+}
+
+fn set_of_climb<'r, 'a, 'n>(
+    records: &'r [Record<'a>],
+    aliases: &[Alias<'n>],
+    name: &'n [u8],
+    looks: &mut Vec<Look<'n>>,
 ) -> Result<Vec<&'r Record<'a>>, usize> {
     let mut set = Vec::new();
     let mut place = name;
@@ -101,7 +122,16 @@ fn relevant_set<'r, 'a>(
         if at_root && !root_counts || is_given_up(looked_at) {
             return Ok(set);
         }
-        let target = match follow(aliases, place, looked_at, &mut counted) {
+        let led = follow(aliases, place, looked_at, &mut counted);
+        looks.push(Look {
+            at: place,
+            target: match led {
+                Led::To(target) if target != place => Some(target),
+                _ => None,
+            },
+            aliases: counted,
+        });
+        let target = match led {
             Led::To(target) => Some(target),
             Led::Nowhere => None,
             Led::ToOpen => return Ok(Vec::new()),
@@ -202,7 +232,7 @@ fn as_text(name: &[u8]) -> Vec<u8> {
     text
 }
 
-fn standing<'a>(set: &[&Record<'a>], wildcard: bool) -> Standing<'a> {
+fn standing<'a>(set: &[&Record<'a>], up: usize, wildcard: bool) -> Standing<'a> {
     let mut forbidding = set.iter().filter(|record| record.forbids());
     let forbidding = match Mistake::LastUnknownCriticalIsTold.is_made() {
         true => forbidding.next_back(),
@@ -211,6 +241,7 @@ fn standing<'a>(set: &[&Record<'a>], wildcard: bool) -> Standing<'a> {
     if let Some(record) = forbidding {
         return Standing::Forbidden {
             record: record.number,
+            up,
         };
     }
     let governing = governing_records(set, wildcard);
@@ -225,6 +256,7 @@ fn standing<'a>(set: &[&Record<'a>], wildcard: bool) -> Standing<'a> {
         None => Standing::Open,
         Some(record) => Standing::Governed {
             record: record.number,
+            up,
             grantees: governing
                 .iter()
                 .filter_map(|record| record.grantee())

@@ -4,10 +4,6 @@ use Rattle.spec_limits.specs.Limits.{maxAliases}
 use Rattle.book_onward.proofs.OnwardWays.{Following, at-first, at-the-end, too-many, leads-nowhere, followed-on}
 use Rattle.book_onward.proofs.follow.Statement.{statement}
 use Rattle.book_onward.proofs.follow.Tie as tie
-use Rattle.book_onward.proofs.follow.Reads as reads
-use Rattle.book_onward.proofs.follow.Lts as lts
-use Rattle.book_onward.proofs.onward_at.Reads as onward-at-reads
-use Rattle.book_table.proofs.is_alias_at.Reads as is-alias-at-reads
 
 abbrev Inv-loop : tie.InvT-loop
 Inv-loop table links onward first r₀ left₀ r left = Following table links onward first left r
@@ -15,48 +11,37 @@ Inv-loop table links onward first r₀ left₀ r left = Following table links on
 abbrev μ-loop : tie.MeasureT-loop
 μ-loop table links onward first r₀ left₀ r left = left
 
--- src/lib.rt:79:5
 loop-holds : tie.Need-loop-holds Inv-loop μ-loop
 unfolding maxAliases
 loop-holds c = search (needs, at-first)
 
--- src/lib.rt:79:11
 is-alias-at-requires : tie.Need-is-alias-at-requires Inv-loop μ-loop
 is-alias-at-requires c κs = search needs
 
--- src/lib.rt:81:13
 returns : tie.Need-returns Inv-loop μ-loop
 returns c = search (needs, too-many)
 
--- src/lib.rt:83:37
 onward-at-requires : tie.Need-onward-at-requires Inv-loop μ-loop
 onward-at-requires c κs = search needs
 
--- src/lib.rt:83:29
 enum-known-next : tie.Need-enum-known-next Inv-loop μ-loop
 enum-known-next c = search needs
 
--- src/lib.rt:84:13
 enum-told : tie.Need-enum-told Inv-loop μ-loop
 enum-told c = search needs
 
--- src/lib.rt:84:13
 returns-2 : tie.Need-returns-2 Inv-loop μ-loop
 returns-2 c = search (needs, leads-nowhere)
 
--- src/lib.rt:87:9
 sub-left : tie.Need-sub-left Inv-loop μ-loop
 sub-left c = search needs
 
--- src/lib.rt:79:5
 loop-less : tie.Need-loop-less Inv-loop μ-loop
 loop-less c = search needs
 
--- src/lib.rt:79:5
 loop-again : tie.Need-loop-again Inv-loop μ-loop
 loop-again c = search (needs, followed-on)
 
--- src/lib.rt:74:1
 returns-3 : tie.Need-returns-3 Inv-loop μ-loop
 returns-3 c = search (needs, at-the-end)
 

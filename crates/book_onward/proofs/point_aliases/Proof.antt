@@ -4,9 +4,6 @@ use borrow.Author.Needs.{needs}
 use Rattle.book_onward.proofs.OnwardWays.{Pointed, pointed-on, same-long, all-pointed}
 use Rattle.book_onward.proofs.point_aliases.Statement.{statement}
 use Rattle.book_onward.proofs.point_aliases.Tie as tie
-use Rattle.book_onward.proofs.point_aliases.Reads as reads
-use Rattle.book_onward.proofs.point_aliases.Lts as lts
-use Rattle.book_onward.proofs.point.Reads as point-reads
 
 abbrev Inv-loop : tie.InvT-loop
 Inv-loop book table links heads n onward₀ i₀ onward i = (i ≤ n) × Pointed book table links heads onward₀ i onward
@@ -14,31 +11,24 @@ Inv-loop book table links heads n onward₀ i₀ onward i = (i ≤ n) × Pointed
 abbrev μ-loop : tie.MeasureT-loop
 μ-loop book table links heads n onward₀ i₀ onward i = n - i
 
--- src/lib.rt:53:5
 loop-holds : tie.Need-loop-holds Inv-loop μ-loop
 loop-holds c = search needs
 
--- src/lib.rt:54:9
 point-requires : tie.Need-point-requires Inv-loop μ-loop
 point-requires c κs = search needs
 
--- src/lib.rt:55:9
 add-i : tie.Need-add-i Inv-loop μ-loop
 add-i c = search needs
 
--- src/lib.rt:53:5
 loop-less : tie.Need-loop-less Inv-loop μ-loop
 loop-less c = search needs
 
--- src/lib.rt:53:5
 loop-again : tie.Need-loop-again Inv-loop μ-loop
 loop-again c = search (needs, pointed-on)
 
--- src/lib.rt:42:1
 same-length : tie.Need-same-length Inv-loop μ-loop
 same-length c = search (needs, same-long)
 
--- src/lib.rt:42:1
 returns : tie.Need-returns Inv-loop μ-loop
 returns c = search (needs, all-pointed)
 

@@ -1,6 +1,6 @@
 -- `put_numbered` meets its contract.
 use borrow.Author.Needs.{needs}
-use Rattle.desk_judgement.proofs.Puts.{numbered-put, numbered-same}
+use Rattle.desk_judgement.proofs.Puts.{more-put}
 use Rattle.desk_judgement.proofs.put_numbered.Statement.{statement}
 use Rattle.desk_judgement.proofs.put_numbered.Tie as tie
 
@@ -19,20 +19,14 @@ part-put-number-end c = search needs
 put-number-requires-2 : tie.Need-put-number-requires-2
 put-number-requires-2 c κs = search needs
 
-add-e : tie.Need-add-e
-add-e c = search needs
-
-slice-write-out : tie.Need-slice-write-out
-slice-write-out c = search needs
-
 add-result : tie.Need-add-result
 add-result c = search needs
 
 same-length : tie.Need-same-length
-same-length c = search (needs, numbered-same)
+same-length c = search needs
 
 returns : tie.Need-returns
-returns c = search (needs, numbered-put)
+returns c = search (needs, more-put)
 
 pub put-numbered-spec : {M : Type 1} → statement M
 put-numbered-spec =
@@ -43,8 +37,6 @@ put-numbered-spec =
     part-put-number-start
     part-put-number-end
     put-number-requires-2
-    add-e
-    slice-write-out
     add-result
     same-length
     returns)

@@ -6,7 +6,7 @@ use Rattle.spec_limits.specs.Limits.{maxNames}
 use Rattle.read_request.proofs.RequestPlaces.{next-inside, left-less}
 use Rattle.judge_call.specs.Asked.{Asked}
 use Rattle.judge_call.proofs.AskedLaws.{same-notes}
-use Rattle.judge_call.proofs.NameWalk.{Judged, names-start, few, no-bad-name, base-first, name-unrestricted, question-inside, asked-before, name-denied, name-permitted, name-noted, all-passed}
+use Rattle.judge_call.proofs.NameWalk.{Judged, names-start, few, no-bad-name, base-first, name-first, name-unrestricted, set-below, name-denied, name-permitted, all-passed}
 use Rattle.judge_call.proofs.judge_names.Statement.{statement}
 use Rattle.judge_call.proofs.judge_names.Tie as tie
 
@@ -40,20 +40,20 @@ add-k : tie.Need-add-k Inv-loop μ-loop
 unfolding maxNames
 add-k c = search (needs, few)
 
-sub-nearest-record : tie.Need-sub-nearest-record Inv-loop μ-loop
-sub-nearest-record c = search (needs, base-first)
+sub-nearest : tie.Need-sub-nearest Inv-loop μ-loop
+sub-nearest c = search (needs, base-first, name-first)
 
-part-nearest-record-start : tie.Need-part-nearest-record-start Inv-loop μ-loop
-part-nearest-record-start c = search (needs, base-first)
+part-nearest-start : tie.Need-part-nearest-start Inv-loop μ-loop
+part-nearest-start c = search (needs, base-first, name-first)
 
-part-nearest-record-end : tie.Need-part-nearest-record-end Inv-loop μ-loop
-part-nearest-record-end c = search (needs, next-inside)
+part-nearest-end : tie.Need-part-nearest-end Inv-loop μ-loop
+part-nearest-end c = search (needs, next-inside)
 
-nearest-record-requires : tie.Need-nearest-record-requires Inv-loop μ-loop
-nearest-record-requires c κs = search needs
+nearest-requires : tie.Need-nearest-requires Inv-loop μ-loop
+nearest-requires c κs = search needs
 
-enum-known-set : tie.Need-enum-known-set Inv-loop μ-loop
-enum-known-set c = search needs
+enum-known-found : tie.Need-enum-known-found Inv-loop μ-loop
+enum-known-found c = search needs
 
 enum-told-2 : tie.Need-enum-told-2 Inv-loop μ-loop
 enum-told-2 c = search needs
@@ -64,41 +64,26 @@ loop-less c = search (needs, left-less)
 loop-again : tie.Need-loop-again Inv-loop μ-loop
 loop-again c = search (needs, name-unrestricted)
 
-question-number-requires : tie.Need-question-number-requires Inv-loop μ-loop
-question-number-requires c κs = search needs
+judge-once-requires : tie.Need-judge-once-requires Inv-loop μ-loop
+judge-once-requires c κs = (search needs, search (needs, set-below))
 
-slice-read-if1 : tie.Need-slice-read-if1 Inv-loop μ-loop
-slice-read-if1 c = search (needs, question-inside)
+enum-told-3 : tie.Need-enum-told-3 Inv-loop μ-loop
+enum-told-3 c = search needs
 
 loop-less-2 : tie.Need-loop-less-2 Inv-loop μ-loop
 loop-less-2 c = search (needs, left-less)
 
 loop-again-2 : tie.Need-loop-again-2 Inv-loop μ-loop
-loop-again-2 c = search (needs, asked-before)
-
-judge-by-set-requires : tie.Need-judge-by-set-requires Inv-loop μ-loop
-judge-by-set-requires c κs = search needs
-
-enum-told-3 : tie.Need-enum-told-3 Inv-loop μ-loop
-enum-told-3 c = search needs
+loop-again-2 c = search (needs, name-permitted)
 
 same-length-2 : tie.Need-same-length-2 Inv-loop μ-loop
 same-length-2 c =
     let walk = c .before .before .before .before .before .before .before .before .before .before .before .before .before .before .before in
     let start = walk .before .before .before .before .before .before .before .before .before .before .before in
-    search (needs, same-notes _ _ _ _ _ _ _ (walk .loop .inv .1) (start .pre .1))
+    search (needs, same-notes, start .pre .1)
 
 returns-2 : tie.Need-returns-2 Inv-loop μ-loop
 returns-2 c = search (needs, name-denied)
-
-slice-write-asked : tie.Need-slice-write-asked Inv-loop μ-loop
-slice-write-asked c = search (needs, question-inside)
-
-loop-less-3 : tie.Need-loop-less-3 Inv-loop μ-loop
-loop-less-3 c = search (needs, left-less)
-
-loop-again-3 : tie.Need-loop-again-3 Inv-loop μ-loop
-loop-again-3 c = search (needs, name-permitted, name-noted)
 
 same-length-3 : tie.Need-same-length-3 Inv-loop μ-loop
 same-length-3 c = search (needs, same-notes)
@@ -119,24 +104,19 @@ judge-names-spec =
     same-length
     returns
     add-k
-    sub-nearest-record
-    part-nearest-record-start
-    part-nearest-record-end
-    nearest-record-requires
-    enum-known-set
+    sub-nearest
+    part-nearest-start
+    part-nearest-end
+    nearest-requires
+    enum-known-found
     enum-told-2
     loop-less
     loop-again
-    question-number-requires
-    slice-read-if1
+    judge-once-requires
+    enum-told-3
     loop-less-2
     loop-again-2
-    judge-by-set-requires
-    enum-told-3
     same-length-2
     returns-2
-    slice-write-asked
-    loop-less-3
-    loop-again-3
     same-length-3
     returns-3)

@@ -13,20 +13,20 @@ enum-told c = search needs
 enum-known-d : tie.Need-enum-known-d
 enum-known-d c = search needs
 
-pack-requires : tie.Need-pack-requires
-pack-requires c κs = search needs
+pack-denial-requires : tie.Need-pack-denial-requires
+pack-denial-requires c κs = search needs
 
 enum-known-d-2 : tie.Need-enum-known-d-2
 enum-known-d-2 c = search needs
 
-pack-requires-2 : tie.Need-pack-requires-2
-pack-requires-2 c κs = search needs
+pack-denial-requires-2 : tie.Need-pack-denial-requires-2
+pack-denial-requires-2 c κs = search needs
 
 enum-known-d-3 : tie.Need-enum-known-d-3
 enum-known-d-3 c = search needs
 
-pack-requires-3 : tie.Need-pack-requires-3
-pack-requires-3 c κs = search needs
+pack-denial-requires-3 : tie.Need-pack-denial-requires-3
+pack-denial-requires-3 c κs = search needs
 
 enum-known-r : tie.Need-enum-known-r
 enum-known-r c = search needs
@@ -56,11 +56,11 @@ caa-judge-for-spec =
     judge-requires
     enum-told
     enum-known-d
-    pack-requires
+    pack-denial-requires
     enum-known-d-2
-    pack-requires-2
+    pack-denial-requires-2
     enum-known-d-3
-    pack-requires-3
+    pack-denial-requires-3
     enum-known-r
     pack-refusal-requires
     returns
