@@ -186,12 +186,13 @@ module _ (who : Applicant) (request issuer book table links heads onward : List 
               set-below =
                   omega (arith, rw (sym found-there ∙ e) at (nearest-below links book table heads onward (take (r .next - r .base) (drop (r .base) request))), ap length (w .ready .chained), chains-fit book .0)
 
-              -- j is the verdict by the set
-              module _ (j : Judgement) (q : j ≡ verdictBySet who issuer book table links k set (p .up) (r .wildcard)) where
-                pub name-denied : NotPermitted j → j ≡ judge request issuer who book
+              -- j is the verdict by the set; a permitted name passes whatever is counted
+              module _ (j : Judgement) where
+                pub name-denied : j ≡ verdictBySet who issuer book table links k set (p .up) (r .wildcard) → NotPermitted j → j ≡ judge request issuer who book
                 unfolding verdictBySet
-                name-denied h = denies-it issuer k (p .up) behind (by (At set)) j q h ∙ sym (by-name (At set) e)
+                name-denied q h = denies-it issuer k (p .up) behind (by (At set)) j q h ∙ sym (by-name (At set) e)
 
-                pub name-permitted : j ≡ Permitted → (k′ : ℕ) → k′ ≡ k + 1 → Judged (r .next) k′
+                pub name-permitted :
+                    (u : ℕ) → j ≡ verdictBySet who issuer book table links k set u (r .wildcard) → j ≡ Permitted → (k′ : ℕ) → k′ ≡ k + 1 → Judged (r .next) k′
                 unfolding verdictBySet
-                name-permitted h = passed (by-name (At set) e ∙ rw (permits-it issuer k (p .up) (by (At set)) (sym h ∙ q)))
+                name-permitted u q h = passed (by-name (At set) e ∙ rw (permits-it issuer k u (by (At set)) (sym h ∙ q)))
