@@ -272,6 +272,9 @@ edges =
     ∷ nameEdge (chain "x.y" 97 8 ++ (caa "y" 0 "issue" "ca1.example.net" ∷ [])) "x.y" (unresolved 0)
     -- They are counted anew at each name: five from X lead to no CAA record, and five from its parent to one.
     ∷ nameEdge (chain "x.y" 97 4 ++ (chain "y" 98 4 ++ (issuingAt (letters 98 5) "ca1.example.net" ∷ []))) "x.y" (granted 10 (ca1 ∷ []))
+    -- From a name of 127 labels, the most that a name can have, to another, and to the set there. A set at a third one is not found.
+    ∷ climbEdge (aliased (below 126) (text "b" ∷ below 125) ∷ issuingAt (text "b" ∷ below 125) "ca1.example.net" ∷ []) 126 (granted 1 (ca1 ∷ []))
+    ∷ climbEdge (aliased (below 126) (text "b" ∷ below 125) ∷ issuingAt (text "d" ∷ below 125) "ca1.example.net" ∷ []) 126 unrestricted
     -- Aliases that lead back.
     ∷ nameEdge (cname "www.example.com" "www.example.com" ∷ issuing "ca1.example.net") "www.example.com" (unresolved 0)
     ∷ nameEdge (cname "web.example.com" "www.example.com" ∷ cname "www.example.com" "WEB.example.com" ∷ issuing "ca1.example.net") "www.example.com" (unresolved 1)
