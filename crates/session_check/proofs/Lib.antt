@@ -1,0 +1,2 @@
+pub mod HeldParts
+pub mod KeptLaws

@@ -1,0 +1,4 @@
+pub mod HeldTexts
+pub mod CopiedTexts
+pub mod LabelsAbove
+pub mod NamesAbove

@@ -1,0 +1,11 @@
+pub mod Texts
+pub mod Kept
+pub mod StepLaws
+pub mod Opening
+pub mod AskedName
+pub mod Trails
+pub mod Runs
+pub mod SameLookups
+pub mod SameProperties
+pub mod WholeBook
+pub mod Table
