@@ -34,7 +34,7 @@ pub fn go_to(session: Session) -> Stepped
 }
 
 // Ends a session with this verdict and this record.
-pub fn close(session: Session, verdict: usize, rr: usize) -> Session
+pub fn close_session(session: Session, verdict: usize, rr: usize) -> Session
     ensures { λ r. ⌜ r ≡ closedWith verdict rr session ⌝ }
 {
     let up = session.up;
@@ -62,5 +62,5 @@ pub fn fail(session: Session) -> Stepped
         let answer = SessionAnswer::Judged(Judgement::Refused(Refusal::SessionEnded));
         return Stepped { answer, session };
     }
-    go_to(close(session, 23, 0))
+    go_to(close_session(session, 23, 0))
 }
