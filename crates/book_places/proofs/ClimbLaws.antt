@@ -86,7 +86,7 @@ labels-off-by-offset book x accepted good = from-the-name book x accepted good .
 
 -- what holds of all CAA records holds of those of a relevant set
 module _ (P : CaaRecord → Type 0) (rule : Book) (all : All P (rule .caa)) where
-  looked-have : (x : Name) (l : Lookup) → lookup rule x ≡ l → All P (recordsIn l)
+  pub looked-have : (x : Name) (l : Lookup) → lookup rule x ≡ l → All P (recordsIn l)
   looked-have x empty e = all-nil
   looked-have x (found cs) e = let (y, ends, selects, some-set) = a-lookup rule x .1 cs .0 e in selects-all selects all
   looked-have x (endless r) e = all-nil
