@@ -25,7 +25,7 @@ use Rattle.book_places.specs.Theorems.{recordsIn, Finds, Climb-by-offset
 use Rattle.book_places.proofs.LookLaws.{ruled, look-finds, found-nothing}
 use Rattle.spec_rule.proofs.Lookups.{a-lookup}
 
-good-parent : (l : Label) (ls : Name) → GoodName (l ∷ ls) → GoodName ls
+pub good-parent : (l : Label) (ls : Name) → GoodName (l ∷ ls) → GoodName ls
 good-parent l ls (all-cons g gs, long) = (gs, omega (arith, length-append l (wire ls)))
 
 module _ (book table links heads onward : List ℕ) (rule : Book) where
