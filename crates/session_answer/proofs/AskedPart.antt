@@ -92,5 +92,10 @@ module _ (s : Session) (p : Place) (k : keptAt s ≡ At p) where
       let same : m′ ≡ n = Option·some-injective _ _ (sym f′ ∙ f) in
       let here : p ≡ placeOf (length (held (s .name))) n (s .up) = rw same at place in
       g
-      ∙ rw (held-part (s .account) a ha, held-part (s .method) m hm, held-part (s .issuer) i hi,
-        name-octets s n f (p .offset) (ap (λ (q : Place). q .offset) here) e he, ap (λ (q : Place). q .wildcard) here) refl
+      ∙ rw (
+        held-part (s .account) a ha,
+        held-part (s .method) m hm,
+        held-part (s .issuer) i hi,
+        name-octets s n f (p .offset) (ap (λ (q : Place). q .offset) here) e he,
+        ap (λ (q : Place). q .wildcard) here,
+      ) refl
