@@ -44,8 +44,9 @@ module _ (book table₀ links₀ heads₀ onward₀ : List ℕ) (blank : Blank b
     found-by : lookedAt who issuer book up wildcard x ≡ lookedBy who issuer book up wildcard o
     unfolding lookedAt
     found-by =
-        ap (lookedBy who issuer book up wildcard)
-        (sym (f ∙ rw (tabled, linked, headed, pointed) refl))
+        let here : o ≡ lookedUpAt book (tableOf book) (chainsOf book .links) (chainsOf book .heads) (onwardOf book) x =
+            rw (tabled, linked, headed, pointed) at f in
+        ap (lookedBy who issuer book up wildcard) (sym here)
 
     pub finds-nothing : o ≡ Nothing → Empty ≡ lookedAt who issuer book up wildcard x
     finds-nothing e = sym (found-by ∙ ap (lookedBy who issuer book up wildcard) e)
