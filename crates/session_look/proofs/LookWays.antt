@@ -1,6 +1,6 @@
 -- The ways out of look_in, and the arrays that it is lent.
 use Prim.Native.Nat.{ℕ, _*_, _≤_, _<_}
-use mathlib.Core.Path.{_≡_, refl, ap, sym, _∙_}
+use mathlib.Core.Path.{_≡_, refl, ap, _∙_}
 use mathlib.Core.Bool.{Bool}
 use mathlib.Core.List.{List}
 use lib.ListN.{length, replicate}
@@ -10,52 +10,48 @@ use Rattle.spec_applicant.specs.Applicant.{Applicant}
 use Rattle.spec_rule.specs.declared.Judgement.{Judgement}
 use Rattle.book_places.specs.declared.FirstRecord.{FirstRecord}
 use Rattle.book_places.specs.declared.FirstRecord.the-variants.{At, Nothing}
-use Rattle.book_places.specs.Table.{fewRecords, shortBook, tableOf}
-use Rattle.book_places.specs.Chains.{noRecord, chainsOf}
+use Rattle.book_places.specs.Table.{fewRecords, shortBook}
+use Rattle.book_places.specs.Chains.{noRecord}
 use Rattle.book_places.specs.Sets.{lookedUpAt}
-use Rattle.book_places.specs.Onward.{onwardOf}
 use Rattle.book_fill.specs.Filled.{filledTable}
 use Rattle.book_index.specs.Indexes.{Blank, indexedChains, indexedOnward}
 use Rattle.book_index.proofs.Indexed.{table-of-book, links-of-book, heads-of-book, onward-of-book, blank-short, blank-long}
 use Rattle.judge_set.specs.BySet.{verdictBySet}
 use Rattle.session_look.specs.declared.Looked.{Looked}
 use Rattle.session_look.specs.declared.Looked.the-variants.{Empty, Decides}
-use Rattle.session_look.specs.Looks.{lookedBy, lookedAt}
+use Rattle.session_look.specs.Looks.{Made, lookedBy, lookedAt}
 
--- what is made in the lent arrays
-module _ (book table₀ links₀ heads₀ onward₀ : List ℕ) (blank : Blank book table₀ links₀ heads₀ onward₀)
-    (table links heads onward : List ℕ) (rows : table ≡ filledTable book table₀)
-    (l : links ≡ indexedChains book table₀ (record { links = links₀; heads = heads₀ }) .links)
-    (h : heads ≡ indexedChains book table₀ (record { links = links₀; heads = heads₀ }) .heads)
-    (n : onward ≡ indexedOnward book table₀ (record { links = links₀; heads = heads₀ }) onward₀) where
-  tabled : table ≡ tableOf book
-  tabled = table-of-book book table₀ links₀ heads₀ onward₀ blank table rows
+-- by_first
+module _ (who : Applicant) (issuer book table links : List ℕ) (up : ℕ) (wildcard : Bool) (o : FirstRecord) where
+  pub first-nothing : o ≡ Nothing → Empty ≡ lookedBy who issuer book table links up wildcard o
+  first-nothing e = rw e refl
 
-  linked : links ≡ chainsOf book .links
-  linked = links-of-book book table₀ links₀ heads₀ onward₀ blank links l
+  pub first-set :
+      (set : RecordNo) → o ≡ At set → (j : Judgement) → j ≡ verdictBySet who issuer book table links 0 set up wildcard →
+      Decides j ≡ lookedBy who issuer book table links up wildcard o
+  first-set set e j g = rw (e, g) refl
 
-  headed : heads ≡ chainsOf book .heads
-  headed = heads-of-book book table₀ links₀ heads₀ onward₀ blank heads h
+-- look_made
+pub looks :
+    (book table links heads onward : List ℕ) → Made book table links heads onward → (x : List ℕ) (o : FirstRecord) → o ≡ lookedUpAt book table links heads onward x →
+    (who : Applicant) (issuer : List ℕ) (up : ℕ) (wildcard : Bool) (r : Looked) → r ≡ lookedBy who issuer book table links up wildcard o →
+    r ≡ lookedAt who issuer book up wildcard x
+unfolding lookedAt
+looks book table links heads onward made x o f who issuer up wildcard r g =
+    g ∙ rw (f, made .rows, made .chained, made .headed, made .pointed) refl
 
-  pointed : onward ≡ onwardOf book
-  pointed = onward-of-book book table₀ links₀ heads₀ onward₀ blank onward n
-
-  module _ (who : Applicant) (issuer x : List ℕ) (up : ℕ) (wildcard : Bool) (o : FirstRecord) (f : o ≡ lookedUpAt book table links heads onward x) where
-    found-by : lookedAt who issuer book up wildcard x ≡ lookedBy who issuer book up wildcard o
-    unfolding lookedAt
-    found-by =
-        let here : o ≡ lookedUpAt book (tableOf book) (chainsOf book .links) (chainsOf book .heads) (onwardOf book) x =
-            rw (tabled, linked, headed, pointed) at f in
-        ap (lookedBy who issuer book up wildcard) (sym here)
-
-    pub finds-nothing : o ≡ Nothing → Empty ≡ lookedAt who issuer book up wildcard x
-    finds-nothing e = sym (found-by ∙ ap (lookedBy who issuer book up wildcard) e)
-
-    pub finds-set :
-        (set : RecordNo) → o ≡ At set → (j : Judgement) → j ≡ verdictBySet who issuer book table links 0 set up wildcard →
-        Decides j ≡ lookedAt who issuer book up wildcard x
-    finds-set set e j g =
-        ap Decides (rw (tabled, linked) at g) ∙ sym (found-by ∙ ap (lookedBy who issuer book up wildcard) e)
+-- look_in: what is made in the lent arrays
+pub all-made :
+    (book table₀ links₀ heads₀ onward₀ : List ℕ) → Blank book table₀ links₀ heads₀ onward₀ → (table links heads onward : List ℕ) →
+    table ≡ filledTable book table₀ → links ≡ indexedChains book table₀ (record { links = links₀; heads = heads₀ }) .links →
+    heads ≡ indexedChains book table₀ (record { links = links₀; heads = heads₀ }) .heads →
+    onward ≡ indexedOnward book table₀ (record { links = links₀; heads = heads₀ }) onward₀ → Made book table links heads onward
+all-made book table₀ links₀ heads₀ onward₀ blank table links heads onward rows l h n = record {
+  rows = table-of-book book table₀ links₀ heads₀ onward₀ blank table rows;
+  chained = links-of-book book table₀ links₀ heads₀ onward₀ blank links l;
+  headed = heads-of-book book table₀ links₀ heads₀ onward₀ blank heads h;
+  pointed = onward-of-book book table₀ links₀ heads₀ onward₀ blank onward n;
+}
 
 -- the arrays, by their sizes
 module _ (book : List ℕ) (m k n : ℕ) where

@@ -29,7 +29,7 @@ look-by-the-rule who issuer book up wildcard x accepted good =
     go :
         (l : Lookup) → lookup (asBook (records book)) x ≡ l → (o : FirstRecord) → Finds book (tableOf book) (chainsOf book .links) l o →
         meaning who book (tableOf book) (chainsOf book .links) (bySet book (tableOf book) (chainsOf book .links) wildcard o) ≡ authorizationFrom who wildcard l →
-        lookedBy who issuer book up wildcard o ≡ lookedByRule who issuer up wildcard l
+        lookedBy who issuer book (tableOf book) (chainsOf book .links) up wildcard o ≡ lookedByRule who issuer up wildcard l
     go empty e Nothing f m = refl
     go empty e (At r) f m = let h = f .first in let z : _≡_ {A = ℕ} 0 1 = cc in absurd (omega arith)
     go (found []) e o f m = let (y, ends, selects, some-set) = a-lookup (asBook (records book)) x .1 [] .0 e in absurd (some-set refl)

@@ -1,5 +1,6 @@
 -- A lookup of one name in a book by its table and chains, and the verdict by what is found.
 use Prim.Native.Nat.{ℕ}
+use mathlib.Core.Path.{_≡_}
 use mathlib.Core.Bool.{Bool}
 use mathlib.Core.List.{List}
 use Rattle.spec_applicant.specs.Applicant.{Applicant}
@@ -13,12 +14,20 @@ use Rattle.judge_set.specs.BySet.{verdictBySet}
 use Rattle.session_look.specs.declared.Looked.{Looked}
 use Rattle.session_look.specs.declared.Looked.the-variants.{Empty, Decides}
 
-module _ (who : Applicant) (issuer book : List ℕ) (up : ℕ) (wildcard : Bool) where
-  -- The first record that was found names the set that decides. The one name of a session has the number 0.
-  abbrev pub lookedBy : FirstRecord → Looked
-  lookedBy Nothing = Empty
-  lookedBy (At set) = Decides (verdictBySet who issuer book (tableOf book) (chainsOf book .links) 0 set up wildcard)
+-- The table, the chains and the column of aliases are those of the book.
+pub record Made (book table links heads onward : List ℕ) : Type 0 where
+  pub rows : table ≡ tableOf book
+  pub chained : links ≡ chainsOf book .links
+  pub headed : heads ≡ chainsOf book .heads
+  pub pointed : onward ≡ onwardOf book
 
-  -- The name x is in wire form.
-  unfoldable pub lookedAt : List ℕ → Looked
-  lookedAt x = lookedBy (lookedUpAt book (tableOf book) (chainsOf book .links) (chainsOf book .heads) (onwardOf book) x)
+-- The first record that was found names the set that decides. The one name of a session has the number 0.
+abbrev pub lookedBy : Applicant → (issuer book table links : List ℕ) → ℕ → Bool → FirstRecord → Looked
+lookedBy who issuer book table links up wildcard Nothing = Empty
+lookedBy who issuer book table links up wildcard (At set) = Decides (verdictBySet who issuer book table links 0 set up wildcard)
+
+-- The name x is in wire form.
+unfoldable pub lookedAt : Applicant → (issuer book : List ℕ) → ℕ → Bool → List ℕ → Looked
+lookedAt who issuer book up wildcard x =
+    lookedBy who issuer book (tableOf book) (chainsOf book .links) up wildcard
+    (lookedUpAt book (tableOf book) (chainsOf book .links) (chainsOf book .heads) (onwardOf book) x)

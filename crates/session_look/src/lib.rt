@@ -14,12 +14,67 @@ ghost use Prim.Native.Nat.{_≤_, _<_};
 ghost use lib.ListN.{length};
 ghost use Rattle.book_places.specs.Table.{shortBook};
 ghost use Rattle.book_index.specs.Indexes.{Blank};
-ghost use Rattle.session_look.specs.Looks.{lookedAt};
+ghost use Rattle.session_look.specs.Looks.{Made, lookedBy, lookedAt};
 
 // What a book says of one name alone: nothing is found at it, or what is found decides.
 pub enum Looked {
     Empty,
     Decides(Judgement),
+}
+
+// Judges by the first record that was found. It names the set that decides.
+fn by_first(
+    issuer: &[u8],
+    account: &[u8],
+    method: &[u8],
+    book: &[u8],
+    table: &[u16],
+    links: &[u16],
+    first: FirstRecord,
+    up: LabelsOff,
+    wildcard: bool,
+) -> Looked
+    ensures { λ r. ⌜ r ≡ lookedBy (record { account = now (account .entry); method = now (method .entry) }) (now (issuer .entry)) (now (book .entry)) (now (table .entry)) (now (links .entry)) (up .0) wildcard first ⌝ }
+{
+    let FirstRecord::At(set) = first else {
+        return Looked::Empty;
+    };
+    let judgement = judge_set::judge_by_set(
+        issuer,
+        account,
+        method,
+        book,
+        table,
+        links,
+        NameNo(0),
+        set,
+        up,
+        wildcard,
+    );
+    Looked::Decides(judgement)
+}
+
+// Looks up x by the table, the chains and the column of aliases of the book.
+fn look_made(
+    issuer: &[u8],
+    account: &[u8],
+    method: &[u8],
+    book: &[u8],
+    x: &[u8],
+    up: LabelsOff,
+    wildcard: bool,
+    table: &[u16],
+    links: &[u16],
+    heads: &[u16],
+    onward: &[u16],
+) -> Looked
+    requires { ⌜ Made (now book) (now table) (now links) (now heads) (now onward) ⌝ }
+    ensures { λ r. ⌜ r ≡ lookedAt (record { account = now (account .entry); method = now (method .entry) }) (now (issuer .entry)) (now (book .entry)) (up .0) wildcard (now (x .entry)) ⌝ }
+{
+    let first = book_onward::look_up(book, table, links, heads, onward, x);
+    by_first(
+        issuer, account, method, book, table, links, first, up, wildcard,
+    )
 }
 
 // The lent arrays are empty, with room for the records of the book.
@@ -40,22 +95,9 @@ fn look_in(
     ensures { λ r. ⌜ r ≡ lookedAt (record { account = now (account .entry); method = now (method .entry) }) (now (issuer .entry)) (now (book .entry)) (up .0) wildcard (now (x .entry)) ⌝ }
 {
     book_index::index_book(book, table, links, heads, onward);
-    let FirstRecord::At(set) = book_onward::look_up(book, table, links, heads, onward, x) else {
-        return Looked::Empty;
-    };
-    let judgement = judge_set::judge_by_set(
-        issuer,
-        account,
-        method,
-        book,
-        table,
-        links,
-        NameNo(0),
-        set,
-        up,
-        wildcard,
-    );
-    Looked::Decides(judgement)
+    look_made(
+        issuer, account, method, book, x, up, wildcard, table, links, heads, onward,
+    )
 }
 
 // For a short book small arrays are enough, and are cleared faster.
