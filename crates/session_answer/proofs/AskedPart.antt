@@ -78,24 +78,25 @@ module _ (s : Session) (p : Place) (k : keptAt s ≡ At p) where
       omega (arith, ap (λ (q : Place). q .offset) place, held-long (s .name) e h)
 
   pub looked-there :
-      (e i a m : ℕ) → e ≡ heldLength (s .name) → i ≡ heldLength (s .issuer) → a ≡ heldLength (s .account) → m ≡ heldLength (s .method) →
-      (b : List ℕ) (r : Looked) →
-      r ≡ lookedAt
-      (record { account = take (a - 0) (drop 0 (s .account .octets)); method = take (m - 0) (drop 0 (s .method .octets)) })
-      (take (i - 0) (drop 0 (s .issuer .octets))) b (s .up) (p .wildcard)
+      (e : ℕ) → e ≡ heldLength (s .name) → (b : List ℕ) (r : Looked) →
+      r ≡ lookedAt (record { account = held (s .account); method = held (s .method) }) (held (s .issuer)) b (s .up) (p .wildcard)
       (take (e - p .offset) (drop (p .offset) (s .name .octets))) →
       (n : Name) → keptName s ≡ some n →
       r ≡ lookedAt (keptApplicant s) (held (s .issuer)) b (s .up) (isWildcard n) (wire (drop (s .up) (base n)))
   unfolding keptApplicant
-  looked-there e i a m he hi ha hm b r g n f =
-      let (m′, f′, place) = at-place s p k .1 in
-      let same : m′ ≡ n = Option·some-injective _ _ (sym f′ ∙ f) in
+  looked-there e h b r g n f =
+      let (m, f′, place) = at-place s p k .1 in
+      let same : m ≡ n = Option·some-injective _ _ (sym f′ ∙ f) in
       let here : p ≡ placeOf (length (held (s .name))) n (s .up) = rw same at place in
-      g
-      ∙ rw (
-        held-part (s .account) a ha,
-        held-part (s .method) m hm,
-        held-part (s .issuer) i hi,
-        name-octets s n f (p .offset) (ap (λ (q : Place). q .offset) here) e he,
-        ap (λ (q : Place). q .wildcard) here,
-      ) refl
+      g ∙ rw (name-octets s n f (p .offset) (ap (λ (q : Place). q .offset) here) e h, ap (λ (q : Place). q .wildcard) here) refl
+
+-- the texts that a lookup takes
+pub looked-texts :
+    (issuer account method : Text) (i a m : ℕ) → i ≡ heldLength issuer → a ≡ heldLength account → m ≡ heldLength method →
+    (b x : List ℕ) (u : ℕ) (w : Bool) (r : Looked) →
+    r ≡ lookedAt
+    (record { account = take (a - 0) (drop 0 (account .octets)); method = take (m - 0) (drop 0 (method .octets)) })
+    (take (i - 0) (drop 0 (issuer .octets))) b u w x →
+    r ≡ lookedAt (record { account = held account; method = held method }) (held issuer) b u w x
+looked-texts issuer account method i a m hi ha hm b x u w r g =
+    g ∙ rw (held-part issuer i hi, held-part account a ha, held-part method m hm) refl

@@ -9,6 +9,7 @@ use spec_rule::LabelsOff;
 use spec_session::Session;
 use spec_session::SessionAnswer;
 use spec_session::Stepped;
+use spec_session::Text;
 ghost use mathlib.Core.Path.{_≡_};
 ghost use mathlib.Core.Bool.{true};
 ghost use mathlib.Core.Option.{none, some};
@@ -75,6 +76,35 @@ fn close_by(session: Session, judgement: Judgement) -> Session
     }
 }
 
+// Looks up the name x for kept texts.
+fn look_texts(
+    issuer: Text,
+    account: Text,
+    method: Text,
+    book: &[u8],
+    x: &[u8],
+    up: usize,
+    wildcard: bool,
+) -> Looked
+    ensures { λ r. ⌜ r ≡ lookedAt (record { account = held account; method = held method }) (held issuer) (now (book .entry)) up wildcard (now (x .entry)) ⌝ }
+{
+    let i = issuer.octets;
+    let a = account.octets;
+    let m = method.octets;
+    let issuer_end = session_kept::held_length(issuer);
+    let account_end = session_kept::held_length(account);
+    let method_end = session_kept::held_length(method);
+    session_look::look(
+        &i[0..issuer_end],
+        &a[0..account_end],
+        &m[0..method_end],
+        book,
+        x,
+        LabelsOff(up),
+        wildcard,
+    )
+}
+
 // Looks up the name asked for, which is at this place of the kept name.
 fn look_at(session: Session, p: Place, book: &[u8]) -> Looked
     requires { ⌜ keptAt session ≡ At p ⌝ }
@@ -87,21 +117,15 @@ fn look_at(session: Session, p: Place, book: &[u8]) -> Looked
     let up = session.up;
     let offset = p.offset;
     let wildcard = p.wildcard;
-    let x = name.octets;
-    let i = issuer.octets;
-    let a = account.octets;
-    let m = method.octets;
-    let name_end = session_kept::held_length(name);
-    let issuer_end = session_kept::held_length(issuer);
-    let account_end = session_kept::held_length(account);
-    let method_end = session_kept::held_length(method);
-    session_look::look(
-        &i[0..issuer_end],
-        &a[0..account_end],
-        &m[0..method_end],
+    let octets = name.octets;
+    let end = session_kept::held_length(name);
+    look_texts(
+        issuer,
+        account,
+        method,
         book,
-        &x[offset..name_end],
-        LabelsOff(up),
+        &octets[offset..end],
+        up,
         wildcard,
     )
 }

@@ -73,7 +73,15 @@ fn look_made(
 {
     let first = book_onward::look_up(book, table, links, heads, onward, x);
     by_first(
-        issuer, account, method, book, table, links, first, up, wildcard,
+        issuer,
+        account,
+        method,
+        book,
+        table,
+        links,
+        first,
+        up,
+        wildcard,
     )
 }
 
@@ -96,7 +104,17 @@ fn look_in(
 {
     book_index::index_book(book, table, links, heads, onward);
     look_made(
-        issuer, account, method, book, x, up, wildcard, table, links, heads, onward,
+        issuer,
+        account,
+        method,
+        book,
+        x,
+        up,
+        wildcard,
+        table,
+        links,
+        heads,
+        onward,
     )
 }
 
