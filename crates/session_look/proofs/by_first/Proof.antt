@@ -4,9 +4,6 @@ use Rattle.session_look.proofs.LookWays.{first-nothing, first-set}
 use Rattle.session_look.proofs.by_first.Statement.{statement}
 use Rattle.session_look.proofs.by_first.Tie as tie
 
-enum-known-set : tie.Need-enum-known-set
-enum-known-set c = search needs
-
 enum-told : tie.Need-enum-told
 enum-told c = search needs
 
@@ -23,7 +20,6 @@ pub by-first-spec : {M : Type 1} → statement M
 by-first-spec =
     tie.close
     (tie.spec
-    enum-known-set
     enum-told
     returns
     judge-by-set-requires

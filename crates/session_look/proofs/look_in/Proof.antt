@@ -9,8 +9,8 @@ index-book-requires c κs = search needs
 
 look-made-requires : tie.Need-look-made-requires
 look-made-requires c κs =
-    let indexed = c .before .before .before .before .before .before .before .before .before .before .before .before .before .before in
-    let start = indexed .before .before .before .before .before .before .before .before .before .before .before .before .before .before .before .before in
+    let indexed = c .before .before .before .before .before .before .before .before .before .before .before .before in
+    let start = indexed .before .before .before .before .before .before .before .before .before .before .before .before .before .before in
     all-made _ _ _ _ _ (start .pre) _ _ _ _ (indexed .index-book .ensures .0) (indexed .index-book .ensures .1 .0) (indexed .index-book .ensures .1 .1 .0) (indexed .index-book .ensures .1 .1 .1)
 
 same-length : tie.Need-same-length
