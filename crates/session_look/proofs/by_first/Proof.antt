@@ -4,6 +4,9 @@ use Rattle.session_look.proofs.LookWays.{first-nothing, first-set}
 use Rattle.session_look.proofs.by_first.Statement.{statement}
 use Rattle.session_look.proofs.by_first.Tie as tie
 
+enum-known-first : tie.Need-enum-known-first
+enum-known-first c = search needs
+
 enum-told : tie.Need-enum-told
 enum-told c = search needs
 
@@ -20,6 +23,7 @@ pub by-first-spec : {M : Type 1} → statement M
 by-first-spec =
     tie.close
     (tie.spec
+    enum-known-first
     enum-told
     returns
     judge-by-set-requires
