@@ -14,7 +14,7 @@ mod up;
 
 use std::fmt;
 
-use crate::calls::{Desk, Judge, Lines, PermittedIssuers};
+use crate::calls::{Desk, Judge, Lines, PermittedIssuers, Sessions};
 use crate::cases::{self, Case, Report};
 use crate::generate::{Generator, Inputs};
 use crate::readers::Readers;
@@ -39,6 +39,7 @@ pub struct Other {
     pub judge: Option<Judge>,
     pub permitted_issuers: Option<PermittedIssuers>,
     pub lines: Option<Lines>,
+    pub sessions: Option<Sessions>,
 }
 
 impl Other {
@@ -47,6 +48,7 @@ impl Other {
         judge: None,
         permitted_issuers: None,
         lines: None,
+        sessions: None,
     };
 
     /// This package's own.
@@ -55,6 +57,7 @@ impl Other {
         judge: Some(Desk::OWN.judge),
         permitted_issuers: Some(Desk::OWN.permitted_issuers),
         lines: Some(Desk::OWN.lines),
+        sessions: Some(Desk::OWN.sessions),
     };
 
     pub fn is_nothing(&self) -> bool {
@@ -63,7 +66,10 @@ impl Other {
 
     /// Whether there is more than readers.
     pub fn has_calls(&self) -> bool {
-        self.judge.is_some() || self.permitted_issuers.is_some() || self.lines.is_some()
+        self.judge.is_some()
+            || self.permitted_issuers.is_some()
+            || self.lines.is_some()
+            || self.sessions.is_some()
     }
 
     /// Its calls, with ours for those it has not; `None` without any.
@@ -72,12 +78,14 @@ impl Other {
             judge,
             permitted_issuers,
             lines,
+            sessions,
             ..
         } = *self;
         self.has_calls().then(|| Desk {
             judge: judge.unwrap_or(Desk::OWN.judge),
             permitted_issuers: permitted_issuers.unwrap_or(Desk::OWN.permitted_issuers),
             lines: lines.unwrap_or(Desk::OWN.lines),
+            sessions: sessions.unwrap_or(Desk::OWN.sessions),
         })
     }
 }
