@@ -10,6 +10,7 @@ mod list;
 mod log;
 mod parameters;
 mod readers;
+mod session;
 mod up;
 
 use std::fmt;
@@ -23,6 +24,7 @@ use lines::LinesComparison;
 use list::ListComparison;
 use log::{Differences, Tally};
 use readers::ReadersComparison;
+use session::SessionComparison;
 
 /// A run of so many cases or more is worth something only if each kind of answer comes
 /// `WANTED_TIMES`.
@@ -220,6 +222,9 @@ fn parts(other: &Other, seed: u64) -> Vec<Box<dyn Part>> {
     }
     if let Some(lines) = other.lines {
         parts.push(Box::new(LinesComparison::new(lines, seed)));
+    }
+    if let Some(sessions) = other.sessions {
+        parts.push(Box::new(SessionComparison::new(sessions, seed)));
     }
     parts
 }
