@@ -37,6 +37,7 @@ struct entry {
     uint8_t owner[256];
     size_t owner_len;
     int fails;
+    int taken; /* into the book of this lookup */
     uint8_t record[MOST_FIELD * 2];
     size_t record_len;
 };
@@ -178,22 +179,23 @@ static int read_file(const char *path)
 }
 
 /*
- * Looks a name up: all its records, and those of the names that its aliases lead to, go into the book. Returns 0
- * if the lookup fails. A resolver follows the aliases itself; here no more than nine are followed.
+ * Puts all records of a name into the book, and those of the names that its aliases lead to, each once. Returns 0
+ * if the lookup fails.
  */
-static int look_up(const uint8_t *name, size_t length, int aliases)
+static int put_records_of(const uint8_t *name, size_t length)
 {
     size_t n;
 
     for (n = 0; n < count; n++) {
-        const struct entry *const entry = &entries[n];
+        struct entry *const entry = &entries[n];
 
-        if (!same_name(entry->owner, entry->owner_len, name, length)) {
+        if (entry->taken || !same_name(entry->owner, entry->owner_len, name, length)) {
             continue;
         }
         if (entry->fails) {
             return 0;
         }
+        entry->taken = 1;
         if (entry->record_len > sizeof book - book_len) {
             fprintf(stderr, "session: an answer is too long\n");
             exit(NOTHING_DECIDED);
@@ -201,15 +203,26 @@ static int look_up(const uint8_t *name, size_t length, int aliases)
         memcpy(book + book_len, entry->record, entry->record_len);
         book_len += entry->record_len;
         records++;
-        if (entry->record[entry->owner_len] == 0 && entry->record[entry->owner_len + 1] == 5 && aliases < 9) {
+        if (entry->record[entry->owner_len] == 0 && entry->record[entry->owner_len + 1] == 5) {
             const size_t at = entry->owner_len + 10;
 
-            if (!look_up(entry->record + at, entry->record_len - at, aliases + 1)) {
+            if (!put_records_of(entry->record + at, entry->record_len - at)) {
                 return 0;
             }
         }
     }
     return 1;
+}
+
+static int look_up(const uint8_t *name, size_t length)
+{
+    size_t n;
+
+    book_len = records = 0;
+    for (n = 0; n < count; n++) {
+        entries[n].taken = 0;
+    }
+    return put_records_of(name, length);
 }
 
 static void print_name(const uint8_t *name)
@@ -271,8 +284,7 @@ static enum status judge(char **arguments, int given)
     while ((name = caa_asked_name(&session, answer, &length)) != NULL) {
         printf("look up ");
         print_name(name);
-        book_len = records = 0;
-        if (look_up(name, length, 0)) {
+        if (look_up(name, length)) {
             printf(": %zu record%s\n", records, records == 1 ? "" : "s");
             answer = caa_session_answer(&session, book, book_len);
         } else {
