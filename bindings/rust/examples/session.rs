@@ -34,7 +34,9 @@ fn main() -> ExitCode {
     let words: Vec<&str> = arguments.iter().map(String::as_str).collect();
     let (text, status) = match words[..] {
         ["--help" | "-h"] => (USAGE.to_owned(), PERMITTED),
-        [file, name, issuer] if !file.starts_with('-') => judged(file, name, issuer, "none", "none"),
+        [file, name, issuer] if !file.starts_with('-') => {
+            judged(file, name, issuer, "none", "none")
+        }
         [file, name, issuer, account, method] if !file.starts_with('-') => {
             judged(file, name, issuer, account, method)
         }
@@ -114,15 +116,19 @@ fn in_words(verdict: Verdict) -> (String, u8) {
     let (why, up) = match verdict {
         Verdict::Permitted => return ("permitted".to_owned(), PERMITTED),
         Verdict::LookupFailed => {
-            return ("nothing decided: a lookup failed".to_owned(), NOTHING_DECIDED)
+            return (
+                "nothing decided: a lookup failed".to_owned(),
+                NOTHING_DECIDED,
+            )
         }
         Verdict::UnknownCritical { record, up } => (
             format!("record {record} of the last answer is critical and not known"),
             up,
         ),
-        Verdict::NotGranted { record, up } => {
-            (format!("restricted by record {record} of the last answer"), up)
-        }
+        Verdict::NotGranted { record, up } => (
+            format!("restricted by record {record} of the last answer"),
+            up,
+        ),
         Verdict::TooManyAliases { record, up } => (
             format!("too many aliases from record {record} of the last answer on"),
             up,
@@ -188,7 +194,10 @@ impl Zone {
 
 fn read_entry(line: &str) -> Option<Entry> {
     let (owner, rest) = line.split_once(' ')?;
-    let (kind, rest) = rest.trim_start().split_once(' ').unwrap_or((rest.trim(), ""));
+    let (kind, rest) = rest
+        .trim_start()
+        .split_once(' ')
+        .unwrap_or((rest.trim(), ""));
     let owner = wire_name(owner)?;
     let (rtype, data) = match (kind, rest.trim()) {
         ("FAILS", "") => {
@@ -222,7 +231,9 @@ fn read_entry(line: &str) -> Option<Entry> {
 fn wire_name(text: &str) -> Option<Vec<u8>> {
     let mut wire = Vec::new();
     for label in text.split('.').filter(|label| !label.is_empty()) {
-        let length = u8::try_from(label.len()).ok().filter(|&length| length < 64)?;
+        let length = u8::try_from(label.len())
+            .ok()
+            .filter(|&length| length < 64)?;
         wire.push(length);
         wire.extend(label.bytes());
     }

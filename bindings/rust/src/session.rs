@@ -267,7 +267,13 @@ impl Session {
 impl fmt::Debug for Session {
     fn fmt(&self, f: &mut fmt::Formatter<'_>) -> fmt::Result {
         f.debug_struct("Session")
-            .field("asked", &self.asked().map(<[u8]>::escape_ascii).map(|name| name.to_string()))
+            .field(
+                "asked",
+                &self
+                    .asked()
+                    .map(<[u8]>::escape_ascii)
+                    .map(|name| name.to_string()),
+            )
             .field("verdict", &self.verdict())
             .finish()
     }

@@ -127,7 +127,9 @@ fn a_refused_book_leaves_the_session_alone() {
         assert_eq!(session.to_octets(), before);
         asks(&session, "b");
     }
-    session.answer(&caa("b", "issue", "ca1.example.net")).unwrap();
+    session
+        .answer(&caa("b", "issue", "ca1.example.net"))
+        .unwrap();
     ended(session, Some(Verdict::Permitted));
 }
 
@@ -149,7 +151,10 @@ fn openings_that_are_refused() {
     assert_eq!(of(b""), Refusal::BadName { name: 0 });
     assert_eq!(of(&name("-a")), Refusal::BadName { name: 0 });
     assert_eq!(of(&request(&["a", "b"])), Refusal::BadName { name: 1 });
-    assert_eq!(of(&[&good[..], &[0]].concat()), Refusal::BadName { name: 1 });
+    assert_eq!(
+        of(&[&good[..], &[0]].concat()),
+        Refusal::BadName { name: 1 }
+    );
     assert_eq!(of(&good.repeat(251)), Refusal::BadName { name: 1 });
     assert_eq!(of(&[0; 16_384]), Refusal::BadName { name: 0 });
     assert_eq!(of(&[0; 16_385]), Refusal::RequestTooLong);
@@ -206,18 +211,18 @@ fn octets_that_break_a_rule_are_an_ended_session() {
     };
     asks(&with(8, 1), "b");
     for (place, octet) in [
-        (0, 0),   // a phase that is none
-        (0, 3),   //
-        (1, 1),   //
-        (8, 2),   // as many labels taken off as there are
-        (15, 1),  //
-        (32, 4),  // a length that cuts the name off
-        (33, 1),  // one beyond the room
-        (41, b'-'), // a name that is none
-        (296, 0), // no issuer name
+        (0, 0),      // a phase that is none
+        (0, 3),      //
+        (1, 1),      //
+        (8, 2),      // as many labels taken off as there are
+        (15, 1),     //
+        (32, 4),     // a length that cuts the name off
+        (33, 1),     // one beyond the room
+        (41, b'-'),  // a name that is none
+        (296, 0),    // no issuer name
         (304, b'.'), // one that is none
         (568, b';'), // an account that is none
-        (824, 0), // no method
+        (824, 0),    // no method
         (832, b','), // one that is none
     ] {
         ended(with(place, octet), None);
