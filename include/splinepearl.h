@@ -153,10 +153,11 @@ uint64_t caa_read_line(const uint8_t *line, size_t line_len, uint8_t *buffer, si
  *         answer = found ? caa_session_answer(&session, book, book_len) : caa_session_fail(&session);
  *     }
  *
- * The verdict is that of caa_judge_for on a book that holds all these answers, but for the number of the
- * record, which is that in the last answer. A verdict stands after at most as many accepted answers as the
- * name has labels, its star not counted. A refused book (5, 6, 7, 12) leaves the session alone: the same name
- * is still asked for, so leave the loop or look it up again.
+ * If no lookup failed, and each answer holds the records of the asked name as one accepted book does, in the
+ * same order, then the verdict is that of caa_judge_for on that book. Only the number of the record is that in
+ * the last answer. A verdict stands after at most as many accepted answers as the name has labels, its star not
+ * counted. A refused book (5, 6, 7, 12) leaves the session alone: caa_session_state then still asks for the same
+ * name.
  */
 
 /* A text that a session keeps. */

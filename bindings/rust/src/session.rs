@@ -13,9 +13,12 @@ pub const SESSION_OCTETS: usize = size_of::<Kept>();
 /// Judges one name by one lookup after the other.
 ///
 /// Open it; as long as it asks for a name, look up that name's CAA records and hand them in with
-/// [`answer`](Session::answer), or say that the lookup failed, with [`fail`](Session::fail). The verdict is
-/// that of [`judge`](crate::judge()) on a book that holds all these answers, but for the number of the record.
-/// It stands after at most as many accepted answers as the name has labels, its star not counted.
+/// [`answer`](Session::answer), or say that the lookup failed, with [`fail`](Session::fail).
+///
+/// If no lookup failed, and each answer holds the records of the asked name as one accepted book does, in the
+/// same order, then the verdict is that of [`judge`](crate::judge()) on that book. Only the number of the record
+/// is that in the last answer. A verdict stands after at most as many accepted answers as the name has labels,
+/// its star not counted.
 ///
 /// ```
 /// use splinepearl::{Session, Verdict};
