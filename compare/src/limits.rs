@@ -18,8 +18,6 @@ pub const LABEL_OCTETS: usize = 63;
 pub const ISSUER_OCTETS: usize = 253;
 /// Octets of an account text, and of a method text.
 pub const APPLICANT_OCTETS: usize = 255;
-/// Octets that a session has room for in each of its texts.
-pub const TEXT_ROOM: usize = 256;
 /// Octets of CAA data that is written as a line or read from one.
 pub const DATA_OCTETS: usize = 4_096;
 /// Octets of a line.

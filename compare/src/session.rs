@@ -6,7 +6,7 @@ use crate::applicant::{read_applicant, Applicant};
 use crate::book::read_book;
 use crate::issuer::{read_issuer, IssuerName};
 use crate::judge::verdict_on;
-use crate::limits::{BOOK_RECORDS, REQUEST_OCTETS, TEXT_ROOM};
+use crate::limits::{BOOK_RECORDS, REQUEST_OCTETS};
 use crate::request::{read_requested_name, RequestedName};
 use crate::rule::{standing_at, Records};
 
@@ -37,6 +37,9 @@ pub struct Text {
     pub length: usize,
     pub octets: [u8; TEXT_ROOM],
 }
+
+/// Octets that there is room for in each text. No text that follows its rule has so many.
+pub const TEXT_ROOM: usize = 256;
 
 pub const ASKING: usize = 1;
 pub const DECIDED: usize = 2;

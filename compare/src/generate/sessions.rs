@@ -4,10 +4,10 @@
 use super::deep::tail;
 use super::Generator;
 use crate::book::{read_raw_record, read_target, RawRecord};
-use crate::limits::{ALIASES, BOOK_OCTETS, BOOK_RECORDS, TEXT_ROOM};
+use crate::limits::{ALIASES, BOOK_OCTETS, BOOK_RECORDS};
 use crate::name::{read_name, Name};
 use crate::request::read_requested_name;
-use crate::session::{Session, Text, ASKING, DECIDED, SESSION_OCTETS};
+use crate::session::{Session, Text, ASKING, DECIDED, SESSION_OCTETS, TEXT_ROOM};
 
 const PHASES: [usize; 8] = [0, 1, 2, 3, 256, 257, 1 << 32 | 1, usize::MAX];
 const PLACES: [usize; 9] = [0, 1, 2, 3, 126, 127, 128, 1 << 32, usize::MAX];
