@@ -86,7 +86,7 @@ const BEHIND_REFUSED: u8 = 112;
 /// Sessions that were written to between two calls, by what was: those that still tell something, and
 /// those that have ended without a verdict.
 static WRITTEN: Call = Call {
-    name: "session, written",
+    name: "session, memory",
     kinds: &[
         (ENDED, "any octets, ended"),
         (1, "one octet"),
