@@ -32,12 +32,6 @@ libs=${1-$root/target/staticlib}
 libs=$(realpath "$libs")
 cd "$root"
 
-# A library built before there were sessions is tried without them.
-sessions=no
-if nm "$libs/libsplinepearl.a" 2> /dev/null | grep ' T caa_session_open$' > /dev/null; then
-    sessions=yes
-fi
-
 work=$(mktemp -d)
 trap 'rm -rf "$work"' EXIT
 strict="-Wall -Wextra -pedantic -Werror"
@@ -325,12 +319,8 @@ refused 12 at 1 [2]' "$program" "$work/conflict.txt" example.com ca1.example.net
     expect_status 2 "$program"
     expect_status 2 "$program" --not-known a b
 }
-if [ $sessions = yes ]; then
-    build examples/c/session.c "$libs" "$work/session"
-    try_sessions "$work/session"
-else
-    note "this library has no sessions, so they are not tried"
-fi
+build examples/c/session.c "$libs" "$work/session"
+try_sessions "$work/session"
 
 build tools/caa-lines.c "$libs" "$work/caa-lines"
 expect '128 tbs "Unk\"\\\000n"
@@ -357,11 +347,7 @@ rust() {
     shift 2
     SPLINEPEARL_LIBS="$libs" cargo "$command" --quiet --offline --locked --manifest-path bindings/rust/Cargo.toml "$@"
 }
-if [ $sessions = yes ]; then
-    rust "$libs" test
-else
-    rust "$libs" test --lib --test aliases --test limits --test lines --test refusals --test rule --test whole_case
-fi
+rust "$libs" test
 desk() { rust "$libs" run --example desk -- "$@"; }
 expect 'verdict 21 name 1 record 3 up 0 [1]' desk "$whole"
 expect 'verdict 0 [0]' desk "$work/www"
@@ -390,9 +376,7 @@ expect_status 2 desk "$work/anyone" "$work/anyone"
 expect_status 2 desk --not-known
 later_desk() { CARGO_TARGET_DIR="$work/cargo" rust "$work/later" run --example desk -- "$@"; }
 expect 'refused 29 at 1 [2]' later_desk "$work/anyone"
-if [ $sessions = yes ]; then
-    rust_session() { rust "$libs" run --example session -- "$@"; }
-    try_sessions rust_session
-fi
+rust_session() { rust "$libs" run --example session -- "$@"; }
+try_sessions rust_session
 
 echo "link: C and Rust give the expected lines and exit statuses"
