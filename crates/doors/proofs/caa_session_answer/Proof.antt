@@ -57,8 +57,8 @@ module _ {M : Type 1} (𝓤 : URA M) (H : Heap 𝓤) (A : Atoms 𝓤) (W : Given
   abbrev v : Val
   v = sliceVal (s .ptr) (length (s .now))
 
-  abbrev Book : Fml
-  Book = owns (ShrSlice (named 1) κ₁ u8 ∷ []) (s, tt) (v ∷ [], tt)
+  abbrev Input : Fml
+  Input = owns (ShrSlice (named 1) κ₁ u8 ∷ []) (s, tt) (v ∷ [], tt)
 
   abbrev x : RefT Session × (RefT (List ℕ) × Unit {0})
   x = (record { ptr = (b, o); name = γ; now = h }, (s, tt))
@@ -76,12 +76,12 @@ module _ {M : Type 1} (𝓤 : URA M) (H : Heap 𝓤) (A : Atoms 𝓤) (W : Given
   abbrev to : Callee 𝓤 H A mem run .Ghost
   to = (((κ₁, tt), (q₁, tt), tt, (h, (s, tt)), (mach h ∷ [], (v ∷ [], tt))), tt)
 
-  goes : ent 𝓤 (⋆ 𝓤 H A (‵ (Own h) ∷ ‵ Book ∷ (‵ (flft κ₁ q₁) ⊛ ‵ ftrue) ∷ [])) (Callee 𝓤 H A mem run .pre to)
-  goes = qed W (‵ (Own h) ∷ ‵ Book ∷ (‵ (flft κ₁ q₁) ⊛ ‵ ftrue) ∷ []) ∵ fjoin ! $ move ! (1 ∷ 0 ∷ []) $ join ! $ frame ! $ done !
+  goes : ent 𝓤 (⋆ 𝓤 H A (‵ (Own h) ∷ ‵ Input ∷ (‵ (flft κ₁ q₁) ⊛ ‵ ftrue) ∷ [])) (Callee 𝓤 H A mem run .pre to)
+  goes = qed W (‵ (Own h) ∷ ‵ Input ∷ (‵ (flft κ₁ q₁) ⊛ ‵ ftrue) ∷ []) ∵ fjoin ! $ move ! (1 ∷ 0 ∷ []) $ join ! $ frame ! $ done !
 
-  exits : (t : Stepped) → t ≡ answered h (now s) → ent 𝓤 (⋆ 𝓤 H A (‵ (Borrowed κ b o γ (t .session)) ∷ ‵ (flft κ q) ∷ ‵ (u64 .own (t .word) (vint w64 (t .word) ∷ [])) ∷ (‵ (flft κ₁ q₁) ⊛ ‵ ftrue) ∷ ‵ Book ∷ [])) (Post (vint w64 (t .word)))
+  exits : (t : Stepped) → t ≡ answered h (now s) → ent 𝓤 (⋆ 𝓤 H A (‵ (Borrowed κ b o γ (t .session)) ∷ ‵ (flft κ q) ∷ ‵ (u64 .own (t .word) (vint w64 (t .word) ∷ [])) ∷ (‵ (flft κ₁ q₁) ⊛ ‵ ftrue) ∷ ‵ Input ∷ [])) (Post (vint w64 (t .word)))
   exits t e =
-      qed W (‵ (Borrowed κ b o γ (t .session)) ∷ ‵ (flft κ q) ∷ ‵ (u64 .own (t .word) (vint w64 (t .word) ∷ [])) ∷ (‵ (flft κ₁ q₁) ⊛ ‵ ftrue) ∷ ‵ Book ∷ []) ∵
+      qed W (‵ (Borrowed κ b o γ (t .session)) ∷ ‵ (flft κ q) ∷ ‵ (u64 .own (t .word) (vint w64 (t .word) ∷ [])) ∷ (‵ (flft κ₁ q₁) ⊛ ‵ ftrue) ∷ ‵ Input ∷ []) ∵
       suffices ! _ (ends-at 𝓤 H A door.ended stayed (door.clauses 𝓤 H A mem run) W y (vint w64 (t .word)) (t .word) (t .session, (tt, tt)) (tt, (tt, tt))) $
       says-both ! (ap (λ (r : Stepped). r .word) e) (ap (λ (r : Stepped). r .session) e) $
       move ! (1 ∷ 3 ∷ []) $ join ! $ frame ! $ move ! (0 ∷ 2 ∷ []) $ fjoin ! $ frame ! $ done !
