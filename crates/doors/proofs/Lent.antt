@@ -8,6 +8,7 @@
 --     all-twice            parameters that are Copy are passed on and kept
 --     says-both            two `ensures` clauses, a fact each
 --     gone                 a local that holds a value is freed
+-- In the walks a comment says what stands at which position of the context. A local `_k` is followed by what frees it; a position that is left out holds nothing of use.
 use mathlib.Core.Path.{_≡_, refl, sym, ap, subst}
 use Prim.Native.Nat.{ℕ, _<_, _^_}
 use mathlib.Core.List.{[], _∷_, List}
@@ -132,10 +133,10 @@ module _ {M : Type 1} {𝓤 : URA M} {H : Heap 𝓤} {A : Atoms 𝓤} {K : Type 
       peeks i S.the-row (Is S.the-row) (shows 𝓤 H A S.the-row) t (u ∷ []) (λ is.
       land i (from-at i e (stop i)) (init i 5 refl (LL.lawful S.the-type S′.the-laws 𝓤 H A W .typed t _ is .0)) $
       rewrite i 5 (λ (v : Val). ‵ (fat fullShare S′.mir l 0 v)) (ap only (LL.tells S.the-type S′.the-laws t _ is)) refl $
-      -- [what the result owns; the session's cell; the open borrow; obs; auth; the result; the reference; …; room for the word; …]
+      -- 0 what the result owns, 1 the session's cell, 2 the open borrow, 3 obs, 4 auth, 5 the result, 6 the reference, 8 room for the word
       assigns i (of-opd i (load i (from-at i e (fld i refl (stop i))) (look-in i 5 (sub i 0 refl (whole i))))) (from i (hop i (look i 6 refl) (stop i))) (store-raw i 1 refl (session-typed 𝓤 H A W (t .session) (session-is t u is))) $
       assigns i (of-opd i (load i (from-at i e (fld i refl (stop i))) (look-in i 5 (sub i 1 refl (whole i))))) (from i (stop i)) (init i 8 refl (tt, record { fits = word-fits t u is })) $
       drop i $ owned i T.the-row (Is T.the-row) (LL.makes T.the-type T′.the-plain 𝓤 H A) (t .session) _ (session-is t u is) $ move i (1 ∷ 0 ∷ []) $ closes i tt T.the-row (t .session) (mach (t .session) ∷ []) b o $
-      -- [obs; the borrow; the token; the result; the reference; …; the word; …]
+      -- 0 obs, 1 the borrow, 2 the token, 3 the result, 4 the reference, 6 the word
       returns i (look i 6 refl) $ move i (6 ∷ 7 ∷ []) $ gone i $ move i (4 ∷ 5 ∷ []) $ gone i $ forget i 3 refl $ feqI i (List Val) (vptr b o ∷ []) (vptr b o ∷ []) refl $ fjoin3 i $
       owned i u64 (Is u64) (uint-makes 𝓤 H A W w64) (t .word) _ (refl, word-fits t u is) $ move i (1 ∷ 2 ∷ 0 ∷ []) $ rest))

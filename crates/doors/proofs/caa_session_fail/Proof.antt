@@ -34,10 +34,10 @@ use Rattle.spec_session.proofs.Session as T
 use Rattle.spec_session.proofs.Stepped as S
 use Rattle.session_call.proofs.fail as callee
 use Rattle.session_call.proofs.fail.Symbol as callee-def
-use Rattle.session_call.proofs.fail.Symbol.{name as #session-call·fail}
+use Rattle.session_call.proofs.fail.Symbol.{name as #callee}
 use Rattle.session_call.proofs.fail.Met as callee-thm
 use Rattle.doors.proofs.Lent.{mach, Own, Borrowed, session-typed, opens-lent, returned, keeps, gone, says-both}
-use Rattle.doors.proofs.caa_session_fail.Key.{name as #doors·caa-session-fail}
+use Rattle.doors.proofs.caa_session_fail.Key.{name as #door}
 use Rattle.doors.proofs.caa_session_fail as door
 use Rattle.doors.proofs.caa_session_fail.Statement as stated
 use Rattle.doors.proofs.caa_session_fail.Code as code
@@ -45,7 +45,7 @@ use Rattle.doors.proofs.caa_session_fail.Code as code
 abbrev stayed : Stays (door.ended .signature .params) (door.ended .kept)
 stayed = (stay-ref (0 ∷ []) tt (plain (λ _. T.the-row)), tt)
 
--- the contract that the proof cites
+-- the contract of the step by value
 abbrev Callee : {M : Type 1} (𝓤 : URA M) (H : Heap 𝓤) (A : Atoms 𝓤) (mem : Memory → SProp 𝓤) (run : Routine → Fun 𝓤) → Contract 𝓤
 Callee 𝓤 H A mem run = tripleOf 𝓤 H A callee.signature (callee.spec 𝓤 H A mem run)
 
@@ -55,6 +55,10 @@ module _ {M : Type 1} (𝓤 : URA M) (H : Heap 𝓤) (A : Atoms 𝓤) (W : Given
 
   abbrev at : List Val × Unit {0}
   at = (vptr b o ∷ [], tt)
+
+  -- what the call is to give, by the definition
+  abbrev result : Stepped
+  result = failed h
 
   abbrev y : walkOf 𝓤 H A door.ended stayed (door.clauses 𝓤 H A mem run) .Ghost
   y = (((κ, tt), (q, tt), tt, x, at), tt)
@@ -69,27 +73,27 @@ module _ {M : Type 1} (𝓤 : URA M) (H : Heap 𝓤) (A : Atoms 𝓤) (W : Given
   goes : ent 𝓤 (sem 𝓤 H A (Own h)) (Callee 𝓤 H A mem run .pre to)
   goes = qed W (‵ (Own h) ∷ []) ∵ nothing ! $ move ! (1 ∷ 0 ∷ []) $ join ! $ nothing ! $ join ! $ frame ! $ done !
 
-  exits : (t : Stepped) → t ≡ failed h → ent 𝓤 (⋆ 𝓤 H A (‵ (Borrowed κ b o γ (t .session)) ∷ ‵ (flft κ q) ∷ ‵ (u64 .own (t .word) (vint w64 (t .word) ∷ [])) ∷ [])) (Post (vint w64 (t .word)))
+  exits : (t : Stepped) → t ≡ result → ent 𝓤 (⋆ 𝓤 H A (‵ (Borrowed κ b o γ (t .session)) ∷ ‵ (flft κ q) ∷ ‵ (u64 .own (t .word) (vint w64 (t .word) ∷ [])) ∷ [])) (Post (vint w64 (t .word)))
   exits t e =
       qed W (‵ (Borrowed κ b o γ (t .session)) ∷ ‵ (flft κ q) ∷ ‵ (u64 .own (t .word) (vint w64 (t .word) ∷ [])) ∷ []) ∵
       suffices ! _ (ends-at 𝓤 H A door.ended stayed (door.clauses 𝓤 H A mem run) W y (vint w64 (t .word)) (t .word) (t .session, tt) (tt, tt)) $
       says-both ! (ap (λ (s : Stepped). s .word) e) (ap (λ (s : Stepped). s .session) e) $
       nothing ! $ move ! (2 ∷ 0 ∷ []) $ join ! $ frame ! $ nothing ! $ move ! (1 ∷ 0 ∷ []) $ fjoin ! $ frame ! $ done !
 
-  module _ (C : Calls 𝓤 H) (Λ : Loops 𝓤 H) (fm : FmC 𝓤 H (W .laws) C) (known : Triple 𝓤 (C #session-call·fail) (Callee 𝓤 H A mem run)) where
+  module _ (C : Calls 𝓤 H) (Λ : Loops 𝓤 H) (fm : FmC 𝓤 H (W .laws) C) (known : Triple 𝓤 (C #callee) (Callee 𝓤 H A mem run)) where
     walk : ent 𝓤 (onEntry 𝓤 H A door.signature (κ, tt) (q, tt) x at) (WpFn 𝓤 H C Λ code.function (vptr b o ∷ []) Post)
     walk =
         qed W ((‵ (flft κ q) ⊛ ‵ ftrue) ∷ ‵ (owns (MutRef (named 0) κ T.the-row ∷ []) x at) ∷ []) ∵ enter ! C Λ code.function (vptr b o ∷ []) _ $
         alloc1 ! (λ l₀. alloc1 ! (λ l₁. alloc1 ! (λ l₂. alloc1 ! (λ l₃. alloc0 ! $ params1 ! $ pass1 ! (init ! 4 refl (tt, tt)) $ pass0 ! $
         move ! (8 ∷ 9 ∷ []) $ split ! $ move ! (2 ∷ []) $ fsplit ! $ move ! (0 ∷ 2 ∷ []) $ opens-lent ! tt h b o (λ g.
-        -- [what the session owns; its cell; the open borrow; obs; auth; true; true; _3; …; _2; …; _1; …; _0; …]
+        -- 0 what the session owns, 1 its cell, 2 the open borrow, 3 obs, 4 auth, 7 _3, 9 _2, 11 _1, 13 _0
         assigns ! (of-opd ! (load ! (from ! (hop ! (look ! 11 refl) (stop !))) (look-raw ! 1 refl))) (from ! (stop !)) (init ! 7 refl (session-typed 𝓤 H A W h g)) $
         use1 W (raw (Callee 𝓤 H A mem run .pre to)) goes $
         calls-at ! fm (Callee 𝓤 H A mem run) known to (and-then ! (load ! (from ! (stop !)) (look ! 7 refl)) (no-more !)) (λ u.
-        returned W callee.ended (callee.clauses 𝓤 H A mem run) tt (h, tt) tt (λ t. ‵ ftrue ⊛ ‵ (S.the-row .own t (u ∷ []))) (λ t. t ≡ failed h) (λ t ws. id⊢ 𝓤 _) ! tt (λ t e. split ! $
-        -- [true; what the result owns; the session's cell; the open borrow; obs; auth; true; true; _3; …; _2; …; _1; …; _0; …]
+        returned W callee.ended (callee.clauses 𝓤 H A mem run) tt (h, tt) tt (λ t. ‵ ftrue ⊛ ‵ (S.the-row .own t (u ∷ []))) (λ t. t ≡ result) (λ t ws. id⊢ 𝓤 _) ! tt (λ t e. split ! $
+        -- 1 what the result owns, 2 the session's cell, 3 the open borrow, 4 obs, 5 auth, 8 _3, 10 _2, 12 _1, 14 _0
         move ! (1 ∷ 2 ∷ 3 ∷ 4 ∷ 5 ∷ 10 ∷ 12 ∷ 13 ∷ 14 ∷ 15 ∷ []) $ keeps ! l₀ l₁ _ 2 l₂ b o refl h t u $
-        -- [the session lent; the token; the word; room for _2; true; true; true; _3; …; …]
+        -- 0 the session, borrowed, 1 the token, 2 the word, 3 room for _2, 7 _3, 9 what frees _2
         move ! (3 ∷ 9 ∷ []) $ free1 ! $ move ! (6 ∷ 7 ∷ []) $ gone ! $ free0 ! $ keep ! (0 ∷ 1 ∷ 2 ∷ []) $ by ! (exits t e))))))))
 
 pub caa-session-fail-spec : {M : Type 1} → stated.statement M
@@ -98,7 +102,7 @@ caa-session-fail-spec 𝓤 H 𝓜 𝓖 𝓡 =
     let W : Given 𝓤 H (𝓖 .A) = givenOf 𝓤 H 𝓜 𝓖 in
     let 𝓣 : Tables 𝓤 H = tablesOf 𝓤 H 𝓜 (tables 𝓤 H 𝓜 𝓡 code.env) in
     entered 𝓤 H (tripleOf 𝓤 H (𝓖 .A) door.signature (door.spec 𝓤 H (𝓖 .A) (𝓜 .mem) (𝓡 .run)))
-    (tables 𝓤 H 𝓜 𝓡 code.env .C) (tables 𝓤 H 𝓜 𝓡 code.env .Λ) #doors·caa-session-fail code.function (code.unfolded 𝓤 H 𝓜 𝓡)
+    (tables 𝓤 H 𝓜 𝓡 code.env .C) (tables 𝓤 H 𝓜 𝓡 code.env .Λ) #door code.function (code.unfolded 𝓤 H 𝓜 𝓡)
     (walk-meets 𝓤 H (𝓖 .A) door.ended stayed W
     (goes-ref 𝓤 H (𝓖 .A) W 1 0 tt (plain (λ _. T.the-row)), tt)
     (door.clauses 𝓤 H (𝓖 .A) (𝓜 .mem) (𝓡 .run)) (WpFn 𝓤 H (𝓣 .C) (𝓣 .Λ) code.function) (WpFn-mono 𝓤 H (W .laws) 𝓣 code.function)
@@ -106,4 +110,4 @@ caa-session-fail-spec 𝓤 H 𝓜 𝓖 𝓡 =
     (λ κs. (mut-tells (named 0) (κs .0) T.the-row, tt))
     (λ κs qs bounds a _ are. via 𝓤 _ (fst∗ 𝓤 _ (emp 𝓤)) (walk 𝓤 H (𝓖 .A) W (𝓜 .mem) (𝓡 .run) (κs .0) (qs .0) (a .0 .ptr .0) (a .0 .ptr .1) (a .0 .name) (a .0 .now)
     (𝓣 .C) (𝓣 .Λ) (fmOf 𝓤 H (W .laws) 𝓣)
-    (cited 𝓤 H (Callee 𝓤 H (𝓖 .A) (𝓜 .mem) (𝓡 .run)) 𝓜 𝓡 code.env #session-call·fail callee-def.routine code.calls-session-call·fail (callee-thm.met 𝓤 H 𝓜 𝓖 𝓡))))))
+    (cited 𝓤 H (Callee 𝓤 H (𝓖 .A) (𝓜 .mem) (𝓡 .run)) 𝓜 𝓡 code.env #callee callee-def.routine code.calls-session-call·fail (callee-thm.met 𝓤 H 𝓜 𝓖 𝓡))))))

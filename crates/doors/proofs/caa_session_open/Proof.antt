@@ -37,10 +37,10 @@ use Rattle.spec_session.proofs.Session as T
 use Rattle.spec_session.proofs.Stepped as S
 use Rattle.session_call.proofs.open as callee
 use Rattle.session_call.proofs.open.Symbol as callee-def
-use Rattle.session_call.proofs.open.Symbol.{name as #session-call·open}
+use Rattle.session_call.proofs.open.Symbol.{name as #callee}
 use Rattle.session_call.proofs.open.Met as callee-thm
 use Rattle.doors.proofs.Lent.{Borrowed, opens-lent, returned, all-twice, keeps, gone, says-both}
-use Rattle.doors.proofs.caa_session_open.Key.{name as #doors·caa-session-open}
+use Rattle.doors.proofs.caa_session_open.Key.{name as #door}
 use Rattle.doors.proofs.caa_session_open as door
 use Rattle.doors.proofs.caa_session_open.Statement as stated
 use Rattle.doors.proofs.caa_session_open.Code as code
@@ -48,7 +48,7 @@ use Rattle.doors.proofs.caa_session_open.Code as code
 abbrev stayed : Stays (door.ended .signature .params) (door.ended .kept)
 stayed = (stay-ref (0 ∷ []) tt (plain (λ _. T.the-row)), (stay-none-slice (1 ∷ []) tt (plain (λ _. u8)) yes, (stay-none-slice (2 ∷ []) tt (plain (λ _. u8)) yes, (stay-none-slice (3 ∷ []) tt (plain (λ _. u8)) yes, (stay-none-slice (4 ∷ []) tt (plain (λ _. u8)) yes, tt)))))
 
--- the contract that the proof cites
+-- the contract of the step by value
 abbrev Callee : {M : Type 1} (𝓤 : URA M) (H : Heap 𝓤) (A : Atoms 𝓤) (mem : Memory → SProp 𝓤) (run : Routine → Fun 𝓤) → Contract 𝓤
 Callee 𝓤 H A mem run = tripleOf 𝓤 H A callee.signature (callee.spec 𝓤 H A mem run)
 
@@ -70,6 +70,10 @@ module _ {M : Type 1} (𝓤 : URA M) (H : Heap 𝓤) (A : Atoms 𝓤) (W : Given
   abbrev at : List Val × (List Val × (List Val × (List Val × (List Val × Unit {0}))))
   at = (vptr b o ∷ [], (v s₁ ∷ [], (v s₂ ∷ [], (v s₃ ∷ [], (v s₄ ∷ [], tt)))))
 
+  -- what the call is to give, by the definition
+  abbrev result : Stepped
+  result = opened (now s₁) (now s₂) (now s₃) (now s₄)
+
   abbrev y : walkOf 𝓤 H A door.ended stayed (door.clauses 𝓤 H A mem run) .Ghost
   y = (((κ, (κ₁, (κ₂, (κ₃, (κ₄, tt))))), (q, (q₁, (q₂, (q₃, (q₄, tt))))), tt, x, at), tt)
 
@@ -83,14 +87,14 @@ module _ {M : Type 1} (𝓤 : URA M) (H : Heap 𝓤) (A : Atoms 𝓤) (W : Given
   goes : ent 𝓤 (⋆ 𝓤 H A (Tokens ∷ ‵ Inputs ∷ [])) (Callee 𝓤 H A mem run .pre to)
   goes = qed W (Tokens ∷ ‵ Inputs ∷ []) ∵ join ! $ frame ! $ done !
 
-  exits : (t : Stepped) → t ≡ opened (now s₁) (now s₂) (now s₃) (now s₄) → ent 𝓤 (⋆ 𝓤 H A (‵ (Borrowed κ b o γ (t .session)) ∷ ‵ (flft κ q) ∷ ‵ (u64 .own (t .word) (vint w64 (t .word) ∷ [])) ∷ Tokens ∷ ‵ Inputs ∷ [])) (Post (vint w64 (t .word)))
+  exits : (t : Stepped) → t ≡ result → ent 𝓤 (⋆ 𝓤 H A (‵ (Borrowed κ b o γ (t .session)) ∷ ‵ (flft κ q) ∷ ‵ (u64 .own (t .word) (vint w64 (t .word) ∷ [])) ∷ Tokens ∷ ‵ Inputs ∷ [])) (Post (vint w64 (t .word)))
   exits t e =
       qed W (‵ (Borrowed κ b o γ (t .session)) ∷ ‵ (flft κ q) ∷ ‵ (u64 .own (t .word) (vint w64 (t .word) ∷ [])) ∷ Tokens ∷ ‵ Inputs ∷ []) ∵
       suffices ! _ (ends-at 𝓤 H A door.ended stayed (door.clauses 𝓤 H A mem run) W y (vint w64 (t .word)) (t .word) (t .session, (tt, (tt, (tt, (tt, tt))))) (tt, (tt, (tt, (tt, (tt, tt)))))) $
       says-both ! (ap (λ (r : Stepped). r .word) e) (ap (λ (r : Stepped). r .session) e) $
       move ! (1 ∷ 3 ∷ []) $ join ! $ frame ! $ move ! (0 ∷ 2 ∷ []) $ fjoin ! $ frame ! $ done !
 
-  module _ (C : Calls 𝓤 H) (Λ : Loops 𝓤 H) (fm : FmC 𝓤 H (W .laws) C) (known : Triple 𝓤 (C #session-call·open) (Callee 𝓤 H A mem run)) where
+  module _ (C : Calls 𝓤 H) (Λ : Loops 𝓤 H) (fm : FmC 𝓤 H (W .laws) C) (known : Triple 𝓤 (C #callee) (Callee 𝓤 H A mem run)) where
     walk : Is (ShrSlice (named 1) κ₁ u8) s₁ (v s₁ ∷ []) → Is (ShrSlice (named 2) κ₂ u8) s₂ (v s₂ ∷ []) → Is (ShrSlice (named 3) κ₃ u8) s₃ (v s₃ ∷ []) → Is (ShrSlice (named 4) κ₄ u8) s₄ (v s₄ ∷ [])
         → ent 𝓤 (onEntry 𝓤 H A door.signature (κ, (κ₁, (κ₂, (κ₃, (κ₄, tt))))) (q, (q₁, (q₂, (q₃, (q₄, tt))))) x at) (WpFn 𝓤 H C Λ code.function (vptr b o ∷ v s₁ ∷ v s₂ ∷ v s₃ ∷ v s₄ ∷ []) Post)
     walk p₁ p₂ p₃ p₄ =
@@ -99,17 +103,17 @@ module _ {M : Type 1} (𝓤 : URA M) (H : Heap 𝓤) (A : Atoms 𝓤) (W : Given
         pass1 ! (init ! 8 refl (shr-slice-lawful 𝓤 H A W (named 1) κ₁ u8 .typed s₁ (v s₁ ∷ []) p₁ .0)) $ pass1 ! (init ! 6 refl (shr-slice-lawful 𝓤 H A W (named 2) κ₂ u8 .typed s₂ (v s₂ ∷ []) p₂ .0)) $
         pass1 ! (init ! 4 refl (shr-slice-lawful 𝓤 H A W (named 3) κ₃ u8 .typed s₃ (v s₃ ∷ []) p₃ .0)) $ pass1 ! (init ! 2 refl (shr-slice-lawful 𝓤 H A W (named 4) κ₄ u8 .typed s₄ (v s₄ ∷ []) p₄ .0)) $ pass0 ! $
         move ! (14 ∷ 15 ∷ []) $ split ! $ move ! (2 ∷ []) $ fsplit ! $ move ! (0 ∷ 2 ∷ []) $ opens-lent ! tt h b o (λ g. drop ! $
-        -- [the session's cell; the open borrow; obs; auth; what the inputs own; their tokens; _6; …; _5; …; _4; …; _3; …; _2; …; _1; …; _0; …]
+        -- 0 the session's cell, 1 the open borrow, 2 obs, 3 auth, 4 what the inputs own, 5 their tokens, 6 _6, 8 _5, 10 _4, 12 _3, 14 _2, 16 _1, 18 _0
         move ! (4 ∷ []) $ all-twice ! (ShrSlice (named 1) κ₁ u8 ∷ ShrSlice (named 2) κ₂ u8 ∷ ShrSlice (named 3) κ₃ u8 ∷ ShrSlice (named 4) κ₄ u8 ∷ [])
         (shr-slice-copy 𝓤 H A W (named 1) κ₁ u8, (shr-slice-copy 𝓤 H A W (named 2) κ₂ u8, (shr-slice-copy 𝓤 H A W (named 3) κ₃ u8, (shr-slice-copy 𝓤 H A W (named 4) κ₄ u8, tt)))) (s₁, (s₂, (s₃, (s₄, tt)))) (v s₁ ∷ [], (v s₂ ∷ [], (v s₃ ∷ [], (v s₄ ∷ [], tt)))) $
         move ! (6 ∷ 0 ∷ []) $ use2 W (raw (Callee 𝓤 H A mem run .pre to)) goes $
-        -- [what the callee asks; what the inputs own; the session's cell; the open borrow; obs; auth; _6; …; _5; …; _4; …; _3; …; _2; …; _1; …; _0; …]
+        -- 0 what the callee asks, 1 what the inputs own, 2 the session's cell, 3 the open borrow, 4 obs, 5 auth, 6 _6, 8 _5, 10 _4, 12 _3, 14 _2, 16 _1, 18 _0
         calls-at ! fm (Callee 𝓤 H A mem run) known to
         (and-then ! (load ! (from ! (stop !)) (look ! 14 refl)) (and-then ! (load ! (from ! (stop !)) (look ! 12 refl)) (and-then ! (load ! (from ! (stop !)) (look ! 10 refl)) (and-then ! (load ! (from ! (stop !)) (look ! 8 refl)) (no-more !))))) (λ u.
-        returned W callee.ended (callee.clauses 𝓤 H A mem run) (κ₁, (κ₂, (κ₃, (κ₄, tt)))) (s₁, (s₂, (s₃, (s₄, tt)))) tt (λ t. Tokens ⊛ ‵ (S.the-row .own t (u ∷ []))) (λ t. t ≡ opened (now s₁) (now s₂) (now s₃) (now s₄)) (λ t ws. id⊢ 𝓤 _) ! tt (λ t e. split ! $
-        -- [the inputs' tokens; what the result owns; what the inputs own; the session's cell; the open borrow; obs; auth; _6; …; _5; …; _4; …; _3; …; _2; …; _1; …; _0; …]
+        returned W callee.ended (callee.clauses 𝓤 H A mem run) (κ₁, (κ₂, (κ₃, (κ₄, tt)))) (s₁, (s₂, (s₃, (s₄, tt)))) tt (λ t. Tokens ⊛ ‵ (S.the-row .own t (u ∷ []))) (λ t. t ≡ result) (λ t ws. id⊢ 𝓤 _) ! tt (λ t e. split ! $
+        -- 0 the inputs' tokens, 1 what the result owns, 2 what the inputs own, 3 the session's cell, 4 the open borrow, 5 obs, 6 auth, 7 _6, 9 _5, 11 _4, 13 _3, 15 _2, 17 _1, 19 _0
         move ! (1 ∷ 3 ∷ 4 ∷ 5 ∷ 6 ∷ 7 ∷ 17 ∷ 18 ∷ 19 ∷ 20 ∷ []) $ keeps ! l₀ l₁ _ 6 l₆ b o refl h t u $
-        -- [the session lent; its token; the word; room for _6; the inputs' tokens; what they own; …; _5; …; _4; …; _3; …; _2; …]
+        -- 0 the session, borrowed, 1 its token, 2 the word, 3 room for _6, 4 the inputs' tokens, 5 what they own, 6 what frees _6, 7 _5, 9 _4, 11 _3, 13 _2
         move ! (13 ∷ 14 ∷ []) $ gone ! $ move ! (11 ∷ 12 ∷ []) $ gone ! $ move ! (9 ∷ 10 ∷ []) $ gone ! $ move ! (7 ∷ 8 ∷ []) $ gone ! $ move ! (3 ∷ 6 ∷ []) $ free1 ! $ free0 ! $ by ! (exits t e)))))))))))
 
 pub caa-session-open-spec : {M : Type 1} → stated.statement M
@@ -118,7 +122,7 @@ caa-session-open-spec 𝓤 H 𝓜 𝓖 𝓡 =
     let W : Given 𝓤 H (𝓖 .A) = givenOf 𝓤 H 𝓜 𝓖 in
     let 𝓣 : Tables 𝓤 H = tablesOf 𝓤 H 𝓜 (tables 𝓤 H 𝓜 𝓡 code.env) in
     entered 𝓤 H (tripleOf 𝓤 H (𝓖 .A) door.signature (door.spec 𝓤 H (𝓖 .A) (𝓜 .mem) (𝓡 .run)))
-    (tables 𝓤 H 𝓜 𝓡 code.env .C) (tables 𝓤 H 𝓜 𝓡 code.env .Λ) #doors·caa-session-open code.function (code.unfolded 𝓤 H 𝓜 𝓡)
+    (tables 𝓤 H 𝓜 𝓡 code.env .C) (tables 𝓤 H 𝓜 𝓡 code.env .Λ) #door code.function (code.unfolded 𝓤 H 𝓜 𝓡)
     (walk-meets 𝓤 H (𝓖 .A) door.ended stayed W (
       goes-ref 𝓤 H (𝓖 .A) W 5 0 tt (plain (λ _. T.the-row)),
       (
@@ -139,4 +143,4 @@ caa-session-open-spec 𝓤 H 𝓜 𝓖 𝓡 =
     (κs .0) (κs .1 .0) (κs .1 .1 .0) (κs .1 .1 .1 .0) (κs .1 .1 .1 .1 .0) (qs .0) (qs .1 .0) (qs .1 .1 .0) (qs .1 .1 .1 .0) (qs .1 .1 .1 .1 .0) (a .0 .ptr .0) (a .0 .ptr .1) (a .0 .name) (a .0 .now)
     (a .1 .0) (a .1 .1 .0) (a .1 .1 .1 .0) (a .1 .1 .1 .1 .0)
     (𝓣 .C) (𝓣 .Λ) (fmOf 𝓤 H (W .laws) 𝓣)
-    (cited 𝓤 H (Callee 𝓤 H (𝓖 .A) (𝓜 .mem) (𝓡 .run)) 𝓜 𝓡 code.env #session-call·open callee-def.routine code.calls-session-call·open (callee-thm.met 𝓤 H 𝓜 𝓖 𝓡)) (are .1 .0) (are .1 .1 .0) (are .1 .1 .1 .0) (are .1 .1 .1 .1 .0)))))
+    (cited 𝓤 H (Callee 𝓤 H (𝓖 .A) (𝓜 .mem) (𝓡 .run)) 𝓜 𝓡 code.env #callee callee-def.routine code.calls-session-call·open (callee-thm.met 𝓤 H 𝓜 𝓖 𝓡)) (are .1 .0) (are .1 .1 .0) (are .1 .1 .1 .0) (are .1 .1 .1 .1 .0)))))

@@ -35,10 +35,10 @@ use Rattle.spec_session.specs.Steps.{stated}
 use Rattle.spec_session.proofs.Session as T
 use Rattle.session_call.proofs.state as callee
 use Rattle.session_call.proofs.state.Symbol as callee-def
-use Rattle.session_call.proofs.state.Symbol.{name as #session-call·state}
+use Rattle.session_call.proofs.state.Symbol.{name as #callee}
 use Rattle.session_call.proofs.state.Met as callee-thm
 use Rattle.doors.proofs.Lent.{mach, Own, session-typed, looks-lent, shuts-lent, returned, all-twice, gone}
-use Rattle.doors.proofs.caa_session_state.Key.{name as #doors·caa-session-state}
+use Rattle.doors.proofs.caa_session_state.Key.{name as #door}
 use Rattle.doors.proofs.caa_session_state as door
 use Rattle.doors.proofs.caa_session_state.Statement as stated
 use Rattle.doors.proofs.caa_session_state.Code as code
@@ -46,7 +46,7 @@ use Rattle.doors.proofs.caa_session_state.Code as code
 abbrev stayed : Stays (door.ended .signature .params) (door.ended .kept)
 stayed = (stay-none-ref (0 ∷ []) tt (plain (λ _. T.the-row)) yes, tt)
 
--- the contract that the proof cites
+-- the contract of the step by value
 abbrev Callee : {M : Type 1} (𝓤 : URA M) (H : Heap 𝓤) (A : Atoms 𝓤) (mem : Memory → SProp 𝓤) (run : Routine → Fun 𝓤) → Contract 𝓤
 Callee 𝓤 H A mem run = tripleOf 𝓤 H A callee.signature (callee.spec 𝓤 H A mem run)
 
@@ -61,6 +61,10 @@ module _ {M : Type 1} (𝓤 : URA M) (H : Heap 𝓤) (A : Atoms 𝓤) (W : Given
   abbrev Seen : Fml
   Seen = owns (ShrRef (named 0) κ T.the-row ∷ []) x at
 
+  -- what the call is to give, by the definition
+  abbrev result : ℕ
+  result = stated h
+
   abbrev y : walkOf 𝓤 H A door.ended stayed (door.clauses 𝓤 H A mem run) .Ghost
   y = (((κ, tt), (q, tt), tt, x, at), tt)
 
@@ -74,26 +78,26 @@ module _ {M : Type 1} (𝓤 : URA M) (H : Heap 𝓤) (A : Atoms 𝓤) (W : Given
   goes : ent 𝓤 (sem 𝓤 H A (Own h)) (Callee 𝓤 H A mem run .pre to)
   goes = qed W (‵ (Own h) ∷ []) ∵ nothing ! $ move ! (1 ∷ 0 ∷ []) $ join ! $ nothing ! $ join ! $ frame ! $ done !
 
-  exits : (n : ℕ) (u : Val) → n ≡ stated h → ent 𝓤 (⋆ 𝓤 H A (‵ (u64 .own n (u ∷ [])) ∷ ‵ (flft κ q) ∷ ‵ Seen ∷ [])) (Post u)
+  exits : (n : ℕ) (u : Val) → n ≡ result → ent 𝓤 (⋆ 𝓤 H A (‵ (u64 .own n (u ∷ [])) ∷ ‵ (flft κ q) ∷ ‵ Seen ∷ [])) (Post u)
   exits n u e =
       qed W (‵ (u64 .own n (u ∷ [])) ∷ ‵ (flft κ q) ∷ ‵ Seen ∷ []) ∵
       suffices ! _ (ends-at 𝓤 H A door.ended stayed (door.clauses 𝓤 H A mem run) W y u n (tt, tt) (tt, tt)) $ says ! e $
       nothing ! $ move ! (2 ∷ 0 ∷ []) $ join ! $ frame ! $ move ! (1 ∷ []) $ frame ! $ done !
 
-  module _ (C : Calls 𝓤 H) (Λ : Loops 𝓤 H) (fm : FmC 𝓤 H (W .laws) C) (known : Triple 𝓤 (C #session-call·state) (Callee 𝓤 H A mem run)) where
+  module _ (C : Calls 𝓤 H) (Λ : Loops 𝓤 H) (fm : FmC 𝓤 H (W .laws) C) (known : Triple 𝓤 (C #callee) (Callee 𝓤 H A mem run)) where
     walk : ent 𝓤 (onEntry 𝓤 H A door.signature (κ, tt) (q, tt) x at) (WpFn 𝓤 H C Λ code.function (vptr b o ∷ []) Post)
     walk =
         qed W ((‵ (flft κ q) ⊛ ‵ ftrue) ∷ ‵ Seen ∷ []) ∵ enter ! C Λ code.function (vptr b o ∷ []) _ $
         alloc1 ! (λ l₀. alloc1 ! (λ l₁. alloc1 ! (λ l₂. alloc0 ! $ params1 ! $ pass1 ! (init ! 2 refl (tt, tt)) $ pass0 ! $
         move ! (6 ∷ 7 ∷ []) $ split ! $ move ! (2 ∷ []) $ all-twice ! (ShrRef (named 0) κ T.the-row ∷ []) (shr-copy 𝓤 H A W (named 0) κ T.the-row, tt) x at $ fsplit ! $
         move ! (0 ∷ 3 ∷ []) $ looks-lent ! tt h b o (λ q′ g.
-        -- [what the session owns; a share of its cell; what shuts it; true; what the reference owns; true; _2; …; _1; …; _0; …]
+        -- 0 what the session owns, 1 a share of its cell, 2 what shuts it, 4 what the reference owns, 6 _2, 8 _1, 10 _0
         assigns ! (of-opd ! (load ! (from ! (hop ! (look ! 8 refl) (stop !))) (look-raw ! 1 refl))) (from ! (stop !)) (init ! 6 refl (session-typed 𝓤 H A W h g)) $
         move ! (1 ∷ 2 ∷ []) $ shuts-lent ! tt q′ h b o g $ move ! (1 ∷ []) $ use1 W (raw (Callee 𝓤 H A mem run .pre to)) goes $
-        -- [what the callee asks; the token; true; what the reference owns; true; _2; …; _1; …; _0; …]
+        -- 0 what the callee asks, 1 the token, 3 what the reference owns, 5 _2, 7 _1, 9 _0
         calls-at ! fm (Callee 𝓤 H A mem run) known to (and-then ! (load ! (from ! (stop !)) (look ! 5 refl)) (no-more !)) (λ u.
-        returned W callee.ended (callee.clauses 𝓤 H A mem run) tt (h, tt) tt (λ n. ‵ ftrue ⊛ ‵ (u64 .own n (u ∷ []))) (λ n. n ≡ stated h) (λ n ws. id⊢ 𝓤 _) ! tt (λ n e. split ! $ move ! (1 ∷ []) $
-        -- [what the word owns; true; the token; true; what the reference owns; true; _2; …; _1; …; _0; …]
+        returned W callee.ended (callee.clauses 𝓤 H A mem run) tt (h, tt) tt (λ n. ‵ ftrue ⊛ ‵ (u64 .own n (u ∷ []))) (λ n. n ≡ result) (λ n ws. id⊢ 𝓤 _) ! tt (λ n e. split ! $ move ! (1 ∷ []) $
+        -- 0 what the word owns, 2 the token, 4 what the reference owns, 6 _2, 8 _1, 10 _0
         peeks ! u64 (Is u64) (shows 𝓤 H A u64) n (u ∷ []) (λ is. land ! (from ! (stop !)) (init ! 10 refl (uint-lawful 𝓤 H A W w64 .typed n _ is .0)) $
         returns ! (look ! 10 refl) $ move ! (10 ∷ 11 ∷ []) $ gone ! $ move ! (8 ∷ 9 ∷ []) $ gone ! $ move ! (6 ∷ 7 ∷ []) $ gone ! $ free0 ! $ keep ! (0 ∷ 2 ∷ 4 ∷ []) $ by ! (exits n u e))))))))
 
@@ -103,7 +107,7 @@ caa-session-state-spec 𝓤 H 𝓜 𝓖 𝓡 =
     let W : Given 𝓤 H (𝓖 .A) = givenOf 𝓤 H 𝓜 𝓖 in
     let 𝓣 : Tables 𝓤 H = tablesOf 𝓤 H 𝓜 (tables 𝓤 H 𝓜 𝓡 code.env) in
     entered 𝓤 H (tripleOf 𝓤 H (𝓖 .A) door.signature (door.spec 𝓤 H (𝓖 .A) (𝓜 .mem) (𝓡 .run)))
-    (tables 𝓤 H 𝓜 𝓡 code.env .C) (tables 𝓤 H 𝓜 𝓡 code.env .Λ) #doors·caa-session-state code.function (code.unfolded 𝓤 H 𝓜 𝓡)
+    (tables 𝓤 H 𝓜 𝓡 code.env .C) (tables 𝓤 H 𝓜 𝓡 code.env .Λ) #door code.function (code.unfolded 𝓤 H 𝓜 𝓡)
     (walk-meets 𝓤 H (𝓖 .A) door.ended stayed W
     (goes-none-ref 𝓤 H (𝓖 .A) W 1 (0 ∷ []) tt (plain (λ _. T.the-row)) yes, tt)
     (door.clauses 𝓤 H (𝓖 .A) (𝓜 .mem) (𝓡 .run)) (WpFn 𝓤 H (𝓣 .C) (𝓣 .Λ) code.function) (WpFn-mono 𝓤 H (W .laws) 𝓣 code.function)
@@ -111,4 +115,4 @@ caa-session-state-spec 𝓤 H 𝓜 𝓖 𝓡 =
     (λ κs. (shr-tells (named 0) (κs .0) T.the-row, tt))
     (λ κs qs bounds a _ are. via 𝓤 _ (fst∗ 𝓤 _ (emp 𝓤)) (walk 𝓤 H (𝓖 .A) W (𝓜 .mem) (𝓡 .run) (κs .0) (qs .0) (a .0 .ptr .0) (a .0 .ptr .1) (a .0 .name) (a .0 .now)
     (𝓣 .C) (𝓣 .Λ) (fmOf 𝓤 H (W .laws) 𝓣)
-    (cited 𝓤 H (Callee 𝓤 H (𝓖 .A) (𝓜 .mem) (𝓡 .run)) 𝓜 𝓡 code.env #session-call·state callee-def.routine code.calls-session-call·state (callee-thm.met 𝓤 H 𝓜 𝓖 𝓡))))))
+    (cited 𝓤 H (Callee 𝓤 H (𝓖 .A) (𝓜 .mem) (𝓡 .run)) 𝓜 𝓡 code.env #callee callee-def.routine code.calls-session-call·state (callee-thm.met 𝓤 H 𝓜 𝓖 𝓡))))))
