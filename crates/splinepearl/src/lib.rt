@@ -1,0 +1,2 @@
+// The calls.
+mod sessions;
