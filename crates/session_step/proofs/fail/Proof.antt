@@ -11,8 +11,8 @@ is-asking-requires c κs = search needs
 returns : tie.Need-returns
 returns c = search (needs, fails-not, not-true)
 
-close-requires : tie.Need-close-requires
-close-requires c κs = search needs
+close-session-requires : tie.Need-close-session-requires
+close-session-requires c κs = search needs
 
 go-to-requires : tie.Need-go-to-requires
 go-to-requires c κs = search needs
@@ -21,4 +21,4 @@ returns-2 : tie.Need-returns-2
 returns-2 c = search (needs, fails-so, not-false)
 
 pub fail-spec : {M : Type 1} → statement M
-fail-spec = tie.close (tie.spec is-asking-requires returns close-requires go-to-requires returns-2)
+fail-spec = tie.close (tie.spec is-asking-requires returns close-session-requires go-to-requires returns-2)
