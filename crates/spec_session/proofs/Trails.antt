@@ -20,7 +20,7 @@ use Rattle.spec_rule.specs.RelevantSet.{asBook, Lookup, empty, found, endless, 
 use Rattle.spec_session.specs.declared.Session.{Session}
 use Rattle.spec_session.specs.declared.SessionAnswer.{SessionAnswer}
 use Rattle.spec_session.specs.Sessions.{held, keptName, keptApplicant, reaches, isKept, asking, isAsking, asked}
-use Rattle.spec_session.specs.Steps.{refusedWith, goesTo, oneUp, closedWith, concluded, byLookup, byRecords, answeredOr, answered, failed, Answer, book, lookupFailed, step, after, isRefusal, accepted}
+use Rattle.spec_session.specs.Steps.{endedRefusal, refusedWith, goesTo, oneUp, closedWith, concluded, byLookup, byRecords, answeredOr, answered, failed, Answer, book, lookupFailed, step, after, isRefusal, accepted}
 use Rattle.spec_session.specs.Theorems.{Ended-stays}
 use Rattle.spec_session.proofs.StepLaws.{Live, live, asks, ended-refuses, refused-book, closed-asks-nothing, state-no-refusal}
 
@@ -31,8 +31,9 @@ ended-stays s (a ∷ more) e = rw (ended-refuses s a e) (ended-stays s more e)
 
 -- one answer in front: it is refused, or it leads to another session
 module _ (s : Session) (a : Answer) (more : List Answer) where
-  passed-over : (q : SessionAnswer) → step s a ≡ refusedWith q s → isRefusal q ≡ true → (accepted s (a ∷ more) ≡ accepted s more) × (after s (a ∷ more) ≡ after s more)
-  passed-over q e r = rw (e, r) (refl, refl)
+  passed-over :
+      (r : Refusal) → step s a ≡ refusedWith r s → (accepted s (a ∷ more) ≡ accepted s more) × (after s (a ∷ more) ≡ after s more)
+  passed-over r e = rw e (refl, refl)
 
   taken : (t : Session) → step s a ≡ goesTo t → (accepted s (a ∷ more) ≡ (asked s, a) ∷ accepted t more) × (after s (a ∷ more) ≡ after t more)
   taken t e = rw (e, state-no-refusal t) (refl, refl)
@@ -91,11 +92,11 @@ module _ (issuer : List ℕ) (who : Applicant) (n : Name) where
 
   -- an accepted book
   read : {s : Session} (b : List ℕ) → OnCourse s → bookRefusal b ≡ none → step s (book b) ≡ goesTo (byLookup s n (looked s b))
-  unfolding answered
+  unfolding answered endedRefusal
   read b c e = rw (c .takes, e, c .of-name) refl
 
   gave-up : {s : Session} → OnCourse s → step s lookupFailed ≡ goesTo (closedWith 23 0 s)
-  unfolding failed
+  unfolding failed endedRefusal
   gave-up c = rw (c .takes) refl
 
   -- a session that ends with the first answer
@@ -147,5 +148,5 @@ module _ (issuer : List ℕ) (who : Applicant) (n : Name) where
       by-check none e later = by-lookup (looked s b) refl (read b c e) later
       by-check (some r) e later =
           let named : asked s ≢ none = λ z. Option·none-ne-some _ (sym z ∙ asks-next c) in
-          let (front, last) = passed-over s (book b) more _ (refused-book s b r named e) refl in
+          let (front, last) = passed-over s (book b) more r (refused-book s b r named e) in
           rw (front, last) (later s c)

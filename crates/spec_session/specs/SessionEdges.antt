@@ -6,7 +6,7 @@ use mathlib.Core.List.{List, [], _∷_, _++_, map}
 use mathlib.Core.Option.{Option, none, some}
 use lib.ListN.{replicate, take, drop}
 use Rattle.spec_refusal.specs.declared.Refusal.{Refusal}
-use Rattle.spec_refusal.specs.declared.Refusal.the-variants.{RequestTooLong, BadName, BadIssuer, BookTooLong, BadRecord, AliasConflict, BadAccountOrMethod}
+use Rattle.spec_refusal.specs.declared.Refusal.the-variants.{RequestTooLong, BadName, BadIssuer, BookTooLong, BadRecord, AliasConflict, SessionEnded, BadAccountOrMethod}
 use Rattle.spec_octets.specs.Octets.{text}
 use Rattle.spec_name.specs.Names.{Name, wire}
 use Rattle.spec_request.specs.RequestEdges.{names}
@@ -24,7 +24,7 @@ use Rattle.spec_session.specs.declared.SessionAnswer.{SessionAnswer}
 use Rattle.spec_session.specs.declared.SessionAnswer.the-variants.{Asks, Judged, LookupFailed, NoVerdict}
 use Rattle.spec_session.specs.declared.Stepped.{Stepped}
 use Rattle.spec_session.specs.Sessions.{held, textOf, asked, standing, state}
-use Rattle.spec_session.specs.Steps.{sessionEnded, sessionOf, endedSession, opened, Answer, book, lookupFailed, step}
+use Rattle.spec_session.specs.Steps.{sessionOf, endedSession, opened, Answer, book, lookupFailed, step}
 
 -- What a step and the answers after it are answered with.
 abbrev pub toldBy : Stepped → List Answer → List SessionAnswer
@@ -71,6 +71,9 @@ asksTop = Asks 12 5
 
 abbrev pub refused : Refusal → SessionAnswer
 refused r = Judged (Refused r)
+
+abbrev pub sessionEnded : SessionAnswer
+sessionEnded = refused SessionEnded
 
 abbrev pub badName : ℕ → SessionAnswer
 badName k = refused (BadName (record { 0 = k }))
