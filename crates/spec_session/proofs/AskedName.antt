@@ -20,7 +20,7 @@ use Rattle.spec_session.proofs.Kept.{one-name-read}
 use Rattle.spec_session.proofs.StepLaws.{Live, live, asks, not-ended}
 
 -- y is at the end of n
-abbrev EndOf : Name → Name → Type 0
+abbrev pub EndOf : Name → Name → Type 0
 EndOf n y = (p : List ℕ) × (wire n ≡ p ++ wire y)
 
 one-label : (l : List ℕ) (x y : Name) → EndOf x y → EndOf (l ∷ x) y
@@ -43,6 +43,9 @@ without-asterisk (l ∷ ls) y h = go (isAsterisk l) h
     go true h = one-label l ls y h
     go false h = h
 
+pub at-the-end : (u : ℕ) (n : Name) → EndOf n (drop u (base n))
+at-the-end u n = without-asterisk n (drop u (base n)) (labels-off u (base n))
+
 pub asked-octets : Asked-octets
 unfolding state keptName
 asked-octets s y o e =
@@ -50,7 +53,7 @@ asked-octets s y o e =
     let l = live s t in
     let same = Option·some-injective _ _ (sym e ∙ asks s (l .name) t (l .kept)) in
     let (whole, good) = one-name-read (held (s .name)) o (l .name) .0 (l .kept) in
-    let (p, f) = without-asterisk (l .name) (drop (s .up) (base (l .name))) (labels-off (s .up) (base (l .name))) in
+    let (p, f) = at-the-end (s .up) (l .name) in
     placed p (whole ∙ f ∙ ap (λ z. p ++ wire z) (sym same))
   where
     placed :

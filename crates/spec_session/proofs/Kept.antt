@@ -24,7 +24,7 @@ use Rattle.spec_session.specs.Meaning.{KeptWell}
 use Rattle.spec_session.specs.Theorems.{Broken-is-ended, Kept-exactly}
 
 -- a name that fills the octets
-filling-some : (o : Option (Name × List ℕ)) (n : Name) → (filling o ≡ some n) ↔ (o ≡ some (n, []))
+pub filling-some : (o : Option (Name × List ℕ)) (n : Name) → (filling o ≡ some n) ↔ (o ≡ some (n, []))
 filling-some none n = (λ e. absurd (Option·none-ne-some _ e), λ e. absurd (Option·none-ne-some _ e))
 filling-some (some (m, [])) n = (λ e. pure-some m n [] [] .1 (Option·some-injective _ _ e, refl), λ e. ap some (pure-some m n [] [] .0 e .0))
 filling-some (some (m, x ∷ s)) n = (λ e. absurd (Option·none-ne-some _ e), λ e. absurd (cons≢nil (pure-some m n (x ∷ s) [] .0 e .1)))

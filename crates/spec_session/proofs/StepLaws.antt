@@ -6,8 +6,9 @@ use mathlib.Core.Logic.{_↔_, _≢_, _⊎_, ⊎-elim, Iff·trans}
 use mathlib.Core.Bool.{Bool, true, false, cond, _&&_, true≢false, false≢true, and-eq-true-iff}
 use mathlib.Core.List.{List, [], _∷_}
 use mathlib.Core.Option.{Option, none, some, Option·none-ne-some, Option·some-injective}
-use lib.Dec.{eqb}
+use lib.Dec.{eqb, ltb}
 use lib.ListN.{length, drop}
+use Rattle.spec_limits.specs.Limits.{maxRecords}
 use Rattle.spec_refusal.specs.declared.Refusal.{Refusal}
 use Rattle.spec_refusal.specs.declared.Refusal.the-variants.{SessionEnded}
 use Rattle.spec_refusal.specs.Refusal.{number}
@@ -28,7 +29,7 @@ use Rattle.spec_rule.proofs.RefusalLaws.{book-keeps}
 use Rattle.spec_session.specs.declared.Session.{Session}
 use Rattle.spec_session.specs.declared.SessionAnswer.{SessionAnswer}
 use Rattle.spec_session.specs.declared.SessionAnswer.the-variants.{Judged, LookupFailed}
-use Rattle.spec_session.specs.Sessions.{held, keptName, keptApplicant, reaches, isKept, asking, decided, isAsking, above, asked, verdictOf, standing, stateFrom, state}
+use Rattle.spec_session.specs.Sessions.{held, keptName, keptApplicant, reaches, isKept, asking, decided, isAsking, above, asked, ofRecord, verdictOf, standing, stateFrom, state}
 use Rattle.spec_session.specs.Steps.{endedRefusal, refusedWith, goesTo, closedWith, answeredOr, answerChecks, answered, failedOr, failed, Answer, book, lookupFailed, step, isRefusal}
 use Rattle.spec_session.specs.Meaning.{EndedRow}
 use Rattle.spec_session.specs.Theorems.{Ended-refuses, State-tells, Answer-refusals, Refused-answer, Refused-book, Failed-ends, Answered-by-state}
@@ -110,13 +111,16 @@ neither-refusal : (t : Bool) (o p : Option SessionAnswer) → NoRefusal o → No
 neither-refusal true o p h k = h
 neither-refusal false o p h k = k
 
+record-no-refusal : (r : ℕ) (b : SessionAnswer) → isRefusal b ≡ false → NoRefusal (ofRecord r b)
+record-no-refusal r b h = neither-refusal (ltb r maxRecords) _ _ (no-refusal b h) (λ a e. absurd (Option·none-ne-some a e))
+
 verdict-no-refusal : (v r u : ℕ) → NoRefusal (verdictOf v r u)
 unfolding verdictOf
 verdict-no-refusal v r u =
     neither-refusal (eqb v 0) _ _ (no-refusal _ refl)
-    (neither-refusal (eqb v 20) _ _ (no-refusal _ refl)
-    (neither-refusal (eqb v 21) _ _ (no-refusal _ refl)
-    (neither-refusal (eqb v 22) _ _ (no-refusal _ refl)
+    (neither-refusal (eqb v 20) _ _ (record-no-refusal r _ refl)
+    (neither-refusal (eqb v 21) _ _ (record-no-refusal r _ refl)
+    (neither-refusal (eqb v 22) _ _ (record-no-refusal r _ refl)
     (neither-refusal (eqb v 23) _ _ (no-refusal _ refl) (λ a e. absurd (Option·none-ne-some a e))))))
 
 pub standing-no-refusal : (s : Session) (a : SessionAnswer) → standing s ≡ some a → isRefusal a ≡ false

@@ -34,7 +34,7 @@ unfolding maxLabelOctets maxIssuerOctets maxAliases maxNameOctets maxRequestOcte
 runs-agree = refl
 
 pub states-agree : States-agree
-unfolding maxLabelOctets maxIssuerOctets maxNameOctets isDigit isUpper isLower isLetterOrDigit isLetterDigitHyphen isLabel isHostLabel base isIssuer
+unfolding maxLabelOctets maxIssuerOctets maxNameOctets maxRecords isDigit isUpper isLower isLetterOrDigit isLetterDigitHyphen isLabel isHostLabel base isIssuer
     isParameterOctet name isRequestable requestedName maxAccountOctets isAccount isMethod isApplicant maxTextOctets held textOf keptName keptApplicant
     isKept asking decided isAsking asked verdictOf standing state endedSession
 states-agree = refl

@@ -102,7 +102,7 @@ module _ (issuer : List ℕ) (who : Applicant) (n : Name) (whole : List ℕ) whe
       rw (passed (s .up) (below issuer who n c) there) (as-whole more (All-tail all) v e)
   as-whole (decides {s} {b} c why) all v e = (
     verdict issuer (decidedFrom who (isWildcard n) (s .up) (looked issuer who n s b) ∷ []),
-    Option·some-injective _ _ (sym e ∙ concluded-stands issuer who n c (looked issuer who n s b)),
+    Option·some-injective _ _ (sym e ∙ concluded-stands issuer who n c b),
     settled (s .up) (below issuer who n c) (looked issuer who n s b) (lookup library (next issuer who n s)) refl (agreed s b (All-head all)) why,
   )
   as-whole (fails {s} c) all v e =

@@ -211,6 +211,15 @@ stateEdges =
     ∷ (numbers 2 1 22 7, Judged (TooManyAliases (denial 0 7 1)))
     ∷ (numbers 2 1 23 7, LookupFailed)
     ∷ (numbers 2 1 24 7, NoVerdict)
+    -- The record numbers are below 1,024. Without a record, any number does.
+    ∷ (numbers 2 1 20 1023, Judged (UnknownCritical (denial 0 1023 1)))
+    ∷ (numbers 2 1 20 1024, NoVerdict)
+    ∷ (numbers 2 1 21 1023, notGranted 1023 1)
+    ∷ (numbers 2 1 21 1024, NoVerdict)
+    ∷ (numbers 2 1 22 1023, Judged (TooManyAliases (denial 0 1023 1)))
+    ∷ (numbers 2 1 22 1024, NoVerdict)
+    ∷ (numbers 2 1 0 1024, permitted)
+    ∷ (numbers 2 1 23 1024, LookupFailed)
     -- The kept name: no octets, one missing, one more, beyond the room. A name that may not be requested; two names.
     ∷ (withName 1 (ofLength 0 www), NoVerdict)
     ∷ (withName 1 (ofLength 16 www), NoVerdict)
