@@ -12,6 +12,12 @@ pub fn open(request: &[u8], issuer: &[u8], account: &[u8], method: &[u8]) -> Wor
     pack_step(session_open::open(request, issuer, account, method))
 }
 
+pub fn answer(session: Session, book: &[u8]) -> Worded
+    ensures { λ r. ⌜ r ≡ caaSessionAnswer session (now (book .entry)) ⌝ }
+{
+    pack_step(session_answer::answer(session, book))
+}
+
 pub fn fail(session: Session) -> Worded
     ensures { λ r. ⌜ r ≡ caaSessionFail session ⌝ }
 {

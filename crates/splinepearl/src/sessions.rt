@@ -20,6 +20,17 @@ pub extern "C" fn caa_session_open(
     t.word
 }
 
+// Takes a book as the answer for the name asked for. 40, a verdict (0, 20, 21 or 22), or a refusal with its place in a, which leaves the session as it was.
+#[no_mangle]
+pub extern "C" fn caa_session_answer(session: &mut Session, book: &[u8]) -> u64
+    ensures answer { λ r. ⌜ r ≡ caaSessionAnswer (now (session .entry)) (now (book .entry)) .word ⌝ }
+    ensures kept { λ r. ⌜ now (session .exit) ≡ caaSessionAnswer (now (session .entry)) (now (book .entry)) .session ⌝ }
+{
+    let t = session_words::answer(*session, book);
+    *session = t.session;
+    t.word
+}
+
 // The lookup of the name asked for failed. 23, or refusal 14, which leaves the session as it was.
 #[no_mangle]
 pub extern "C" fn caa_session_fail(session: &mut Session) -> u64
