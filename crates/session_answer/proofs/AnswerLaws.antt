@@ -2,6 +2,8 @@
 use Prim.Native.Nat.{ℕ, suc, _+_, _<_}
 use native.Mathlib.Numerals.{add-one}
 use native.Mathlib.Omega.{arith}
+use mir.Syntax.{w64}
+use mir.Val.{Fits}
 use mathlib.Core.Path.{_≡_, refl, ap, sym, _∙_}
 use mathlib.Core.Bool.{Bool, true, false, cond, _&&_, true≢false, and-eq-true-iff}
 use mathlib.Core.List.{List, [], _∷_}
@@ -60,12 +62,15 @@ module _ (s : Session) (k : isKept s ≡ true) where
       (name, issuer, who)
 
   -- no name has so many labels that the next number is too large
-  pub few-off : s .up < 255
+  few-off : s .up < 255
   unfolding keptName maxNameOctets
   few-off =
       let (n, f, up) = reached (keptName s) (s .up) .0 (tests .0) in
       let (whole, good) = name-alone (held (s .name)) n f in
       omega (arith, up, fewer-labels (base n), good-base n good .1)
+
+  pub up-fits : Fits w64 (s .up + 1)
+  up-fits = record { fits = omega (arith, few-off) }
 
   pub label-off :
       (u : ℕ) → u ≡ s .up + 1 →
@@ -133,6 +138,10 @@ verdict-no-refusal d a u = go (permits d a) a
     go false (granted n ns) r e = let z : _≡_ {A = ℕ} 0 1 = cc in absurd (omega arith)
     go false (unresolved n) r e = let z : _≡_ {A = ℕ} 0 1 = cc in absurd (omega arith)
 
+-- where the name asked for is
+pub stands-there : (s : Session) (q : KeptName) (p : Place) → q ≡ keptAt s → q ≡ At p → keptAt s ≡ At p
+stands-there s q p g e = sym g ∙ e
+
 -- a session that takes answers, and an accepted book
 module _ (s : Session) (b : List ℕ) (takes : isAsking s ≡ true) (passes : bookRefusal b ≡ none) where
   pub asks-keeps : isKept s ≡ true
@@ -141,7 +150,7 @@ module _ (s : Session) (b : List ℕ) (takes : isAsking s ≡ true) (passes : bo
   pub never-broken : (q : KeptName) → q ≡ keptAt s → q ≡ Broken → s ≡ byRecords s (keptName s) (asBook (records b))
   never-broken q g e = absurd (true≢false (sym asks-keeps ∙ broken s (sym g ∙ e)))
 
-  name : Name
+  abbrev name : Name
   name = live s takes .name
 
   abbrev theLookup : Lookup
@@ -184,8 +193,8 @@ module _ (s : Session) (b : List ℕ) (takes : isAsking s ≡ true) (passes : bo
             (l : Lookup) → theLookup ≡ l → Decides j ≡ lookedByRule (keptApplicant s) (held (s .issuer)) (s .up) (isWildcard name) l →
             t ≡ byRecords s (keptName s) (asBook (records b))
         go empty f i = let z : _≡_ {A = ℕ} 0 1 = cc in absurd (omega arith)
-        go (found rs) f i = closed (found rs) cc ∙ sym (records-by ∙ ap (byLookup s name) f)
-        go (endless q) f i = closed (endless q) cc ∙ sym (records-by ∙ ap (byLookup s name) f)
+        go (found rs) f i = closed (found rs) (cc) ∙ sym (records-by ∙ ap (byLookup s name) f)
+        go (endless q) f i = closed (endless q) (cc) ∙ sym (records-by ∙ ap (byLookup s name) f)
 
 -- answer
 module _ (s : Session) (b : List ℕ) (t : Bool) (f : t ≡ isAsking s) where
@@ -193,13 +202,16 @@ module _ (s : Session) (b : List ℕ) (t : Bool) (f : t ≡ isAsking s) where
   unfolding answered endedRefusal
   answers-not e = rw (← f, e) refl
 
+  pub takes-answer : t ≡ true → isAsking s ≡ true
+  takes-answer e = sym f ∙ e
+
   module _ (e : t ≡ true) (c : Check) (g : c ≡ checked (bookRefusal b)) where
     pub book-refused : (r : Refusal) → c ≡ CheckRefused r → _≡_ {A = Stepped} (record { answer = Judged (Refused r); session = s }) (answered s b)
     unfolding answered endedRefusal
     book-refused r h = rw (← f, e, refused (bookRefusal b) g r h) refl
 
-    pub can-take : c ≡ Accepted → (isAsking s ≡ true) × (bookRefusal b ≡ none)
-    can-take h = (sym f ∙ e, accepted (bookRefusal b) g h)
+    pub passes-check : c ≡ Accepted → bookRefusal b ≡ none
+    passes-check h = accepted (bookRefusal b) g h
 
     pub answers-so :
         c ≡ Accepted → (u : Session) → u ≡ byRecords s (keptName s) (asBook (records b)) → (r : Stepped) → r ≡ goesTo u → r ≡ answered s b

@@ -10,23 +10,26 @@ enum-told c = search needs
 close-session-requires : tie.Need-close-session-requires
 close-session-requires c κs = search needs
 
-enum-known-d : tie.Need-enum-known-d
-enum-known-d c = search needs
+enum-known-judgement : tie.Need-enum-known-judgement
+enum-known-judgement c = search needs
 
 close-session-requires-2 : tie.Need-close-session-requires-2
 close-session-requires-2 c κs = search needs
 
-enum-known-d-2 : tie.Need-enum-known-d-2
-enum-known-d-2 c = search needs
+enum-known-judgement-2 : tie.Need-enum-known-judgement-2
+enum-known-judgement-2 c = search needs
 
 close-session-requires-3 : tie.Need-close-session-requires-3
 close-session-requires-3 c κs = search needs
 
-enum-known-d-3 : tie.Need-enum-known-d-3
-enum-known-d-3 c = search needs
+enum-known-judgement-3 : tie.Need-enum-known-judgement-3
+enum-known-judgement-3 c = search needs
 
 close-session-requires-4 : tie.Need-close-session-requires-4
 close-session-requires-4 c κs = search needs
+
+enum-told-2 : tie.Need-enum-told-2
+enum-told-2 c = search needs
 
 returns : tie.Need-returns
 returns c = search (needs, ends-0)
@@ -49,12 +52,13 @@ close-by-spec =
     (tie.spec
     enum-told
     close-session-requires
-    enum-known-d
+    enum-known-judgement
     close-session-requires-2
-    enum-known-d-2
+    enum-known-judgement-2
     close-session-requires-3
-    enum-known-d-3
+    enum-known-judgement-3
     close-session-requires-4
+    enum-told-2
     returns
     returns-2
     returns-3
