@@ -1,1 +1,1 @@
-pub mod PackedSteps
+pub mod PackedCases

@@ -30,15 +30,16 @@ use denote.Triple.Entry.{onEntry}
 use denote.Triple.Spec.{tripleOf}
 use denote.Triple.Table.{entered, cited}
 use denote.Triple.Walked.{Stays, stay-ref, stay-none-slice, walkOf, goes-ref, goes-none-slice, ends-at, walked, walk-meets}
-use Rattle.spec_session.specs.declared.Session.{Session}
-use Rattle.spec_session_words.specs.declared.Worded.{Worded}
+use Rattle.session_words.specs.declared.LentSession.{LentSession}
+use Rattle.session_words.specs.declared.Called.{Called}
 use Rattle.spec_session_words.specs.SessionWords.{caaSessionAnswer}
-use Rattle.spec_session.proofs.Session as T
-use Rattle.spec_session_words.proofs.Worded as S
-use Rattle.session_words.proofs.answer as callee
-use Rattle.session_words.proofs.answer.Symbol as callee-def
-use Rattle.session_words.proofs.answer.Symbol.{name as #callee}
-use Rattle.session_words.proofs.answer.Met as callee-thm
+use Rattle.session_words.specs.Called.{called}
+use Rattle.session_words.proofs.LentSession as T
+use Rattle.session_words.proofs.Called as S
+use Rattle.session_words.proofs.LentSession.answer as callee
+use Rattle.session_words.proofs.LentSession.answer.Symbol as callee-def
+use Rattle.session_words.proofs.LentSession.answer.Symbol.{name as #callee}
+use Rattle.session_words.proofs.LentSession.answer.Met as callee-thm
 use Rattle.splinepearl.proofs.sessions.Lent.{mach, Own, Borrowed, session-typed, opens-lent, returned, all-twice, keeps, gone, says-both}
 use Rattle.splinepearl.proofs.sessions.caa_session_answer.Key.{name as #door}
 use Rattle.splinepearl.proofs.sessions.caa_session_answer as door
@@ -52,7 +53,7 @@ stayed = (stay-ref (0 ∷ []) tt (plain (λ _. T.the-row)), (stay-none-slice (1 
 abbrev Callee : {M : Type 1} (𝓤 : URA M) (H : Heap 𝓤) (A : Atoms 𝓤) (mem : Memory → SProp 𝓤) (run : Routine → Fun 𝓤) → Contract 𝓤
 Callee 𝓤 H A mem run = tripleOf 𝓤 H A callee.signature (callee.spec 𝓤 H A mem run)
 
-module _ {M : Type 1} (𝓤 : URA M) (H : Heap 𝓤) (A : Atoms 𝓤) (W : Given 𝓤 H A) (mem : Memory → SProp 𝓤) (run : Routine → Fun 𝓤) (κ κ₁ : Lft) (q q₁ : Share) (b o : ℕ) (γ : GName) (h : Session) (s : RefT (List ℕ)) where
+module _ {M : Type 1} (𝓤 : URA M) (H : Heap 𝓤) (A : Atoms 𝓤) (W : Given 𝓤 H A) (mem : Memory → SProp 𝓤) (run : Routine → Fun 𝓤) (κ κ₁ : Lft) (q q₁ : Share) (b o : ℕ) (γ : GName) (h : LentSession) (s : RefT (List ℕ)) where
   -- the book's machine value, and what the book owns
   abbrev v : Val
   v = sliceVal (s .ptr) (length (s .now))
@@ -60,15 +61,15 @@ module _ {M : Type 1} (𝓤 : URA M) (H : Heap 𝓤) (A : Atoms 𝓤) (W : Given
   abbrev Input : Fml
   Input = owns (ShrSlice (named 1) κ₁ u8 ∷ []) (s, tt) (v ∷ [], tt)
 
-  abbrev x : RefT Session × (RefT (List ℕ) × Unit {0})
+  abbrev x : RefT LentSession × (RefT (List ℕ) × Unit {0})
   x = (record { ptr = (b, o); name = γ; now = h }, (s, tt))
 
   abbrev at : List Val × (List Val × Unit {0})
   at = (vptr b o ∷ [], (v ∷ [], tt))
 
   -- what the call is to give, by the definition
-  abbrev result : Worded
-  result = caaSessionAnswer h (now s)
+  abbrev result : Called
+  result = called (caaSessionAnswer (h .kept) (now s))
 
   abbrev y : walkOf 𝓤 H A door.ended stayed (door.clauses 𝓤 H A mem run) .Ghost
   y = (((κ, (κ₁, tt)), (q, (q₁, tt)), tt, x, at), tt)
@@ -83,11 +84,11 @@ module _ {M : Type 1} (𝓤 : URA M) (H : Heap 𝓤) (A : Atoms 𝓤) (W : Given
   goes : ent 𝓤 (⋆ 𝓤 H A (‵ (Own h) ∷ ‵ Input ∷ (‵ (flft κ₁ q₁) ⊛ ‵ ftrue) ∷ [])) (Callee 𝓤 H A mem run .pre to)
   goes = qed W (‵ (Own h) ∷ ‵ Input ∷ (‵ (flft κ₁ q₁) ⊛ ‵ ftrue) ∷ []) ∵ fjoin ! $ move ! (1 ∷ 0 ∷ []) $ join ! $ frame ! $ done !
 
-  exits : (t : Worded) → t ≡ result → ent 𝓤 (⋆ 𝓤 H A (‵ (Borrowed κ b o γ (t .session)) ∷ ‵ (flft κ q) ∷ ‵ (u64 .own (t .word) (vint w64 (t .word) ∷ [])) ∷ (‵ (flft κ₁ q₁) ⊛ ‵ ftrue) ∷ ‵ Input ∷ [])) (Post (vint w64 (t .word)))
+  exits : (t : Called) → t ≡ result → ent 𝓤 (⋆ 𝓤 H A (‵ (Borrowed κ b o γ (t .session)) ∷ ‵ (flft κ q) ∷ ‵ (u64 .own (t .word) (vint w64 (t .word) ∷ [])) ∷ (‵ (flft κ₁ q₁) ⊛ ‵ ftrue) ∷ ‵ Input ∷ [])) (Post (vint w64 (t .word)))
   exits t e =
       qed W (‵ (Borrowed κ b o γ (t .session)) ∷ ‵ (flft κ q) ∷ ‵ (u64 .own (t .word) (vint w64 (t .word) ∷ [])) ∷ (‵ (flft κ₁ q₁) ⊛ ‵ ftrue) ∷ ‵ Input ∷ []) ∵
       suffices ! _ (ends-at 𝓤 H A door.ended stayed (door.clauses 𝓤 H A mem run) W y (vint w64 (t .word)) (t .word) (t .session, (tt, tt)) (tt, (tt, tt))) $
-      says-both ! (ap (λ (r : Worded). r .word) e) (ap (λ (r : Worded). r .session) e) $
+      says-both ! (ap (λ (r : Called). r .word) e) (ap (λ (r : Called). r .session .kept) e) $
       move ! (1 ∷ 3 ∷ []) $ join ! $ frame ! $ move ! (0 ∷ 2 ∷ []) $ fjoin ! $ frame ! $ done !
 
   module _ (C : Calls 𝓤 H) (Λ : Loops 𝓤 H) (fm : FmC 𝓤 H (W .laws) C) (known : Triple 𝓤 (C #callee) (Callee 𝓤 H A mem run)) where
@@ -123,4 +124,4 @@ caa-session-answer-spec 𝓤 H 𝓜 𝓖 𝓡 =
     (λ κs. (mut-tells (named 0) (κs .0) T.the-row, (shr-slice-tells (named 1) (κs .1 .0) u8, tt)))
     (λ κs qs bounds a _ are. via 𝓤 _ (fst∗ 𝓤 _ (emp 𝓤)) (walk 𝓤 H (𝓖 .A) W (𝓜 .mem) (𝓡 .run) (κs .0) (κs .1 .0) (qs .0) (qs .1 .0) (a .0 .ptr .0) (a .0 .ptr .1) (a .0 .name) (a .0 .now) (a .1 .0)
     (𝓣 .C) (𝓣 .Λ) (fmOf 𝓤 H (W .laws) 𝓣)
-    (cited 𝓤 H (Callee 𝓤 H (𝓖 .A) (𝓜 .mem) (𝓡 .run)) 𝓜 𝓡 code.env #callee callee-def.routine code.calls-session-words·answer (callee-thm.met 𝓤 H 𝓜 𝓖 𝓡)) (are .1 .0)))))
+    (cited 𝓤 H (Callee 𝓤 H (𝓖 .A) (𝓜 .mem) (𝓡 .run)) 𝓜 𝓡 code.env #callee callee-def.routine code.calls-session-words·LentSession·answer (callee-thm.met 𝓤 H 𝓜 𝓖 𝓡)) (are .1 .0)))))

@@ -30,13 +30,13 @@ use denote.Triple.Entry.{onEntry}
 use denote.Triple.Spec.{tripleOf}
 use denote.Triple.Table.{entered, cited}
 use denote.Triple.Walked.{says, Stays, stay-none-ref, walkOf, goes-none-ref, ends-at, walked, walk-meets}
-use Rattle.spec_session.specs.declared.Session.{Session}
+use Rattle.session_words.specs.declared.LentSession.{LentSession}
 use Rattle.spec_session_words.specs.SessionWords.{caaSessionState}
-use Rattle.spec_session.proofs.Session as T
-use Rattle.session_words.proofs.state as callee
-use Rattle.session_words.proofs.state.Symbol as callee-def
-use Rattle.session_words.proofs.state.Symbol.{name as #callee}
-use Rattle.session_words.proofs.state.Met as callee-thm
+use Rattle.session_words.proofs.LentSession as T
+use Rattle.session_words.proofs.LentSession.state as callee
+use Rattle.session_words.proofs.LentSession.state.Symbol as callee-def
+use Rattle.session_words.proofs.LentSession.state.Symbol.{name as #callee}
+use Rattle.session_words.proofs.LentSession.state.Met as callee-thm
 use Rattle.splinepearl.proofs.sessions.Lent.{mach, Own, session-typed, looks-lent, shuts-lent, returned, all-twice, gone}
 use Rattle.splinepearl.proofs.sessions.caa_session_state.Key.{name as #door}
 use Rattle.splinepearl.proofs.sessions.caa_session_state as door
@@ -50,8 +50,8 @@ stayed = (stay-none-ref (0 ∷ []) tt (plain (λ _. T.the-row)) yes, tt)
 abbrev Callee : {M : Type 1} (𝓤 : URA M) (H : Heap 𝓤) (A : Atoms 𝓤) (mem : Memory → SProp 𝓤) (run : Routine → Fun 𝓤) → Contract 𝓤
 Callee 𝓤 H A mem run = tripleOf 𝓤 H A callee.signature (callee.spec 𝓤 H A mem run)
 
-module _ {M : Type 1} (𝓤 : URA M) (H : Heap 𝓤) (A : Atoms 𝓤) (W : Given 𝓤 H A) (mem : Memory → SProp 𝓤) (run : Routine → Fun 𝓤) (κ : Lft) (q : Share) (b o : ℕ) (γ : GName) (h : Session) where
-  abbrev x : RefT Session × Unit {0}
+module _ {M : Type 1} (𝓤 : URA M) (H : Heap 𝓤) (A : Atoms 𝓤) (W : Given 𝓤 H A) (mem : Memory → SProp 𝓤) (run : Routine → Fun 𝓤) (κ : Lft) (q : Share) (b o : ℕ) (γ : GName) (h : LentSession) where
+  abbrev x : RefT LentSession × Unit {0}
   x = (record { ptr = (b, o); name = γ; now = h }, tt)
 
   abbrev at : List Val × Unit {0}
@@ -63,7 +63,7 @@ module _ {M : Type 1} (𝓤 : URA M) (H : Heap 𝓤) (A : Atoms 𝓤) (W : Given
 
   -- what the call is to give, by the definition
   abbrev result : ℕ
-  result = caaSessionState h
+  result = caaSessionState (h .kept)
 
   abbrev y : walkOf 𝓤 H A door.ended stayed (door.clauses 𝓤 H A mem run) .Ghost
   y = (((κ, tt), (q, tt), tt, x, at), tt)
@@ -115,4 +115,4 @@ caa-session-state-spec 𝓤 H 𝓜 𝓖 𝓡 =
     (λ κs. (shr-tells (named 0) (κs .0) T.the-row, tt))
     (λ κs qs bounds a _ are. via 𝓤 _ (fst∗ 𝓤 _ (emp 𝓤)) (walk 𝓤 H (𝓖 .A) W (𝓜 .mem) (𝓡 .run) (κs .0) (qs .0) (a .0 .ptr .0) (a .0 .ptr .1) (a .0 .name) (a .0 .now)
     (𝓣 .C) (𝓣 .Λ) (fmOf 𝓤 H (W .laws) 𝓣)
-    (cited 𝓤 H (Callee 𝓤 H (𝓖 .A) (𝓜 .mem) (𝓡 .run)) 𝓜 𝓡 code.env #callee callee-def.routine code.calls-session-words·state (callee-thm.met 𝓤 H 𝓜 𝓖 𝓡))))))
+    (cited 𝓤 H (Callee 𝓤 H (𝓖 .A) (𝓜 .mem) (𝓡 .run)) 𝓜 𝓡 code.env #callee callee-def.routine code.calls-session-words·LentSession·state (callee-thm.met 𝓤 H 𝓜 𝓖 𝓡))))))

@@ -1,8 +1,8 @@
 -- `pack_step` meets its contract.
 use borrow.Author.Needs.{needs}
-use Rattle.session_pack.proofs.PackedSteps.{step-packed}
-use Rattle.session_pack.proofs.pack_step.Statement.{statement}
-use Rattle.session_pack.proofs.pack_step.Tie as tie
+use Rattle.session_words.proofs.PackedSteps.{step-packed}
+use Rattle.session_words.proofs.pack_step.Statement.{statement}
+use Rattle.session_words.proofs.pack_step.Tie as tie
 
 pack-session-requires : tie.Need-pack-session-requires
 pack-session-requires c κs = search needs

@@ -1,15 +1,13 @@
--- Each case of the answer of a session, packed; and a step.
+-- Each case of the answer of a session, packed.
 use Prim.Native.Nat.{ℕ}
-use mathlib.Core.Path.{_≡_, refl}
+use mathlib.Core.Path.{_≡_}
 use Rattle.spec_packed.specs.Packed.{packed}
 use Rattle.spec_rule.specs.declared.Judgement.{Judgement}
 use Rattle.spec_answers.specs.Answers.{packedJudgement}
 use Rattle.spec_session.specs.declared.SessionAnswer.{SessionAnswer}
 use Rattle.spec_session.specs.declared.SessionAnswer.the-variants.{Asks, Judged, LookupFailed, NoVerdict}
-use Rattle.spec_session.specs.declared.Stepped.{Stepped}
 use Rattle.spec_session.specs.Steps.{sessionCode}
-use Rattle.spec_session_words.specs.declared.Worded.{Worded}
-use Rattle.spec_session_words.specs.SessionWords.{packedSession, worded}
+use Rattle.spec_session_words.specs.SessionWords.{packedSession}
 
 module _ (a : SessionAnswer) (r : ℕ) where
   pub asks-packed : (o l : ℕ) → r ≡ packed 40 l o 0 → a ≡ Asks o l → r ≡ packedSession a
@@ -27,6 +25,3 @@ module _ (a : SessionAnswer) (r : ℕ) where
   pub no-verdict-packed : r ≡ packed 41 0 0 0 → a ≡ NoVerdict → r ≡ packedSession a
   unfolding packedSession sessionCode
   no-verdict-packed p e = rw e p
-
-pub step-packed : (t : Stepped) (n : ℕ) → n ≡ packedSession (t .answer) → _≡_ {A = Worded} (record { session = t .session; word = n }) (worded t)
-step-packed t n e = rw e refl
