@@ -5,9 +5,9 @@ use native.Mathlib.Omega.{arith}
 use mir.Syntax.{w64}
 use mir.Val.{Fits}
 use mathlib.Core.Path.{_≡_, refl, ap, sym, _∙_}
-use mathlib.Core.Bool.{Bool, true, false, cond, _&&_, true≢false, and-eq-true-iff}
+use mathlib.Core.Bool.{Bool, true, false, cond, _&&_, true≢false}
 use mathlib.Core.List.{List, [], _∷_}
-use mathlib.Core.Option.{Option, none, some}
+use mathlib.Core.Option.{none, some}
 use lib.Dec.{ltb}
 use lib.ListN.{length, drop}
 use Rattle.spec_limits.specs.Limits.{maxNameOctets}
@@ -17,13 +17,13 @@ use Rattle.spec_refusal.specs.declared.Check.{Check}
 use Rattle.spec_refusal.specs.declared.Check.the-variants.{Accepted, Refused as CheckRefused}
 use Rattle.spec_refusal.specs.Checks.{checked}
 use Rattle.spec_refusal.proofs.Checked.{refused, accepted}
-use Rattle.spec_name.specs.Names.{Name, wire, GoodName}
+use Rattle.spec_name.specs.Names.{Name, wire}
 use Rattle.spec_name.proofs.NameLaws.{fewer-labels}
 use Rattle.spec_request.specs.Request.{isWildcard, base}
 use Rattle.spec_request.proofs.RequestedNames.{good-base}
 use Rattle.spec_issuer.specs.Issuer.{isIssuer}
 use Rattle.spec_record.specs.Records.{records, bookRefusal}
-use Rattle.spec_applicant.specs.Applicant.{Applicant, isApplicant}
+use Rattle.spec_applicant.specs.Applicant.{isApplicant}
 use Rattle.spec_rule.specs.declared.Denial.{Denial}
 use Rattle.spec_rule.specs.declared.Judgement.{Judgement}
 use Rattle.spec_rule.specs.declared.Judgement.the-variants.{Permitted, UnknownCritical, NotGranted, TooManyAliases, Refused}
@@ -36,8 +36,8 @@ use Rattle.spec_session.specs.declared.SessionAnswer.the-variants.{Judged}
 use Rattle.spec_session.specs.declared.Stepped.{Stepped}
 use Rattle.spec_session.specs.Sessions.{held, keptName, keptApplicant, reaches, isKept, isAsking}
 use Rattle.spec_session.specs.Steps.{endedRefusal, goesTo, oneUp, closedWith, closedBy, byLookup, byRecords, answered}
-use Rattle.spec_session.proofs.Kept.{reached}
-use Rattle.spec_session.proofs.StepLaws.{Live, live}
+use Rattle.spec_session.proofs.Kept.{reached, kept-tests}
+use Rattle.spec_session.proofs.StepLaws.{live}
 use Rattle.session_kept.specs.declared.Place.{Place}
 use Rattle.session_kept.specs.declared.KeptName.{KeptName}
 use Rattle.session_kept.specs.declared.KeptName.the-variants.{At, Broken}
@@ -54,18 +54,11 @@ use Rattle.session_answer.proofs.AskedPart.{asked-good}
 
 -- a session that keeps the rules
 module _ (s : Session) (k : isKept s ≡ true) where
-  tests : (reaches (keptName s) (s .up) ≡ true) × (isIssuer (held (s .issuer)) ≡ true) × (isApplicant (keptApplicant s) ≡ true)
-  unfolding isKept
-  tests =
-      let (both, who) = and-eq-true-iff (reaches (keptName s) (s .up) && isIssuer (held (s .issuer))) (isApplicant (keptApplicant s)) .0 k in
-      let (name, issuer) = and-eq-true-iff (reaches (keptName s) (s .up)) (isIssuer (held (s .issuer))) .0 both in
-      (name, issuer, who)
-
   -- no name has so many labels that the next number is too large
   few-off : s .up < 255
   unfolding keptName maxNameOctets
   few-off =
-      let (n, f, up) = reached (keptName s) (s .up) .0 (tests .0) in
+      let (n, f, up) = reached (keptName s) (s .up) .0 (kept-tests s .0 k .0) in
       let (whole, good) = name-alone (held (s .name)) n f in
       omega (arith, up, fewer-labels (base n), good-base n good .1)
 
@@ -89,8 +82,8 @@ module _ (s : Session) (k : isKept s ≡ true) where
     unfolding isKept keptName keptApplicant
     next-kept =
         ap (λ o. (reaches o (suc (s .up)) && isIssuer (held (s .issuer))) && isApplicant (keptApplicant s)) f
-        ∙ ap (λ i. (ltb (suc (s .up)) (length (base n)) && i) && isApplicant (keptApplicant s)) (tests .1)
-        ∙ ap (λ w. (ltb (suc (s .up)) (length (base n)) && true) && w) (tests .2)
+        ∙ ap (λ i. (ltb (suc (s .up)) (length (base n)) && i) && isApplicant (keptApplicant s)) (kept-tests s .0 k .1)
+        ∙ ap (λ w. (ltb (suc (s .up)) (length (base n)) && true) && w) (kept-tests s .0 k .2)
         ∙ both-true (ltb (suc (s .up)) (length (base n)))
 
   module _ (t : Session) (e : t ≡ oneUp s) (q : KeptName) (g : q ≡ keptAt t) where

@@ -10,7 +10,6 @@ use lib.Seq.{drop-at, length-take-le, take-nil}
 use Rattle.spec_name.specs.Names.{Name, wire, GoodName}
 use Rattle.spec_request.specs.Request.{isWildcard, base}
 use Rattle.spec_request.proofs.RequestedNames.{good-base}
-use Rattle.spec_applicant.specs.Applicant.{Applicant}
 use Rattle.book_places.proofs.ClimbLaws.{good-parent}
 use Rattle.spec_session.specs.declared.Text.{Text}
 use Rattle.spec_session.specs.declared.Session.{Session}

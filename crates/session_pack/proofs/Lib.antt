@@ -1,1 +1,1 @@
-pub mod PackedSessions
+pub mod PackedCases

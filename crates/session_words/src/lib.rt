@@ -2,40 +2,55 @@
 use session_pack::pack_session;
 use spec_session::Session;
 use spec_session::Stepped;
-use spec_session_words::Worded;
 ghost use mathlib.Core.Path.{_≡_};
 ghost use Rattle.spec_session_words.specs.SessionWords.{worded, caaSessionOpen, caaSessionAnswer, caaSessionFail, caaSessionState};
+ghost use Rattle.session_words.specs.Called.{called};
+
+// The session that a caller keeps in memory and lends for each call. It is the session of the definitions, and nothing more: the crate of a type alone can give it methods.
+#[repr(C)]
+pub struct LentSession {
+    pub kept: Session,
+}
+
+// The session after a call, and the word that the call returns.
+pub struct Called {
+    pub session: LentSession,
+    pub word: u64,
+}
 
 // The session after a step, with the word for its answer.
-fn pack_step(t: Stepped) -> Worded
-    ensures { λ r. ⌜ r ≡ worded t ⌝ }
+fn pack_step(t: Stepped) -> Called
+    ensures { λ r. ⌜ r ≡ called (worded t) ⌝ }
 {
     let answer = t.answer;
-    let session = t.session;
+    let kept = t.session;
     let word = pack_session(answer);
-    Worded { session, word }
+    let session = LentSession { kept };
+    Called { session, word }
 }
 
-pub fn open(request: &[u8], issuer: &[u8], account: &[u8], method: &[u8]) -> Worded
-    ensures { λ r. ⌜ r ≡ caaSessionOpen (now (request .entry)) (now (issuer .entry)) (record { account = now (account .entry); method = now (method .entry) }) ⌝ }
-{
-    pack_step(session_open::open(request, issuer, account, method))
-}
+impl LentSession {
+    pub fn open(request: &[u8], issuer: &[u8], account: &[u8], method: &[u8]) -> Called
+        ensures { λ r. ⌜ r ≡ called (caaSessionOpen (now (request .entry)) (now (issuer .entry)) (record { account = now (account .entry); method = now (method .entry) })) ⌝ }
+    {
+        pack_step(session_open::open(request, issuer, account, method))
+    }
 
-pub fn answer(session: Session, book: &[u8]) -> Worded
-    ensures { λ r. ⌜ r ≡ caaSessionAnswer session (now (book .entry)) ⌝ }
-{
-    pack_step(session_answer::answer(session, book))
-}
+    pub fn answer(self, book: &[u8]) -> Called
+        ensures { λ r. ⌜ r ≡ called (caaSessionAnswer (self .kept) (now (book .entry))) ⌝ }
+    {
+        pack_step(session_answer::answer(self.kept, book))
+    }
 
-pub fn fail(session: Session) -> Worded
-    ensures { λ r. ⌜ r ≡ caaSessionFail session ⌝ }
-{
-    pack_step(session_step::fail(session))
-}
+    pub fn fail(self) -> Called
+        ensures { λ r. ⌜ r ≡ called (caaSessionFail (self .kept)) ⌝ }
+    {
+        pack_step(session_step::fail(self.kept))
+    }
 
-pub fn state(session: Session) -> u64
-    ensures { λ r. ⌜ r ≡ caaSessionState session ⌝ }
-{
-    pack_session(session_state::state(session))
+    pub fn state(self) -> u64
+        ensures { λ r. ⌜ r ≡ caaSessionState (self .kept) ⌝ }
+    {
+        pack_session(session_state::state(self.kept))
+    }
 }

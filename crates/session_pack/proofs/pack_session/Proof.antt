@@ -1,6 +1,6 @@
 -- `pack_session` meets its contract, case by case of the answer.
 use borrow.Author.Needs.{needs}
-use Rattle.session_pack.proofs.PackedSessions.{asks-packed, judged-packed, failed-packed, no-verdict-packed}
+use Rattle.session_pack.proofs.PackedCases.{asks-packed, judged-packed, failed-packed, no-verdict-packed}
 use Rattle.session_pack.proofs.pack_session.Statement.{statement}
 use Rattle.session_pack.proofs.pack_session.Tie as tie
 

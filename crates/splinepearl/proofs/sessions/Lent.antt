@@ -40,23 +40,23 @@ use denote.Struct.Laws as LL
 use denote.Triple.Clauses.{Ended, Clauses, Lasts, atExit, lasts, ensured}
 use denote.Triple.Entry.{Args, Res}
 use denote.Triple.Walked.{says}
-use Rattle.spec_session.specs.declared.Session.{Session}
-use Rattle.spec_session_words.specs.declared.Worded.{Worded}
-use Rattle.spec_session.proofs.Session as T
-use Rattle.spec_session.proofs.Session.Laws as T′
-use Rattle.spec_session_words.proofs.Worded as S
-use Rattle.spec_session_words.proofs.Worded.Laws as S′
+use Rattle.session_words.specs.declared.LentSession.{LentSession}
+use Rattle.session_words.specs.declared.Called.{Called}
+use Rattle.session_words.proofs.LentSession as T
+use Rattle.session_words.proofs.LentSession.Laws as T′
+use Rattle.session_words.proofs.Called as S
+use Rattle.session_words.proofs.Called.Laws as S′
 
-abbrev pub mach : Session → Val
+abbrev pub mach : LentSession → Val
 mach s = LL.val T.the-type T′.the-laws s
 
-abbrev pub Own : Session → Fml
+abbrev pub Own : LentSession → Fml
 Own s = T.the-row .own s (mach s ∷ [])
 
-abbrev pub Cell : Share → Session → ℕ → ℕ → Fml
+abbrev pub Cell : Share → LentSession → ℕ → ℕ → Fml
 Cell q s b o = cellAt q (T.the-row .mir) (mach s ∷ []) b o
 
-abbrev pub Borrowed : Lft → ℕ → ℕ → GName → Session → Fml
+abbrev pub Borrowed : Lft → ℕ → ℕ → GName → LentSession → Fml
 Borrowed κ b o γ s = MutRef (named 0) κ T.the-row .own (record { ptr = (b, o); name = γ; now = s }) (vptr b o ∷ [])
 
 -- what the open borrow closes on
@@ -71,25 +71,25 @@ abbrev tail : ℕ → Body
 tail k = seq (assign (place 1 (deref T′.mir ∷ [])) (rvOpd (copy (place k (field 0 ∷ []))))) (seq (assign (place 0 []) (rvOpd (copy (place k (field 1 ∷ []))))) return)
 
 -- what is known of a step's result: of its session, and of its word
-session-is : (t : Worded) (u : Val) → Is S.the-row t (u ∷ []) → Is T.the-row (t .session) (mach (t .session) ∷ [])
+session-is : (t : Called) (u : Val) → Is S.the-row t (u ∷ []) → Is T.the-row (t .session) (mach (t .session) ∷ [])
 session-is t u is = LL.owed S.the-type S′.the-laws t _ is .0
 
-word-fits : (t : Worded) (u : Val) → Is S.the-row t (u ∷ []) → t .word < 2 ^ 64
+word-fits : (t : Called) (u : Val) → Is S.the-row t (u ∷ []) → t .word < 2 ^ 64
 word-fits t u is = LL.owed S.the-type S′.the-laws t _ is .1 .0 .1
 
-pub session-typed : {M : Type 1} (𝓤 : URA M) (H : Heap 𝓤) (A : Atoms 𝓤) → Given 𝓤 H A → (s : Session) → Is T.the-row s (mach s ∷ []) → Holds (hasTy T′.mir (mach s)) × WT (mach s)
+pub session-typed : {M : Type 1} (𝓤 : URA M) (H : Heap 𝓤) (A : Atoms 𝓤) → Given 𝓤 H A → (s : LentSession) → Is T.the-row s (mach s ∷ []) → Holds (hasTy T′.mir (mach s)) × WT (mach s)
 session-typed 𝓤 H A W s g = LL.lawful T.the-type T′.the-laws 𝓤 H A W .typed s _ g .0
 
 module _ {M : Type 1} {𝓤 : URA M} {H : Heap 𝓤} {A : Atoms 𝓤} {K : Type 0} {W : Given 𝓤 H A} {Γ : List (Item 𝓤)} where
   module _ {G : Goal 𝓤 H} where
-    pub opens-lent : K → Soaks G → {κ : Lft} {q : Share} (h : Session) {γ : GName} (b o : ℕ)
+    pub opens-lent : K → Soaks G → {κ : Lft} {q : Share} (h : LentSession) {γ : GName} (b o : ℕ)
         → (Is T.the-row h (mach h ∷ []) → Seq K W (‵ (Own h) ∷ ‵ (Cell fullShare h b o) ∷ ‵ (fobor κ q (Within b o γ)) ∷ ‵ (fobs γ (T.the-row .coded .code h)) ∷ ‵ (fauth γ (T.the-row .coded .code h)) ∷ Γ) G)
         → Seq K W (‵ (Borrowed κ b o γ h) ∷ ‵ (flft κ q) ∷ Γ) G
     opens-lent t z h b o k =
         fsplit3 t $ drop t $ opens t z T.the-row {h = h} b o (λ vs. spelt t T.the-row (Is T.the-row) (shows 𝓤 H A T.the-row) (LL.vals T.the-type T′.the-laws) (LL.tells T.the-type T′.the-laws) fullShare h vs b o $
         move t (1 ∷ []) $ peeks t T.the-row (Is T.the-row) (shows 𝓤 H A T.the-row) h (mach h ∷ []) k)
 
-    pub looks-lent : K → Soaks G → {κ : Lft} {q : Share} (h : Session) {γ : GName} (b o : ℕ)
+    pub looks-lent : K → Soaks G → {κ : Lft} {q : Share} (h : LentSession) {γ : GName} (b o : ℕ)
         → ((q′ : Share) → Is T.the-row h (mach h ∷ []) → Seq K W (‵ (Own h) ∷ ‵ (Cell q′ h b o) ∷ ‵ (fobor κ q (partAt T.the-row q′ h b o)) ∷ Γ) G)
         → Seq K W (‵ (ShrRef (named 0) κ T.the-row .own (record { ptr = (b, o); name = γ; now = h }) (vptr b o ∷ [])) ∷ ‵ (flft κ q) ∷ Γ) G
     looks-lent t z h b o k =
@@ -97,7 +97,7 @@ module _ {M : Type 1} {𝓤 : URA M} {H : Heap 𝓤} {A : Atoms 𝓤} {K : Type 
         spelt t T.the-row (Is T.the-row) (shows 𝓤 H A T.the-row) (LL.vals T.the-type T′.the-laws) (LL.tells T.the-type T′.the-laws) q′ h vs b o $ move t (3 ∷ []) $ drop t $
         move t (1 ∷ []) $ peeks t T.the-row (Is T.the-row) (shows 𝓤 H A T.the-row) h (mach h ∷ []) (k q′))
 
-    pub shuts-lent : K → Soaks G → {κ : Lft} {q : Share} (q′ : Share) (h : Session) (b o : ℕ) → Is T.the-row h (mach h ∷ [])
+    pub shuts-lent : K → Soaks G → {κ : Lft} {q : Share} (q′ : Share) (h : LentSession) (b o : ℕ) → Is T.the-row h (mach h ∷ [])
         → Step K W (‵ (flft κ q) ∷ Γ) G (‵ (Cell q′ h b o) ∷ ‵ (fobor κ q (partAt T.the-row q′ h b o)) ∷ Γ) G
     shuts-lent t z q′ h b o g = step (λ s. owned t T.the-row (Is T.the-row) (LL.makes T.the-type T′.the-plain 𝓤 H A) h _ g $ move t (1 ∷ 0 ∷ []) $ shuts t z T.the-row q′ h (mach h ∷ []) b o $ s)
 
@@ -124,7 +124,7 @@ module _ {M : Type 1} {𝓤 : URA M} {H : Heap 𝓤} {A : Atoms 𝓤} {K : Type 
 
 -- local 0 is the word, local 1 the reference, F the locals after them, of which local k, at block l, takes the step's result
 module _ {M : Type 1} {𝓤 : URA M} {H : Heap 𝓤} {A : Atoms 𝓤} {K : Type 0} {W : Given 𝓤 H A} {Γ : List (Item 𝓤)} {C : Calls 𝓤 H} {Λ : Loops 𝓤 H} {Kf : Val → SProp 𝓤} where
-  pub keeps : K → (l₀ l₁ : ℕ) (F : Env 𝓤 H) (k l b o : ℕ) → spotOf 𝓤 H ((tyInt w64, l₀) ∷ (reference, l₁) ∷ F) k ≡ (S′.mir, l, 0) → {κ : Lft} {q : Share} {γ : GName} (h : Session) (t : Worded) (u : Val)
+  pub keeps : K → (l₀ l₁ : ℕ) (F : Env 𝓤 H) (k l b o : ℕ) → spotOf 𝓤 H ((tyInt w64, l₀) ∷ (reference, l₁) ∷ F) k ≡ (S′.mir, l, 0) → {κ : Lft} {q : Share} {γ : GName} (h : LentSession) (t : Called) (u : Val)
       → Step K W (‵ (Borrowed κ b o γ (t .session)) ∷ ‵ (flft κ q) ∷ ‵ (u64 .own (t .word) (vint w64 (t .word) ∷ [])) ∷ ‵ (froom S′.mir l 0) ∷ Γ) (frees F (prop (Kf (vint w64 (t .word)))))
       (‵ (S.the-row .own t (u ∷ [])) ∷ ‵ (Cell fullShare h b o) ∷ ‵ (fobor κ q (Within b o γ)) ∷ ‵ (fobs γ (T.the-row .coded .code h)) ∷ ‵ (fauth γ (T.the-row .coded .code h))
       ∷ ‵ (froom S′.mir l 0) ∷ ‵ (fat fullShare reference l₁ 0 (vptr b o)) ∷ ‵ (fdies reference l₁) ∷ ‵ (froom (tyInt w64) l₀ 0) ∷ ‵ (fdies (tyInt w64) l₀) ∷ Γ)

@@ -30,28 +30,28 @@ use denote.Triple.Entry.{onEntry}
 use denote.Triple.Spec.{tripleOf}
 use denote.Triple.Table.{entered, cited}
 use denote.Triple.Walked.{says, Stays, stay-none-ref, walkOf, goes-none-ref, ends-at, walked, walk-meets}
-use Rattle.spec_session.specs.declared.Session.{Session}
+use Rattle.session_words.specs.declared.LentSession.{LentSession}
 use Rattle.spec_session_words.specs.SessionWords.{caaSessionState}
-use Rattle.spec_session.proofs.Session as T
-use Rattle.session_words.proofs.state as callee
-use Rattle.session_words.proofs.state.Symbol as callee-def
-use Rattle.session_words.proofs.state.Symbol.{name as #callee}
-use Rattle.session_words.proofs.state.Met as callee-thm
+use Rattle.session_words.proofs.LentSession as T
+use Rattle.session_words.proofs.LentSession.state as callee
+use Rattle.session_words.proofs.LentSession.state.Symbol as callee-def
+use Rattle.session_words.proofs.LentSession.state.Symbol.{name as #callee}
+use Rattle.session_words.proofs.LentSession.state.Met as callee-thm
 use Rattle.splinepearl.proofs.sessions.Lent.{mach, Own, session-typed, looks-lent, shuts-lent, returned, all-twice, gone}
-use Rattle.splinepearl.proofs.sessions.caa_session_state.Key.{name as #exported}
-use Rattle.splinepearl.proofs.sessions.caa_session_state as exported
+use Rattle.splinepearl.proofs.sessions.caa_session_state.Key.{name as #door}
+use Rattle.splinepearl.proofs.sessions.caa_session_state as door
 use Rattle.splinepearl.proofs.sessions.caa_session_state.Statement as stated
 use Rattle.splinepearl.proofs.sessions.caa_session_state.Code as code
 
-abbrev stayed : Stays (exported.ended .signature .params) (exported.ended .kept)
+abbrev stayed : Stays (door.ended .signature .params) (door.ended .kept)
 stayed = (stay-none-ref (0 ∷ []) tt (plain (λ _. T.the-row)) yes, tt)
 
 -- the contract of the step by value
 abbrev Callee : {M : Type 1} (𝓤 : URA M) (H : Heap 𝓤) (A : Atoms 𝓤) (mem : Memory → SProp 𝓤) (run : Routine → Fun 𝓤) → Contract 𝓤
 Callee 𝓤 H A mem run = tripleOf 𝓤 H A callee.signature (callee.spec 𝓤 H A mem run)
 
-module _ {M : Type 1} (𝓤 : URA M) (H : Heap 𝓤) (A : Atoms 𝓤) (W : Given 𝓤 H A) (mem : Memory → SProp 𝓤) (run : Routine → Fun 𝓤) (κ : Lft) (q : Share) (b o : ℕ) (γ : GName) (h : Session) where
-  abbrev x : RefT Session × Unit {0}
+module _ {M : Type 1} (𝓤 : URA M) (H : Heap 𝓤) (A : Atoms 𝓤) (W : Given 𝓤 H A) (mem : Memory → SProp 𝓤) (run : Routine → Fun 𝓤) (κ : Lft) (q : Share) (b o : ℕ) (γ : GName) (h : LentSession) where
+  abbrev x : RefT LentSession × Unit {0}
   x = (record { ptr = (b, o); name = γ; now = h }, tt)
 
   abbrev at : List Val × Unit {0}
@@ -63,13 +63,13 @@ module _ {M : Type 1} (𝓤 : URA M) (H : Heap 𝓤) (A : Atoms 𝓤) (W : Given
 
   -- what the call is to give, by the definition
   abbrev result : ℕ
-  result = caaSessionState h
+  result = caaSessionState (h .kept)
 
-  abbrev y : walkOf 𝓤 H A exported.ended stayed (exported.clauses 𝓤 H A mem run) .Ghost
+  abbrev y : walkOf 𝓤 H A door.ended stayed (door.clauses 𝓤 H A mem run) .Ghost
   y = (((κ, tt), (q, tt), tt, x, at), tt)
 
   abbrev Post : Val → SProp 𝓤
-  Post = walkOf 𝓤 H A exported.ended stayed (exported.clauses 𝓤 H A mem run) .post y
+  Post = walkOf 𝓤 H A door.ended stayed (door.clauses 𝓤 H A mem run) .post y
 
   -- the call: what it is passed, and what it asks
   abbrev to : Callee 𝓤 H A mem run .Ghost
@@ -81,11 +81,11 @@ module _ {M : Type 1} (𝓤 : URA M) (H : Heap 𝓤) (A : Atoms 𝓤) (W : Given
   exits : (n : ℕ) (u : Val) → n ≡ result → ent 𝓤 (⋆ 𝓤 H A (‵ (u64 .own n (u ∷ [])) ∷ ‵ (flft κ q) ∷ ‵ Seen ∷ [])) (Post u)
   exits n u e =
       qed W (‵ (u64 .own n (u ∷ [])) ∷ ‵ (flft κ q) ∷ ‵ Seen ∷ []) ∵
-      suffices ! _ (ends-at 𝓤 H A exported.ended stayed (exported.clauses 𝓤 H A mem run) W y u n (tt, tt) (tt, tt)) $ says ! e $
+      suffices ! _ (ends-at 𝓤 H A door.ended stayed (door.clauses 𝓤 H A mem run) W y u n (tt, tt) (tt, tt)) $ says ! e $
       nothing ! $ move ! (2 ∷ 0 ∷ []) $ join ! $ frame ! $ move ! (1 ∷ []) $ frame ! $ done !
 
   module _ (C : Calls 𝓤 H) (Λ : Loops 𝓤 H) (fm : FmC 𝓤 H (W .laws) C) (known : Triple 𝓤 (C #callee) (Callee 𝓤 H A mem run)) where
-    walk : ent 𝓤 (onEntry 𝓤 H A exported.signature (κ, tt) (q, tt) x at) (WpFn 𝓤 H C Λ code.function (vptr b o ∷ []) Post)
+    walk : ent 𝓤 (onEntry 𝓤 H A door.signature (κ, tt) (q, tt) x at) (WpFn 𝓤 H C Λ code.function (vptr b o ∷ []) Post)
     walk =
         qed W ((‵ (flft κ q) ⊛ ‵ ftrue) ∷ ‵ Seen ∷ []) ∵ enter ! C Λ code.function (vptr b o ∷ []) _ $
         alloc1 ! (λ l₀. alloc1 ! (λ l₁. alloc1 ! (λ l₂. alloc0 ! $ params1 ! $ pass1 ! (init ! 2 refl (tt, tt)) $ pass0 ! $
@@ -106,13 +106,13 @@ unfolding code.routine tablesOf
 caa-session-state-spec 𝓤 H 𝓜 𝓖 𝓡 =
     let W : Given 𝓤 H (𝓖 .A) = givenOf 𝓤 H 𝓜 𝓖 in
     let 𝓣 : Tables 𝓤 H = tablesOf 𝓤 H 𝓜 (tables 𝓤 H 𝓜 𝓡 code.env) in
-    entered 𝓤 H (tripleOf 𝓤 H (𝓖 .A) exported.signature (exported.spec 𝓤 H (𝓖 .A) (𝓜 .mem) (𝓡 .run)))
-    (tables 𝓤 H 𝓜 𝓡 code.env .C) (tables 𝓤 H 𝓜 𝓡 code.env .Λ) #exported code.function (code.unfolded 𝓤 H 𝓜 𝓡)
-    (walk-meets 𝓤 H (𝓖 .A) exported.ended stayed W
+    entered 𝓤 H (tripleOf 𝓤 H (𝓖 .A) door.signature (door.spec 𝓤 H (𝓖 .A) (𝓜 .mem) (𝓡 .run)))
+    (tables 𝓤 H 𝓜 𝓡 code.env .C) (tables 𝓤 H 𝓜 𝓡 code.env .Λ) #door code.function (code.unfolded 𝓤 H 𝓜 𝓡)
+    (walk-meets 𝓤 H (𝓖 .A) door.ended stayed W
     (goes-none-ref 𝓤 H (𝓖 .A) W 1 (0 ∷ []) tt (plain (λ _. T.the-row)) yes, tt)
-    (exported.clauses 𝓤 H (𝓖 .A) (𝓜 .mem) (𝓡 .run)) (WpFn 𝓤 H (𝓣 .C) (𝓣 .Λ) code.function) (WpFn-mono 𝓤 H (W .laws) 𝓣 code.function)
-    (walked 𝓤 H (𝓖 .A) exported.ended stayed (exported.clauses 𝓤 H (𝓖 .A) (𝓜 .mem) (𝓡 .run)) (WpFn 𝓤 H (𝓣 .C) (𝓣 .Λ) code.function) (λ κs. (ptr-vals, tt))
+    (door.clauses 𝓤 H (𝓖 .A) (𝓜 .mem) (𝓡 .run)) (WpFn 𝓤 H (𝓣 .C) (𝓣 .Λ) code.function) (WpFn-mono 𝓤 H (W .laws) 𝓣 code.function)
+    (walked 𝓤 H (𝓖 .A) door.ended stayed (door.clauses 𝓤 H (𝓖 .A) (𝓜 .mem) (𝓡 .run)) (WpFn 𝓤 H (𝓣 .C) (𝓣 .Λ) code.function) (λ κs. (ptr-vals, tt))
     (λ κs. (shr-tells (named 0) (κs .0) T.the-row, tt))
     (λ κs qs bounds a _ are. via 𝓤 _ (fst∗ 𝓤 _ (emp 𝓤)) (walk 𝓤 H (𝓖 .A) W (𝓜 .mem) (𝓡 .run) (κs .0) (qs .0) (a .0 .ptr .0) (a .0 .ptr .1) (a .0 .name) (a .0 .now)
     (𝓣 .C) (𝓣 .Λ) (fmOf 𝓤 H (W .laws) 𝓣)
-    (cited 𝓤 H (Callee 𝓤 H (𝓖 .A) (𝓜 .mem) (𝓡 .run)) 𝓜 𝓡 code.env #callee callee-def.routine code.calls-session-words·state (callee-thm.met 𝓤 H 𝓜 𝓖 𝓡))))))
+    (cited 𝓤 H (Callee 𝓤 H (𝓖 .A) (𝓜 .mem) (𝓡 .run)) 𝓜 𝓡 code.env #callee callee-def.routine code.calls-session-words·LentSession·state (callee-thm.met 𝓤 H 𝓜 𝓖 𝓡))))))

@@ -2,8 +2,8 @@
 use borrow.Author.Needs.{needs}
 use Rattle.judge_word.proofs.PackedAnswers.{told-packed}
 use Rattle.spec_session_words.specs.SessionWords.{packedSession}
-use Rattle.session_words.proofs.state.Statement.{statement}
-use Rattle.session_words.proofs.state.Tie as tie
+use Rattle.session_words.proofs.LentSession.state.Statement.{statement}
+use Rattle.session_words.proofs.LentSession.state.Tie as tie
 
 state-requires : tie.Need-state-requires
 state-requires c κs = search needs
