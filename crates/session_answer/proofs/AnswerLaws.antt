@@ -5,8 +5,8 @@ use native.Mathlib.Omega.{arith}
 use mir.Syntax.{w64}
 use mir.Val.{Fits}
 use mathlib.Core.Path.{_≡_, refl, ap, sym, _∙_}
-use mathlib.Core.Bool.{Bool, true, false, cond, _&&_, true≢false}
-use mathlib.Core.List.{List, [], _∷_}
+use mathlib.Core.Bool.{Bool, true, false, _&&_, true≢false}
+use mathlib.Core.List.{List}
 use mathlib.Core.Option.{none, some}
 use lib.Dec.{ltb}
 use lib.ListN.{length, drop}
@@ -15,6 +15,7 @@ use Rattle.spec_refusal.specs.declared.Refusal.{Refusal}
 use Rattle.spec_refusal.specs.declared.Refusal.the-variants.{SessionEnded}
 use Rattle.spec_refusal.specs.declared.Check.{Check}
 use Rattle.spec_refusal.specs.declared.Check.the-variants.{Accepted, Refused as CheckRefused}
+use Rattle.spec_refusal.specs.Refusal.{number}
 use Rattle.spec_refusal.specs.Checks.{checked}
 use Rattle.spec_refusal.proofs.Checked.{refused, accepted}
 use Rattle.spec_name.specs.Names.{Name, wire}
@@ -28,8 +29,7 @@ use Rattle.spec_rule.specs.declared.Denial.{Denial}
 use Rattle.spec_rule.specs.declared.Judgement.{Judgement}
 use Rattle.spec_rule.specs.declared.Judgement.the-variants.{Permitted, UnknownCritical, NotGranted, TooManyAliases, Refused}
 use Rattle.spec_rule.specs.RelevantSet.{asBook, Lookup, empty, found, endless, lookup}
-use Rattle.spec_rule.specs.Authorizations.{Authorization, unrestricted, forbidden, granted, unresolved, authorizationFrom, permits}
-use Rattle.spec_rule.specs.Verdicts.{denied, verdict}
+use Rattle.spec_rule.specs.Verdicts.{verdict}
 use Rattle.spec_rule.specs.Calls.{judgementCode}
 use Rattle.spec_session.specs.declared.Session.{Session}
 use Rattle.spec_session.specs.declared.SessionAnswer.the-variants.{Judged}
@@ -49,7 +49,6 @@ use Rattle.session_look.specs.declared.Looked.the-variants.{Empty, Decides}
 use Rattle.session_look.specs.Looks.{lookedAt}
 use Rattle.session_look.specs.Theorems.{lookedByRule}
 use Rattle.session_look.proofs.RuleLook.{look-by-the-rule}
-use Rattle.session_answer.specs.Judged.{NoRefusal}
 use Rattle.session_answer.proofs.AskedPart.{asked-good}
 
 -- a session that keeps the rules
@@ -100,40 +99,33 @@ module _ (s : Session) (k : isKept s ≡ true) where
 
 -- ends by a verdict
 module _ (s : Session) (j : Judgement) (t : Session) where
-  pub ends-0 : j ≡ Permitted → t ≡ closedWith 0 0 s → NoRefusal j → t ≡ closedBy j s
+  pub ends-0 : j ≡ Permitted → t ≡ closedWith 0 0 s → t ≡ closedBy j s
   unfolding judgementCode
-  ends-0 e g h = rw e g
+  ends-0 e g = rw e g
 
-  pub ends-20 : (d : Denial) → j ≡ UnknownCritical d → t ≡ closedWith 20 (d .rr .0) s → NoRefusal j → t ≡ closedBy j s
+  pub ends-20 : (d : Denial) → j ≡ UnknownCritical d → t ≡ closedWith 20 (d .rr .0) s → t ≡ closedBy j s
   unfolding judgementCode
-  ends-20 d e g h = rw e g
+  ends-20 d e g = rw e g
 
-  pub ends-21 : (d : Denial) → j ≡ NotGranted d → t ≡ closedWith 21 (d .rr .0) s → NoRefusal j → t ≡ closedBy j s
+  pub ends-21 : (d : Denial) → j ≡ NotGranted d → t ≡ closedWith 21 (d .rr .0) s → t ≡ closedBy j s
   unfolding judgementCode
-  ends-21 d e g h = rw e g
+  ends-21 d e g = rw e g
 
-  pub ends-22 : (d : Denial) → j ≡ TooManyAliases d → t ≡ closedWith 22 (d .rr .0) s → NoRefusal j → t ≡ closedBy j s
+  pub ends-22 : (d : Denial) → j ≡ TooManyAliases d → t ≡ closedWith 22 (d .rr .0) s → t ≡ closedBy j s
   unfolding judgementCode
-  ends-22 d e g h = rw e g
+  ends-22 d e g = rw e g
 
-pub no-verdict : (s : Session) (j : Judgement) (r : Refusal) → j ≡ Refused r → NoRefusal j → s ≡ closedBy j s
-no-verdict s j r e h = absurd (h r e)
-
--- no verdict on one name is a refusal
-verdict-no-refusal : (d : List ℕ) (a : Authorization) (u : ℕ) → NoRefusal (verdict d (record { says = a; up = u } ∷ []))
-unfolding verdict
-verdict-no-refusal d a u = go (permits d a) a
-  where
-    go : (t : Bool) (a : Authorization) → NoRefusal (cond t Permitted (denied 0 u a))
-    go true a r e = let z : _≡_ {A = ℕ} 0 1 = cc in absurd (omega arith)
-    go false unrestricted r e = let z : _≡_ {A = ℕ} 0 1 = cc in absurd (omega arith)
-    go false (forbidden n) r e = let z : _≡_ {A = ℕ} 0 1 = cc in absurd (omega arith)
-    go false (granted n ns) r e = let z : _≡_ {A = ℕ} 0 1 = cc in absurd (omega arith)
-    go false (unresolved n) r e = let z : _≡_ {A = ℕ} 0 1 = cc in absurd (omega arith)
+  pub ends-refused : (r : Refusal) → j ≡ Refused r → (n : ℕ) → n ≡ number r → t ≡ closedWith n 0 s → t ≡ closedBy j s
+  unfolding judgementCode
+  ends-refused r e n f g = rw (e, ← f) g
 
 -- where the name asked for is
 pub stands-there : (s : Session) (q : KeptName) (p : Place) → q ≡ keptAt s → q ≡ At p → keptAt s ≡ At p
 stands-there s q p g e = sym g ∙ e
+
+-- the verdict that decides is one alone
+decides-same : {j k : Judgement} → Decides j ≡ Decides k → j ≡ k
+decides-same e = cc
 
 -- a session that takes answers, and an accepted book
 module _ (s : Session) (b : List ℕ) (takes : isAsking s ≡ true) (passes : bookRefusal b ≡ none) where
@@ -171,23 +163,15 @@ module _ (s : Session) (b : List ℕ) (takes : isAsking s ≡ true) (passes : bo
         go (found rs) f i = let z : _≡_ {A = ℕ} 0 1 = cc in absurd (omega arith)
         go (endless q) f i = let z : _≡_ {A = ℕ} 0 1 = cc in absurd (omega arith)
 
-    pub finds-verdict :
-        (j : Judgement) → r ≡ Decides j → (t : Session) → (NoRefusal j → t ≡ closedBy j s) → t ≡ byRecords s (keptName s) (asBook (records b))
-    finds-verdict j e t h = go theLookup refl (sym e ∙ ruled)
+    pub finds-verdict : (j : Judgement) → r ≡ Decides j → (t : Session) → t ≡ closedBy j s → t ≡ byRecords s (keptName s) (asBook (records b))
+    finds-verdict j e t h = h ∙ go theLookup refl (sym e ∙ ruled)
       where
-        closed :
-            (l : Lookup) → j ≡ verdict (held (s .issuer)) (record { says = authorizationFrom (keptApplicant s) (isWildcard name) l; up = s .up } ∷ []) →
-            t ≡ closedBy (verdict (held (s .issuer)) (record { says = authorizationFrom (keptApplicant s) (isWildcard name) l; up = s .up } ∷ [])) s
-        closed l i =
-            h (rw i (verdict-no-refusal (held (s .issuer)) (authorizationFrom (keptApplicant s) (isWildcard name) l) (s .up)))
-            ∙ ap (λ v. closedBy v s) i
-
         go :
             (l : Lookup) → theLookup ≡ l → Decides j ≡ lookedByRule (keptApplicant s) (held (s .issuer)) (s .up) (isWildcard name) l →
-            t ≡ byRecords s (keptName s) (asBook (records b))
+            closedBy j s ≡ byRecords s (keptName s) (asBook (records b))
         go empty f i = let z : _≡_ {A = ℕ} 0 1 = cc in absurd (omega arith)
-        go (found rs) f i = closed (found rs) (cc) ∙ sym (records-by ∙ ap (byLookup s name) f)
-        go (endless q) f i = closed (endless q) (cc) ∙ sym (records-by ∙ ap (byLookup s name) f)
+        go (found rs) f i = ap (λ v. closedBy v s) (decides-same i) ∙ sym (records-by ∙ ap (byLookup s name) f)
+        go (endless q) f i = ap (λ v. closedBy v s) (decides-same i) ∙ sym (records-by ∙ ap (byLookup s name) f)
 
 -- answer
 module _ (s : Session) (b : List ℕ) (t : Bool) (f : t ≡ isAsking s) where
