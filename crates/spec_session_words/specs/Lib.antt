@@ -1,1 +1,2 @@
 pub mod SessionWords
+pub mod SessionDoor
