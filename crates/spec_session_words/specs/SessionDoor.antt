@@ -23,7 +23,7 @@ use lib.ListN.{length, take, drop, replicate}
 use Rattle.spec_limits.specs.Limits.{maxRecords}
 use Rattle.spec_octets.specs.Lists.{All, Any, First, consIf}
 use Rattle.spec_octets.specs.Octets.{Octets, lowered}
-use Rattle.spec_name.specs.Names.{Name, wire, GoodName}
+use Rattle.spec_name.specs.Names.{Name, wire}
 use Rattle.spec_request.specs.Request.{isWildcard, base, GoodRequested}
 use Rattle.spec_request.specs.Theorems.{Row-1}
 use Rattle.spec_applicant.specs.Applicant.{Applicant}
@@ -219,7 +219,7 @@ pub record StateWord (s : Session) (word : ℕ) : Type 0 where
   -- 40, a name is asked for: exactly when the phase is 1 and the session keeps its rules.
   pub asks-exactly : (numberIn word ≡ 40) ↔ ((s .phase ≡ 1) × KeptWell s)
   -- The word tells which name: y exactly if y is asked for.
-  pub asked-exactly : (y : Name) → GoodName y → (asked s ≡ some y) ↔ TellsName word s y
+  pub asked-exactly : (y : Name) → (asked s ≡ some y) ↔ TellsName word s y
   -- That is X without as many labels as the session says.
   pub asked-above : (n y : Name) → IsFor s n → asked s ≡ some y → WithoutLabels n (s .up) y
   -- 0, permitted, and 23, lookup failed: exactly when the phase is 2, the session keeps its rules, and this is its verdict.

@@ -1,0 +1,5 @@
+pub mod SessionUnpacks
+pub mod States
+pub mod WordAnswers
+pub mod ToldNames
+pub mod StateDoor
