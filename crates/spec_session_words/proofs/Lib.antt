@@ -3,3 +3,7 @@ pub mod States
 pub mod WordAnswers
 pub mod ToldNames
 pub mod StateDoor
+pub mod StepFits
+pub mod SessionRows
+pub mod StepWords
+pub mod FailDoor
