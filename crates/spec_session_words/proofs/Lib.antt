@@ -7,3 +7,4 @@ pub mod StepFits
 pub mod SessionRows
 pub mod StepWords
 pub mod FailDoor
+pub mod OpenDoor

@@ -67,7 +67,7 @@ module _ (s : Session) where
   pub name-told : numberIn w ≡ 40 → Asking s
   name-told e = saying _ (word-40 _ _ _ _ (state s) (state-word s) e) .0 .0
 
-  asked-exactly : (y : Name) → (asked s ≡ some y) ↔ TellsName w s y
+  pub asked-exactly : (y : Name) → (asked s ≡ some y) ↔ TellsName w s y
   asked-exactly y = (λ e. let h = named s e in rw (next-is h e) at (tells-next h), λ t. back (name-told (t .0)) t)
     where
       back : Asking s → TellsName w s y → asked s ≡ some y
@@ -122,7 +122,7 @@ module _ (s : Session) where
   c-unused (List·Memᴰ·tail (List·Memᴰ·tail (List·Memᴰ·head e))) = saying _ (word-40 _ _ _ _ (state s) (state-word s) e) .1 .3
   c-unused (List·Memᴰ·tail (List·Memᴰ·tail (List·Memᴰ·tail (List·Memᴰ·head e)))) = saying _ (word-41 _ _ _ _ (state s) (state-word s) e) .1 .3
 
-  nothing-said : (asked s ≡ none) × (standing s ≡ none) → numberIn w ≡ 41
+  pub nothing-said : (asked s ≡ none) × (standing s ≡ none) → numberIn w ≡ 41
   unfolding sessionCode
   nothing-said (e, f) = saying NoVerdict (state-tells s .2 e f) .1 .0
 
