@@ -8,3 +8,5 @@ pub mod SessionRows
 pub mod StepWords
 pub mod FailDoor
 pub mod OpenDoor
+pub mod Rulings
+pub mod AnswerDoor

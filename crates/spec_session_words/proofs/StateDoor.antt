@@ -22,7 +22,6 @@ use Rattle.spec_rule.specs.Verdicts.{denial}
 use Rattle.spec_rule.specs.Calls.{judgementCode}
 use Rattle.spec_packed.specs.Packed.{numberIn, fieldA, fieldB, fieldC}
 use Rattle.spec_answers.proofs.DoorRows.{one-of}
-use Rattle.spec_answers.proofs.JudgementUnpacks.{up-small}
 use Rattle.spec_session.specs.declared.Session.{Session}
 use Rattle.spec_session.specs.declared.SessionAnswer.{SessionAnswer}
 use Rattle.spec_session.specs.declared.SessionAnswer.the-variants.{Asks, Judged, LookupFailed, NoVerdict}
@@ -33,10 +32,10 @@ use Rattle.spec_session.proofs.Kept.{kept-exactly, broken-is-ended}
 use Rattle.spec_session.proofs.StepLaws.{asks-nothing, not-ended, state-tells}
 use Rattle.spec_session_words.specs.SessionWords.{caaSessionState}
 use Rattle.spec_session_words.specs.SessionDoor.{TellsName, IsFor, WithoutLabels, StateWord, Caa-session-state}
-use Rattle.spec_session_words.proofs.SessionUnpacks.{FitsAnswer, DeniedBy, KeptAs}
+use Rattle.spec_session_words.proofs.SessionUnpacks.{DeniedBy, KeptAs}
 use Rattle.spec_session_words.proofs.States
 use Rattle.spec_session_words.proofs.States.{Asking, Stands, Says, says, state-fits}
-use Rattle.spec_session_words.proofs.WordAnswers.{HoldsAnswer, of-session, word-0, word-20, word-21, word-22, word-23, word-40, word-41}
+use Rattle.spec_session_words.proofs.WordAnswers.{HoldsAnswer, of-session, c-small, word-0, word-20, word-21, word-22, word-23, word-40, word-41}
 use Rattle.spec_session_words.proofs.ToldNames.{one-wire, held-octets, state-word, tells-next}
 
 -- a name is asked for
@@ -101,13 +100,6 @@ module _ (s : Session) where
   a-of (Judged (Refused r)) h u other = absurd (h .kept-verdict)
   a-of LookupFailed h u other = u .1
   a-of NoVerdict h u other = u .1
-
-  c-of : (a : SessionAnswer) → FitsAnswer a → Word a → fieldC w ≤ 126
-  unfolding sessionCode
-  c-of (Asks o l) h u = omega (arith, u .3)
-  c-of (Judged j) h u = omega (arith, u .3, up-small j h)
-  c-of LookupFailed h u = omega (arith, u .3)
-  c-of NoVerdict h u = omega (arith, u .3)
 
   b-unused : List·Memᴰ (numberIn w) (0 ∷ 23 ∷ 41 ∷ []) → fieldB w ≡ 0
   unfolding sessionCode judgementCode
@@ -196,7 +188,7 @@ module _ (s : Session) where
       no-verdict-exactly = (λ e. saying NoVerdict (word-41 _ _ _ _ (state s) (state-word s) e) .0, nothing-said);
       broken = broken;
       numbers = let h = saying (state s) refl in number-of (state s) (h .0) (h .1);
-      c-small = c-of (state s) (state-fits s) (state-word s);
+      c-small = c-small _ _ _ _ (state s) (state-fits s) (state-word s);
       a-unused = a-of (state s) (says s) (state-word s);
       b-unused = b-unused;
       c-unused = c-unused;

@@ -8,10 +8,12 @@ use Rattle.spec_rule.specs.declared.Judgement.{Judgement}
 use Rattle.spec_rule.specs.declared.Judgement.the-variants.{Permitted, UnknownCritical, NotGranted, TooManyAliases, Refused}
 use Rattle.spec_rule.specs.Verdicts.{denial}
 use Rattle.spec_rule.specs.Calls.{judgementCode}
+use Rattle.spec_answers.proofs.JudgementUnpacks.{up-small}
 use Rattle.spec_answers.proofs.DoorWords.{number-range, Holds, of-answer, judge-refused, judge-0, judge-20, judge-21, judge-22}
 use Rattle.spec_session.specs.declared.SessionAnswer.{SessionAnswer}
 use Rattle.spec_session.specs.declared.SessionAnswer.the-variants.{Asks, Judged, LookupFailed, NoVerdict}
 use Rattle.spec_session.specs.Steps.{sessionCode}
+use Rattle.spec_session_words.proofs.SessionUnpacks.{FitsAnswer}
 
 judged-low : (j : Judgement) → judgementCode j .number ≤ 22
 unfolding judgementCode
@@ -27,6 +29,14 @@ module _ (n a b c : ℕ) where
 
   pub of-session : {x y : SessionAnswer} → x ≡ y → HoldsAnswer x → HoldsAnswer y
   of-session e h = of-answer n a b c sessionCode e h
+
+  -- the labels taken off
+  pub c-small : (x : SessionAnswer) → FitsAnswer x → HoldsAnswer x → c ≤ 126
+  unfolding sessionCode
+  c-small (Asks o l) fits h = omega (arith, h .3)
+  c-small (Judged j) fits h = omega (arith, h .3, up-small j fits)
+  c-small LookupFailed fits h = omega (arith, h .3)
+  c-small NoVerdict fits h = omega (arith, h .3)
 
   -- a verdict or a refusal
   pub judged : (x : SessionAnswer) → HoldsAnswer x → n ≤ 22 → (j : Judgement) × (x ≡ Judged j) × Holds n a b c (judgementCode j)
