@@ -10,3 +10,4 @@ pub mod FailDoor
 pub mod OpenDoor
 pub mod Rulings
 pub mod AnswerDoor
+pub mod RunDoor

@@ -79,7 +79,7 @@ module _ (s : Session) where
   unfolding standing decided
   verdict-said phase keeps a e = state-tells s .1 a (rw (keeps, phase) e)
 
-  number-of : (a : SessionAnswer) → Says s a → Word a → List·Memᴰ (numberIn w) (40 ∷ 0 ∷ 20 ∷ 21 ∷ 22 ∷ 23 ∷ 41 ∷ [])
+  number-of : (a : SessionAnswer) → Says s a → Word a → List·Memᴰ (numberIn w) (41 ∷ 40 ∷ 0 ∷ 20 ∷ 21 ∷ 22 ∷ 23 ∷ [])
   unfolding sessionCode judgementCode
   number-of (Asks o l) h u = rw (u .0) (one-of 40 _ refl)
   number-of (Judged Permitted) h u = rw (u .0) (one-of 0 _ refl)
@@ -89,6 +89,9 @@ module _ (s : Session) where
   number-of (Judged (Refused r)) h u = absurd (h .kept-verdict)
   number-of LookupFailed h u = rw (u .0) (one-of 23 _ refl)
   number-of NoVerdict h u = rw (u .0) (one-of 41 _ refl)
+
+  pub number-said : List·Memᴰ (numberIn w) (41 ∷ 40 ∷ 0 ∷ 20 ∷ 21 ∷ 22 ∷ 23 ∷ [])
+  number-said = number-of (state s) (says s) (state-word s)
 
   a-of : (a : SessionAnswer) → Says s a → Word a → numberIn w ≢ 40 → fieldA w ≡ 0
   unfolding sessionCode judgementCode
@@ -187,7 +190,7 @@ module _ (s : Session) where
       denied-exactly = denied-exactly;
       no-verdict-exactly = (λ e. saying NoVerdict (word-41 _ _ _ _ (state s) (state-word s) e) .0, nothing-said);
       broken = broken;
-      numbers = let h = saying (state s) refl in number-of (state s) (h .0) (h .1);
+      numbers = number-said;
       c-small = c-small _ _ _ _ (state s) (state-fits s) (state-word s);
       a-unused = a-of (state s) (says s) (state-word s);
       b-unused = b-unused;

@@ -233,7 +233,7 @@ pub record StateWord (s : Session) (word : ℕ) : Type 0 where
   -- A session that breaks a rule, or has another phase than 1 and 2, is one of those.
   pub broken : (KeptWell s → ⊥) ⊎ ((s .phase ≢ 1) × (s .phase ≢ 2)) → numberIn word ≡ 41
   -- No other number is ever returned.
-  pub numbers : List·Memᴰ (numberIn word) (40 ∷ 0 ∷ 20 ∷ 21 ∷ 22 ∷ 23 ∷ 41 ∷ [])
+  pub numbers : List·Memᴰ (numberIn word) (41 ∷ 40 ∷ 0 ∷ 20 ∷ 21 ∷ 22 ∷ 23 ∷ [])
   -- Field c is at most 126: a name has at most 127 labels.
   pub c-small : fieldC word ≤ 126
   -- Field a is 0 except for 40. Fields b and c are 0 for 0, 23 and 41, and field c is 0 for 40.
