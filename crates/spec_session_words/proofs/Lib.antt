@@ -11,3 +11,4 @@ pub mod OpenDoor
 pub mod Rulings
 pub mod AnswerDoor
 pub mod RunDoor
+pub mod Table

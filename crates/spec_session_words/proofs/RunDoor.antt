@@ -100,13 +100,6 @@ module _ (request issuer : List ℕ) (who : Applicant) (n : Name) (g : GoodOpeni
   abbrev w : ℕ
   w = caaSessionState last
 
-  asks-something : asked last ≢ none → numberIn w ≡ 40
-  asks-something h = go (asked last) refl
-    where
-      go : (o : Option Name) → asked last ≡ o → numberIn w ≡ 40
-      go none e = absurd (h e)
-      go (some y) e = asked-exactly last y .0 e .0
-
   -- a verdict stands, where no name is asked for
   ended : numberIn w ≢ 40 → (v : SessionAnswer) × (standing last ≡ some v)
   ended h = ⊎-elim
