@@ -106,14 +106,16 @@ module _ (request issuer : List ℕ) (who : Applicant) (octets : Octets request)
   good-of : oneNameRefusal request ≡ none → issuerRefusal issuer ≡ none → applicantRefusal who ≡ none → Good
   good-of e f g =
       let (n, read) = front-read e in
-      let (whole, valid) = requested-name-is-its-labels request octets n [] .0 read in
-      (n, record {
-        are-octets = octets;
-        one-name = whole ∙ append-nil (wire n);
-        valid = valid;
-        well-formed = issuer-refusals issuer .1 .0 f;
-        applicant = applicant-refusals who .1 .0 g;
-      })
+      let (whole, valid) = requested-name-is-its-labels request octets n [] .0 read in (
+        n,
+        record {
+          are-octets = octets;
+          one-name = whole ∙ append-nil (wire n);
+          valid = valid;
+          well-formed = issuer-refusals issuer .1 .0 f;
+          applicant = applicant-refusals who .1 .0 g;
+        },
+      )
 
   refused-by : (r : Refusal) → firstRefusal (openChecks request issuer who) ≡ some r → x ≡ Judged (Refused r)
   unfolding opened

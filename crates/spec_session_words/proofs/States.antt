@@ -129,7 +129,7 @@ said-fits : (s : Session) (a : SessionAnswer) → Says s a → FitsAnswer a
 unfolding maxNameOctets
 said-fits s (Asks o l) (h, at, long) =
     let sizes : length (h .front) + length (wire (h .next)) ≡ length (wire (h .kept)) =
-        sym (length-append (h .front) (wire (h .next))) ∙ ap length (sym (h .ends) ∙ h .whole) in
+    sym (length-append (h .front) (wire (h .next))) ∙ ap length (sym (h .ends) ∙ h .whole) in
     let short = h .good .1 in
     (omega arith, omega arith)
 said-fits s (Judged Permitted) h = tt
