@@ -3,7 +3,7 @@ use Prim.Native.Nat.{ℕ, zero, suc, _+_, _^_, _≤_, _<_}
 use native.Mathlib.Omega.{arith}
 use mathlib.Core.Path.{_≡_, refl}
 use mathlib.Core.Bool.{Bool, true, false, cond, true≢false}
-use mathlib.Core.List.{List, [], _∷_, map}
+use mathlib.Core.List.{List, [], _∷_, _++_, map}
 use mathlib.Core.Option.{Option, none, some}
 use lib.ListN.{length, drop, length-append}
 use Rattle.spec_limits.specs.Limits.{maxNames, maxRecords}
@@ -14,7 +14,7 @@ use Rattle.spec_octets.proofs.ListLaws.{All-head, All-rest}
 use Rattle.spec_octets.proofs.SelectedLists.{selects-all}
 use Rattle.spec_octets.specs.Items.{Items, whole, broken, over, follow, before, wholeItems, items}
 use Rattle.spec_octets.proofs.ReaderLaws.{bind-some, given-some}
-use Rattle.spec_name.specs.Names.{Name, name, GoodName}
+use Rattle.spec_name.specs.Names.{Name, wire, name, GoodName}
 use Rattle.spec_name.proofs.NameLaws.{name-is-its-labels}
 use Rattle.spec_request.specs.Request.{base, isRequestable, requestedName, nameItems, requestedNames}
 use Rattle.spec_record.specs.Records.{records}
@@ -51,11 +51,12 @@ unfolding requestedNames nameItems
 names-few s = whole-within maxNames (nameItems s) (items-within requestedName maxNames s)
 
 -- each name of a request was read, so it is valid
-name-good : (s : List ℕ) (n : Name) (rest : List ℕ) → requestedName s ≡ some (n, rest) → GoodName n
+pub name-read : (s : List ℕ) (n : Name) (rest : List ℕ) → requestedName s ≡ some (n, rest) → (s ≡ wire n ++ rest) × GoodName n
 unfolding requestedName
-name-good s n rest e =
+name-read s n rest e =
     let (m, mid, f, g) = bind-some name _ s n rest .0 e in
-    rw (← given-some (isRequestable m) m n mid rest .0 g .1) (name-is-its-labels s m mid .0 f .1)
+    let (passed, same, end) = given-some (isRequestable m) m n mid rest .0 g in
+    rw (same, end) at (name-is-its-labels s m mid .0 f)
 
 follow-good : (n : Name) (i : Items Name) → GoodName n → All GoodName (wholeItems i) → All GoodName (wholeItems (follow n i))
 follow-good n (whole ns) g h = all-cons g h
@@ -72,7 +73,7 @@ items-good (suc room) (x ∷ s) = go (requestedName (x ∷ s)) refl (items-good 
         (o : Option (Name × List ℕ)) → requestedName (x ∷ s) ≡ o → ((t : List ℕ) → All GoodName (wholeItems (items requestedName room t))) →
         All GoodName (wholeItems (before o (items requestedName room)))
     go none e ih = all-nil
-    go (some r) e ih = follow-good (r .0) (items requestedName room (r .1)) (name-good (x ∷ s) (r .0) (r .1) e) (ih (r .1))
+    go (some r) e ih = follow-good (r .0) (items requestedName room (r .1)) (name-read (x ∷ s) (r .0) (r .1) e .1) (ih (r .1))
 
 names-good : (s : List ℕ) → All GoodName (requestedNames s)
 unfolding requestedNames nameItems
