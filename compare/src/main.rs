@@ -25,8 +25,8 @@ usage: compare cases          run the stored cases
                               archives
        compare bench [TEXT]   measure the proved library's calls next to ours and to the
                               yardstick's, on every load or on those with TEXT in their
-                              title; needs a build with --release, --features judge, list
-                              or lines and SPLINEPEARL_LIBS
+                              title; needs a build with --release, --features judge,
+                              list, lines or session and SPLINEPEARL_LIBS
        compare night          measure the night run: the proved library next to the
                               yardstick on 200 names of three labels over a full book,
                               and on all other loads; builds as for bench

@@ -21,7 +21,7 @@
 enum { STACK = 262144, BLOCK = 4096, MOST = 65536, CHANGED = 5000 };
 
 /* What docs/ASSUMPTIONS.md says. */
-enum { ENOUGH_FOR_LINE = 1024, ENOUGH_FOR_SESSION = 16384, ENOUGH_FOR_BOOK = 49152 };
+enum { ENOUGH_FOR_LINE = 1024, ENOUGH_FOR_SESSION = 8192, ENOUGH_FOR_BOOK = 49152 };
 
 static uint8_t stack[STACK];
 static ucontext_t here, there;
