@@ -20,11 +20,12 @@
  *   - Each pointer is valid for its length: for reading, and `buffer` for writing. It is never null,
  *     even if the length is 0.
  *   - `session` points to a whole caa_session, aligned as the compiler aligns one. It may hold any octets.
- *   - `buffer` and `session` overlap no input. Inputs may overlap each other.
+ *   - `buffer` and `session` overlap no input, so no input is a part of the session. Inputs may overlap each
+ *     other.
  *   - Until the call returns, nobody writes to the inputs, and nobody else reads or writes `buffer` or
  *     `session`.
- *   - Between two calls on a session nobody writes to it. Whatever was written, the calls stay safe; but what
- *     they then say is about the name and the place that the octets hold.
+ *   - Between two calls on a session nobody writes to it. Whatever is written there, the calls stay safe, but
+ *     they take it as it is: a verdict that somebody else wrote into a session is told like any other.
  *   - There is enough stack: docs/ASSUMPTIONS.md has the figures.
  *
  * A call keeps no pointer, and the library keeps no state: what a session knows is in the caa_session, and the
@@ -144,20 +145,23 @@ uint64_t caa_read_line(const uint8_t *line, size_t line_len, uint8_t *buffer, si
 
 /*
  * A session: may `issuer` issue for one name, asked for one lookup at a time? Open it; while the answer is
- * CAA_ASKS, look up the CAA records of the asked name and hand the answer in, or say that the lookup failed.
+ * CAA_ASKS, look up the CAA records of the asked name and hand them in, or say that the lookup failed.
  *
  *     answer = caa_session_open(&session, request, ...);
- *     while (caa_number(answer) == CAA_ASKS) {
- *         name = caa_asked_name(&session, answer, &length);
+ *     while ((name = caa_asked_name(&session, answer, &length)) != NULL) {
  *         ... look it up ...
- *         answer = found ? caa_session_answer(&session, book, book_len) : caa_session_fail(&session);
+ *         answer = succeeded ? caa_session_answer(&session, book, book_len) : caa_session_fail(&session);
+ *     }
+ *     if (caa_number(answer) == CAA_PERMITTED) {
+ *         ... issue ...
  *     }
  *
- * If no lookup failed, and each answer holds the records of the asked name as one accepted book does, in the
- * same order, then the verdict is that of caa_judge_for on that book. Only the number of the record is that in
- * the last answer. A verdict stands after at most as many accepted answers as the name has labels, its star not
- * counted. A refused book (5, 6, 7, 12) leaves the session alone: caa_session_state then still asks for the same
- * name.
+ * Suppose that no lookup failed, and that each accepted answer holds, for the asked name, what one accepted book
+ * holds: the aliases that follow one another from that name, as far as a ninth, and the CAA records of the final
+ * target in the same order. Then the verdict is that of caa_judge_for on that book. Only the number of the record
+ * is that in the last answer. A verdict stands after at most as many accepted answers as the name has labels, its
+ * star not counted. A refused book (5, 6, 7, 12) leaves the session alone: caa_session_state then still asks for
+ * the same name.
  */
 
 /* A text that a session keeps. */

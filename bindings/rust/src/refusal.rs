@@ -3,7 +3,7 @@
 use std::error::Error;
 use std::fmt;
 
-/// An input breaks a rule. Nothing was decided, and the buffer was not changed.
+/// An input breaks a rule. Nothing was decided, and neither the buffer nor the session was changed.
 ///
 /// Displayed as the line of the desk program, such as `refused 6 at 4`. `{:#}` adds the reason.
 #[derive(Clone, Copy, Debug, PartialEq, Eq, Hash)]

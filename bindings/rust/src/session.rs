@@ -15,10 +15,11 @@ pub const SESSION_OCTETS: usize = size_of::<Kept>();
 /// Open it; as long as it asks for a name, look up that name's CAA records and hand them in with
 /// [`answer`](Session::answer), or say that the lookup failed, with [`fail`](Session::fail).
 ///
-/// If no lookup failed, and each answer holds the records of the asked name as one accepted book does, in the
-/// same order, then the verdict is that of [`judge`](crate::judge()) on that book. Only the number of the record
-/// is that in the last answer. A verdict stands after at most as many accepted answers as the name has labels,
-/// its star not counted.
+/// Suppose that no lookup failed, and that each accepted answer holds, for the asked name, what one accepted book
+/// holds: the aliases that follow one another from that name, as far as a ninth, and the CAA records of the final
+/// target in the same order. Then the verdict is that of [`judge`](crate::judge()) on that book. Only the number of
+/// the record is that in the last answer. A verdict stands after at most as many accepted answers as the name has
+/// labels, its star not counted.
 ///
 /// ```
 /// use splinepearl::{Session, Verdict};

@@ -1,5 +1,6 @@
 //! The calls on a session against ours: the reply and every octet of the session, after each call.
 
+use super::aliases::{count_aliases, OF_SESSIONS};
 use super::log::{Call, Differences, Tally};
 use super::Part;
 use crate::answer::{Answer, Refusal, Reply};
@@ -121,6 +122,7 @@ pub struct SessionComparison {
     fail: Tally,
     state: Tally,
     whole: Tally,
+    aliases: Tally,
     written: Tally,
 }
 
@@ -135,6 +137,7 @@ impl SessionComparison {
             fail: Tally::new(&FAIL),
             state: Tally::new(&STATE),
             whole: Tally::new(&WHOLE),
+            aliases: Tally::new(&OF_SESSIONS),
             written: Tally::new(&WRITTEN),
         }
     }
@@ -263,6 +266,7 @@ impl SessionComparison {
             differences.tell(&WHOLE, &inputs, run, whole);
         }
         self.count_run(verdict, session.up, requested.wildcard, behind_refused);
+        count_aliases(&mut self.aliases, &request, book);
         if accepted == labels && verdict == Answer::Permitted {
             self.whole.count(AT_THE_TOP);
         }
@@ -278,6 +282,23 @@ impl SessionComparison {
             if behind_refused {
                 self.whole.count(BEHIND_REFUSED);
             }
+        }
+    }
+
+    /// A whole book of chains, for the issuer name, account and method of an opening that was accepted. Most
+    /// other books have no alias of the names that are asked for.
+    fn run_through_aliases(&mut self, inputs: &Inputs, differences: &mut Differences) {
+        let (request, book) = self.generator.good_request_and_book_of_aliases();
+        let inputs = Inputs {
+            request,
+            book,
+            ..inputs.clone()
+        };
+        let mut session = self.left;
+        let open = self.opening(&inputs);
+        let reply = self.make(&open, &mut session, differences);
+        if !reply.is_refusal() {
+            self.run_by_whole_book(&inputs, &mut session, reply, differences);
         }
     }
 
@@ -356,14 +377,7 @@ impl Part for SessionComparison {
             1 => memory(0xFF),
             _ => self.left,
         };
-        let open = SessionCall::Open {
-            request: self.opened_with(&inputs.request),
-            issuer: inputs.issuer.clone(),
-            asker: Asker {
-                account: inputs.account.clone(),
-                method: inputs.method.clone(),
-            },
-        };
+        let open = self.opening(inputs);
         let reply = self.make(&open, &mut session, differences);
         let opened = session;
         if reply.is_refusal() {
@@ -380,6 +394,9 @@ impl Part for SessionComparison {
         for good in [opened, session] {
             self.run_on_written(good, differences);
         }
+        if self.generator.once_in(8) {
+            self.run_through_aliases(inputs, differences);
+        }
         self.left = session;
     }
 
@@ -390,12 +407,24 @@ impl Part for SessionComparison {
             self.fail,
             self.state,
             self.whole,
+            self.aliases,
             self.written,
         ]
     }
 }
 
 impl SessionComparison {
+    fn opening(&mut self, inputs: &Inputs) -> SessionCall {
+        SessionCall::Open {
+            request: self.opened_with(&inputs.request),
+            issuer: inputs.issuer.clone(),
+            asker: Asker {
+                account: inputs.account.clone(),
+                method: inputs.method.clone(),
+            },
+        }
+    }
+
     /// Mostly one name of the request, else all of it.
     fn opened_with(&mut self, request: &[u8]) -> Vec<u8> {
         if request.len() > REQUEST_OCTETS || self.generator.once_in(6) {

@@ -3,8 +3,9 @@
 use std::cell::Cell;
 
 use compare::against::Other;
-use compare::book::read_raw_record;
+use compare::book::{read_raw_record, RecordData};
 use compare::calls::{Desk, Sessions};
+use compare::name::read_name;
 use compare::request::read_requested_name;
 use compare::session::{Session, Text, ASKING, DECIDED};
 use compare::{judge, read_book, Answer, Refusal, Reply, Word};
@@ -105,7 +106,7 @@ fn answers_taken_wrongly_are_found_out() {
                         matches!(reply, Reply::Asks { .. } | Reply::Judged(Answer::Permitted))
                     };
                     let forbids = |record: &compare::book::Record| match record.data {
-                        compare::book::RecordData::Caa(property) => {
+                        RecordData::Caa(property) => {
                             property.is_critical() && property.has_tag("tbs")
                         }
                         _ => false,
@@ -259,6 +260,195 @@ fn answers_taken_wrongly_are_found_out() {
                 answer: |session, book| match session.answer(book) {
                     ENDED => Err(Word::with(14, [1, 0, 0])),
                     reply => Ok(reply),
+                },
+                ..OWN
+            },
+        ),
+    ]);
+}
+
+/// The aliases from the asked name on, as far as a ninth: the number and the target of each.
+fn chain(session: &Session, book: &[u8]) -> Vec<(usize, Vec<u8>)> {
+    let (Some(asked), Ok(records)) = (session.asked(session.state()), read_book(book)) else {
+        return Vec::new();
+    };
+    let mut chain: Vec<(usize, Vec<u8>)> = Vec::new();
+    while chain.len() < 9 {
+        let at = chain.last().map_or(asked, |(_, target)| target);
+        let (at, _) = read_name(at).unwrap();
+        let alias = records
+            .iter()
+            .position(|record| matches!(record.data, RecordData::Alias(_)) && record.owner.is(at));
+        match alias.map(|number| (number, &records[number].data)) {
+            Some((number, RecordData::Alias(target))) => {
+                chain.push((number, target.wire().to_vec()));
+            }
+            _ => break,
+        }
+    }
+    chain
+}
+
+/// The book with another target in one of its aliases.
+fn with_target(book: &[u8], number: usize, target: &[u8]) -> Vec<u8> {
+    let mut octets = Vec::new();
+    let (mut rest, mut at) = (book, 0);
+    while let Some((record, behind)) = read_raw_record(rest) {
+        let whole = &rest[..rest.len() - behind.len()];
+        if at == number {
+            octets.extend(&whole[..record.owner.wire().len() + 8]);
+            octets.extend([0, target.len() as u8]);
+            octets.extend(target);
+        } else {
+            octets.extend(whole);
+        }
+        (rest, at) = (behind, at + 1);
+    }
+    octets
+}
+
+thread_local! {
+    /// Aliases that were followed since the opening.
+    static FOLLOWED: Cell<usize> = const { Cell::new(0) };
+}
+
+#[test]
+fn aliases_taken_wrongly_are_found_out() {
+    are_found_out(&[
+        (
+            "a ninth alias is followed",
+            Sessions {
+                answer: |session, book| match &chain(session, book)[..] {
+                    chain @ [(first, _), (_, second), ..] if chain.len() == 9 => {
+                        Ok(session.answer(&with_target(book, *first, second)))
+                    }
+                    _ => Ok(session.answer(book)),
+                },
+                ..OWN
+            },
+        ),
+        (
+            "an eighth alias is not followed",
+            Sessions {
+                answer: |session, book| match chain(session, book)[..] {
+                    ref chain @ [(record, _), ..] if chain.len() == 8 => {
+                        let (name, up) = (0, session.up);
+                        end(session, Answer::TooManyAliases { name, record, up })
+                    }
+                    _ => Ok(session.answer(book)),
+                },
+                ..OWN
+            },
+        ),
+        (
+            "aliases are counted over all answers",
+            Sessions {
+                open: |session, request, issuer, account, method| {
+                    FOLLOWED.set(0);
+                    Ok(session.open(request, issuer, account, method))
+                },
+                answer: |session, book| {
+                    let aliases = chain(session, book);
+                    FOLLOWED.set(FOLLOWED.get() + aliases.len());
+                    match aliases[..] {
+                        [(record, _), ..] if FOLLOWED.get() > 8 => {
+                            let (name, up) = (0, session.up);
+                            end(session, Answer::TooManyAliases { name, record, up })
+                        }
+                        _ => Ok(session.answer(book)),
+                    }
+                },
+                ..OWN
+            },
+        ),
+        (
+            "the climb goes on from the target",
+            Sessions {
+                answer: |session, book| {
+                    let before = *session;
+                    let reply = session.answer(book);
+                    let (Reply::Asks { .. }, Some((_, target))) =
+                        (reply, chain(&before, book).pop())
+                    else {
+                        return Ok(reply);
+                    };
+                    let [issuer, account, method] =
+                        [&before.issuer, &before.account, &before.method]
+                            .map(|text| text.kept().unwrap());
+                    match judge(&target, issuer, account, method, book) {
+                        Answer::Permitted | Answer::Refused(_) => Ok(reply),
+                        verdict => end(session, verdict),
+                    }
+                },
+                ..OWN
+            },
+        ),
+        (
+            "aliases that lead to no set are a failed lookup",
+            Sessions {
+                answer: |session, book| {
+                    let before = *session;
+                    match session.answer(book) {
+                        Reply::Asks { .. } if !chain(&before, book).is_empty() => {
+                            *session = before;
+                            Ok(session.fail())
+                        }
+                        reply => Ok(reply),
+                    }
+                },
+                ..OWN
+            },
+        ),
+        (
+            "too many aliases are an empty answer",
+            Sessions {
+                answer: |session, book| {
+                    let before = *session;
+                    match session.answer(book) {
+                        Reply::Judged(Answer::TooManyAliases { .. }) => {
+                            *session = before;
+                            Ok(session.answer(b""))
+                        }
+                        reply => Ok(reply),
+                    }
+                },
+                ..OWN
+            },
+        ),
+        (
+            "the first alias of the answer is told, not that of the name",
+            Sessions {
+                answer: |session, book| match session.answer(book) {
+                    Reply::Judged(Answer::TooManyAliases { name, up, .. }) => {
+                        let records = read_book(book).unwrap();
+                        let is_alias = |record: &compare::book::Record| {
+                            matches!(record.data, RecordData::Alias(_))
+                        };
+                        let record = records.iter().position(is_alias).unwrap();
+                        end(session, Answer::TooManyAliases { name, record, up })
+                    }
+                    reply => Ok(reply),
+                },
+                ..OWN
+            },
+        ),
+        (
+            "the labels of the target are told",
+            Sessions {
+                answer: |session, book| {
+                    let target = chain(session, book).pop();
+                    match (session.answer(book), target) {
+                        (reply @ Reply::Judged(verdict), Some((_, target)))
+                            if !reply.is_refusal() =>
+                        {
+                            let (target, _) = read_name(&target).unwrap();
+                            let labels = target.labels().count();
+                            Ok(Reply::Judged(
+                                verdict.with(|[name, record, _]| [name, record, labels]),
+                            ))
+                        }
+                        (reply, _) => Ok(reply),
+                    }
                 },
                 ..OWN
             },
