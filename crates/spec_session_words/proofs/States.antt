@@ -1,5 +1,5 @@
 -- What a session says of itself, by what is in memory.
-use Prim.Native.Nat.{ℕ, _+_, _-_, _^_, _≤_, _<_}
+use Prim.Native.Nat.{ℕ, _+_, _-_, _<_}
 use native.Mathlib.Omega.{arith}
 use mathlib.Core.Path.{_≡_, refl, ap, sym, _∙_}
 use mathlib.Core.Bool.{Bool, true, false, cond, _&&_, and-eq-true-iff}
@@ -8,10 +8,9 @@ use mathlib.Core.Option.{Option, none, some, Option·none-ne-some}
 use lib.Dec.{eqb}
 use lib.ListN.{length, drop, length-append}
 use borrow.Author.Tests.{eqb-true}
-use Rattle.spec_limits.specs.Limits.{maxNames, maxNameOctets, maxRecords}
+use Rattle.spec_limits.specs.Limits.{maxNames, maxNameOctets}
 use Rattle.spec_name.specs.Names.{Name, wire, GoodName}
 use Rattle.spec_request.specs.Request.{base, requestedName}
-use Rattle.spec_rule.specs.declared.Judgement.{Judgement}
 use Rattle.spec_rule.specs.declared.Judgement.the-variants.{Permitted, UnknownCritical, NotGranted, TooManyAliases, Refused}
 use Rattle.spec_answers.proofs.NumberBounds.{name-read}
 use Rattle.spec_session.specs.declared.Session.{Session}
