@@ -2,10 +2,12 @@
 use Prim.Native.Nat.{ℕ, suc, _+_, _<_}
 use native.Mathlib.Numerals.{add-one}
 use native.Mathlib.Omega.{arith}
+use mir.Syntax.{w64}
+use mir.Val.{Fits}
 use mathlib.Core.Path.{_≡_, refl, ap, sym, _∙_}
-use mathlib.Core.Bool.{Bool, true, false, cond, _&&_, true≢false, and-eq-true-iff}
-use mathlib.Core.List.{List, [], _∷_}
-use mathlib.Core.Option.{Option, none, some}
+use mathlib.Core.Bool.{Bool, true, false, _&&_, true≢false}
+use mathlib.Core.List.{List}
+use mathlib.Core.Option.{none, some}
 use lib.Dec.{ltb}
 use lib.ListN.{length, drop}
 use Rattle.spec_limits.specs.Limits.{maxNameOctets}
@@ -13,29 +15,29 @@ use Rattle.spec_refusal.specs.declared.Refusal.{Refusal}
 use Rattle.spec_refusal.specs.declared.Refusal.the-variants.{SessionEnded}
 use Rattle.spec_refusal.specs.declared.Check.{Check}
 use Rattle.spec_refusal.specs.declared.Check.the-variants.{Accepted, Refused as CheckRefused}
+use Rattle.spec_refusal.specs.Refusal.{number}
 use Rattle.spec_refusal.specs.Checks.{checked}
 use Rattle.spec_refusal.proofs.Checked.{refused, accepted}
-use Rattle.spec_name.specs.Names.{Name, wire, GoodName}
+use Rattle.spec_name.specs.Names.{Name, wire}
 use Rattle.spec_name.proofs.NameLaws.{fewer-labels}
 use Rattle.spec_request.specs.Request.{isWildcard, base}
 use Rattle.spec_request.proofs.RequestedNames.{good-base}
 use Rattle.spec_issuer.specs.Issuer.{isIssuer}
 use Rattle.spec_record.specs.Records.{records, bookRefusal}
-use Rattle.spec_applicant.specs.Applicant.{Applicant, isApplicant}
+use Rattle.spec_applicant.specs.Applicant.{isApplicant}
 use Rattle.spec_rule.specs.declared.Denial.{Denial}
 use Rattle.spec_rule.specs.declared.Judgement.{Judgement}
 use Rattle.spec_rule.specs.declared.Judgement.the-variants.{Permitted, UnknownCritical, NotGranted, TooManyAliases, Refused}
 use Rattle.spec_rule.specs.RelevantSet.{asBook, Lookup, empty, found, endless, lookup}
-use Rattle.spec_rule.specs.Authorizations.{Authorization, unrestricted, forbidden, granted, unresolved, authorizationFrom, permits}
-use Rattle.spec_rule.specs.Verdicts.{denied, verdict}
+use Rattle.spec_rule.specs.Verdicts.{verdict}
 use Rattle.spec_rule.specs.Calls.{judgementCode}
 use Rattle.spec_session.specs.declared.Session.{Session}
 use Rattle.spec_session.specs.declared.SessionAnswer.the-variants.{Judged}
 use Rattle.spec_session.specs.declared.Stepped.{Stepped}
 use Rattle.spec_session.specs.Sessions.{held, keptName, keptApplicant, reaches, isKept, isAsking}
 use Rattle.spec_session.specs.Steps.{endedRefusal, goesTo, oneUp, closedWith, closedBy, byLookup, byRecords, answered}
-use Rattle.spec_session.proofs.Kept.{reached}
-use Rattle.spec_session.proofs.StepLaws.{Live, live}
+use Rattle.spec_session.proofs.Kept.{reached, kept-tests}
+use Rattle.spec_session.proofs.StepLaws.{live}
 use Rattle.session_kept.specs.declared.Place.{Place}
 use Rattle.session_kept.specs.declared.KeptName.{KeptName}
 use Rattle.session_kept.specs.declared.KeptName.the-variants.{At, Broken}
@@ -47,25 +49,20 @@ use Rattle.session_look.specs.declared.Looked.the-variants.{Empty, Decides}
 use Rattle.session_look.specs.Looks.{lookedAt}
 use Rattle.session_look.specs.Theorems.{lookedByRule}
 use Rattle.session_look.proofs.RuleLook.{look-by-the-rule}
-use Rattle.session_answer.specs.Judged.{NoRefusal}
 use Rattle.session_answer.proofs.AskedPart.{asked-good}
 
 -- a session that keeps the rules
 module _ (s : Session) (k : isKept s ≡ true) where
-  tests : (reaches (keptName s) (s .up) ≡ true) × (isIssuer (held (s .issuer)) ≡ true) × (isApplicant (keptApplicant s) ≡ true)
-  unfolding isKept
-  tests =
-      let (both, who) = and-eq-true-iff (reaches (keptName s) (s .up) && isIssuer (held (s .issuer))) (isApplicant (keptApplicant s)) .0 k in
-      let (name, issuer) = and-eq-true-iff (reaches (keptName s) (s .up)) (isIssuer (held (s .issuer))) .0 both in
-      (name, issuer, who)
-
   -- no name has so many labels that the next number is too large
-  pub few-off : s .up < 255
+  few-off : s .up < 255
   unfolding keptName maxNameOctets
   few-off =
-      let (n, f, up) = reached (keptName s) (s .up) .0 (tests .0) in
+      let (n, f, up) = reached (keptName s) (s .up) .0 (kept-tests s .0 k .0) in
       let (whole, good) = name-alone (held (s .name)) n f in
       omega (arith, up, fewer-labels (base n), good-base n good .1)
+
+  pub up-fits : Fits w64 (s .up + 1)
+  up-fits = record { fits = omega (arith, few-off) }
 
   pub label-off :
       (u : ℕ) → u ≡ s .up + 1 →
@@ -84,8 +81,8 @@ module _ (s : Session) (k : isKept s ≡ true) where
     unfolding isKept keptName keptApplicant
     next-kept =
         ap (λ o. (reaches o (suc (s .up)) && isIssuer (held (s .issuer))) && isApplicant (keptApplicant s)) f
-        ∙ ap (λ i. (ltb (suc (s .up)) (length (base n)) && i) && isApplicant (keptApplicant s)) (tests .1)
-        ∙ ap (λ w. (ltb (suc (s .up)) (length (base n)) && true) && w) (tests .2)
+        ∙ ap (λ i. (ltb (suc (s .up)) (length (base n)) && i) && isApplicant (keptApplicant s)) (kept-tests s .0 k .1)
+        ∙ ap (λ w. (ltb (suc (s .up)) (length (base n)) && true) && w) (kept-tests s .0 k .2)
         ∙ both-true (ltb (suc (s .up)) (length (base n)))
 
   module _ (t : Session) (e : t ≡ oneUp s) (q : KeptName) (g : q ≡ keptAt t) where
@@ -102,36 +99,33 @@ module _ (s : Session) (k : isKept s ≡ true) where
 
 -- ends by a verdict
 module _ (s : Session) (j : Judgement) (t : Session) where
-  pub ends-0 : j ≡ Permitted → t ≡ closedWith 0 0 s → NoRefusal j → t ≡ closedBy j s
+  pub ends-0 : j ≡ Permitted → t ≡ closedWith 0 0 s → t ≡ closedBy j s
   unfolding judgementCode
-  ends-0 e g h = rw e g
+  ends-0 e g = rw e g
 
-  pub ends-20 : (d : Denial) → j ≡ UnknownCritical d → t ≡ closedWith 20 (d .rr .0) s → NoRefusal j → t ≡ closedBy j s
+  pub ends-20 : (d : Denial) → j ≡ UnknownCritical d → t ≡ closedWith 20 (d .rr .0) s → t ≡ closedBy j s
   unfolding judgementCode
-  ends-20 d e g h = rw e g
+  ends-20 d e g = rw e g
 
-  pub ends-21 : (d : Denial) → j ≡ NotGranted d → t ≡ closedWith 21 (d .rr .0) s → NoRefusal j → t ≡ closedBy j s
+  pub ends-21 : (d : Denial) → j ≡ NotGranted d → t ≡ closedWith 21 (d .rr .0) s → t ≡ closedBy j s
   unfolding judgementCode
-  ends-21 d e g h = rw e g
+  ends-21 d e g = rw e g
 
-  pub ends-22 : (d : Denial) → j ≡ TooManyAliases d → t ≡ closedWith 22 (d .rr .0) s → NoRefusal j → t ≡ closedBy j s
+  pub ends-22 : (d : Denial) → j ≡ TooManyAliases d → t ≡ closedWith 22 (d .rr .0) s → t ≡ closedBy j s
   unfolding judgementCode
-  ends-22 d e g h = rw e g
+  ends-22 d e g = rw e g
 
-pub no-verdict : (s : Session) (j : Judgement) (r : Refusal) → j ≡ Refused r → NoRefusal j → s ≡ closedBy j s
-no-verdict s j r e h = absurd (h r e)
+  pub ends-refused : (r : Refusal) → j ≡ Refused r → (n : ℕ) → n ≡ number r → t ≡ closedWith n 0 s → t ≡ closedBy j s
+  unfolding judgementCode
+  ends-refused r e n f g = rw (e, ← f) g
 
--- no verdict on one name is a refusal
-verdict-no-refusal : (d : List ℕ) (a : Authorization) (u : ℕ) → NoRefusal (verdict d (record { says = a; up = u } ∷ []))
-unfolding verdict
-verdict-no-refusal d a u = go (permits d a) a
-  where
-    go : (t : Bool) (a : Authorization) → NoRefusal (cond t Permitted (denied 0 u a))
-    go true a r e = let z : _≡_ {A = ℕ} 0 1 = cc in absurd (omega arith)
-    go false unrestricted r e = let z : _≡_ {A = ℕ} 0 1 = cc in absurd (omega arith)
-    go false (forbidden n) r e = let z : _≡_ {A = ℕ} 0 1 = cc in absurd (omega arith)
-    go false (granted n ns) r e = let z : _≡_ {A = ℕ} 0 1 = cc in absurd (omega arith)
-    go false (unresolved n) r e = let z : _≡_ {A = ℕ} 0 1 = cc in absurd (omega arith)
+-- where the name asked for is
+pub stands-there : (s : Session) (q : KeptName) (p : Place) → q ≡ keptAt s → q ≡ At p → keptAt s ≡ At p
+stands-there s q p g e = sym g ∙ e
+
+-- the verdict that decides is one alone
+decides-same : {j k : Judgement} → Decides j ≡ Decides k → j ≡ k
+decides-same e = cc
 
 -- a session that takes answers, and an accepted book
 module _ (s : Session) (b : List ℕ) (takes : isAsking s ≡ true) (passes : bookRefusal b ≡ none) where
@@ -141,7 +135,7 @@ module _ (s : Session) (b : List ℕ) (takes : isAsking s ≡ true) (passes : bo
   pub never-broken : (q : KeptName) → q ≡ keptAt s → q ≡ Broken → s ≡ byRecords s (keptName s) (asBook (records b))
   never-broken q g e = absurd (true≢false (sym asks-keeps ∙ broken s (sym g ∙ e)))
 
-  name : Name
+  abbrev name : Name
   name = live s takes .name
 
   abbrev theLookup : Lookup
@@ -169,23 +163,15 @@ module _ (s : Session) (b : List ℕ) (takes : isAsking s ≡ true) (passes : bo
         go (found rs) f i = let z : _≡_ {A = ℕ} 0 1 = cc in absurd (omega arith)
         go (endless q) f i = let z : _≡_ {A = ℕ} 0 1 = cc in absurd (omega arith)
 
-    pub finds-verdict :
-        (j : Judgement) → r ≡ Decides j → (t : Session) → (NoRefusal j → t ≡ closedBy j s) → t ≡ byRecords s (keptName s) (asBook (records b))
-    finds-verdict j e t h = go theLookup refl (sym e ∙ ruled)
+    pub finds-verdict : (j : Judgement) → r ≡ Decides j → (t : Session) → t ≡ closedBy j s → t ≡ byRecords s (keptName s) (asBook (records b))
+    finds-verdict j e t h = h ∙ go theLookup refl (sym e ∙ ruled)
       where
-        closed :
-            (l : Lookup) → j ≡ verdict (held (s .issuer)) (record { says = authorizationFrom (keptApplicant s) (isWildcard name) l; up = s .up } ∷ []) →
-            t ≡ closedBy (verdict (held (s .issuer)) (record { says = authorizationFrom (keptApplicant s) (isWildcard name) l; up = s .up } ∷ [])) s
-        closed l i =
-            h (rw i (verdict-no-refusal (held (s .issuer)) (authorizationFrom (keptApplicant s) (isWildcard name) l) (s .up)))
-            ∙ ap (λ v. closedBy v s) i
-
         go :
             (l : Lookup) → theLookup ≡ l → Decides j ≡ lookedByRule (keptApplicant s) (held (s .issuer)) (s .up) (isWildcard name) l →
-            t ≡ byRecords s (keptName s) (asBook (records b))
+            closedBy j s ≡ byRecords s (keptName s) (asBook (records b))
         go empty f i = let z : _≡_ {A = ℕ} 0 1 = cc in absurd (omega arith)
-        go (found rs) f i = closed (found rs) cc ∙ sym (records-by ∙ ap (byLookup s name) f)
-        go (endless q) f i = closed (endless q) cc ∙ sym (records-by ∙ ap (byLookup s name) f)
+        go (found rs) f i = ap (λ v. closedBy v s) (decides-same i) ∙ sym (records-by ∙ ap (byLookup s name) f)
+        go (endless q) f i = ap (λ v. closedBy v s) (decides-same i) ∙ sym (records-by ∙ ap (byLookup s name) f)
 
 -- answer
 module _ (s : Session) (b : List ℕ) (t : Bool) (f : t ≡ isAsking s) where
@@ -193,13 +179,16 @@ module _ (s : Session) (b : List ℕ) (t : Bool) (f : t ≡ isAsking s) where
   unfolding answered endedRefusal
   answers-not e = rw (← f, e) refl
 
+  pub takes-answer : t ≡ true → isAsking s ≡ true
+  takes-answer e = sym f ∙ e
+
   module _ (e : t ≡ true) (c : Check) (g : c ≡ checked (bookRefusal b)) where
     pub book-refused : (r : Refusal) → c ≡ CheckRefused r → _≡_ {A = Stepped} (record { answer = Judged (Refused r); session = s }) (answered s b)
     unfolding answered endedRefusal
     book-refused r h = rw (← f, e, refused (bookRefusal b) g r h) refl
 
-    pub can-take : c ≡ Accepted → (isAsking s ≡ true) × (bookRefusal b ≡ none)
-    can-take h = (sym f ∙ e, accepted (bookRefusal b) g h)
+    pub passes-check : c ≡ Accepted → bookRefusal b ≡ none
+    passes-check h = accepted (bookRefusal b) g h
 
     pub answers-so :
         c ≡ Accepted → (u : Session) → u ≡ byRecords s (keptName s) (asBook (records b)) → (r : Stepped) → r ≡ goesTo u → r ≡ answered s b

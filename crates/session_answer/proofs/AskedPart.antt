@@ -5,12 +5,11 @@ use mathlib.Core.Path.{_≡_, refl, ap, sym, _∙_}
 use mathlib.Core.Bool.{Bool}
 use mathlib.Core.List.{List, [], _∷_, _++_}
 use mathlib.Core.Option.{some, Option·some-injective}
-use lib.ListN.{length, take, drop, length-append, length-take-le}
-use lib.Seq.{drop-at}
+use lib.ListN.{length, take, drop, length-append}
+use lib.Seq.{drop-at, length-take-le, take-nil}
 use Rattle.spec_name.specs.Names.{Name, wire, GoodName}
 use Rattle.spec_request.specs.Request.{isWildcard, base}
 use Rattle.spec_request.proofs.RequestedNames.{good-base}
-use Rattle.spec_applicant.specs.Applicant.{Applicant}
 use Rattle.book_places.proofs.ClimbLaws.{good-parent}
 use Rattle.spec_session.specs.declared.Text.{Text}
 use Rattle.spec_session.specs.declared.Session.{Session}
@@ -26,14 +25,10 @@ use Rattle.session_look.specs.declared.Looked.{Looked}
 use Rattle.session_look.specs.Looks.{lookedAt}
 
 -- a part of the front is the end of that front
-take-none : (k : ℕ) → _≡_ {A = List ℕ} (take k []) []
-take-none zero = refl
-take-none (suc k) = refl
-
 part-of-front : (o e : ℕ) (xs : List ℕ) → take (e - o) (drop o xs) ≡ drop o (take e xs)
 part-of-front zero e xs = let k : e - 0 ≡ e = omega arith in rw k
 part-of-front (suc o) zero xs = let k : 0 - suc o ≡ 0 = omega arith in rw k refl
-part-of-front (suc o) (suc e) [] = take-none (suc e - suc o)
+part-of-front (suc o) (suc e) [] = take-nil (suc e - suc o)
 part-of-front (suc o) (suc e) (x ∷ xs) = let k : suc e - suc o ≡ e - o = omega arith in rw k (part-of-front o e xs)
 
 -- a valid name without its first labels is one
@@ -68,7 +63,7 @@ module _ (s : Session) (n : Name) (f : keptName s ≡ some n) where
         let at-p : o ≡ length p = omega (arith, ap length whole, length-append p (wire asked)) in
         let k : e - 0 ≡ e = omega arith in
         let front : take e (s .name .octets) ≡ held (s .name) = rw k at (held-part (s .name) e h) in
-        part-of-front o e (s .name .octets) ∙ ap (drop o) (front ∙ whole) ∙ drop-at p (wire asked) o at-p
+        part-of-front o e (s .name .octets) ∙ ap (drop o) (front ∙ whole) ∙ drop-at p (wire asked) o (sym at-p)
 
 -- what the code is given
 module _ (s : Session) (p : Place) (k : keptAt s ≡ At p) where

@@ -23,7 +23,6 @@ ghost use Rattle.spec_session.specs.Steps.{oneUp, closedBy, byLookup, byRecords
 ghost use Rattle.session_kept.specs.declared.KeptName.the-variants.{At};
 ghost use Rattle.session_kept.specs.Places.{keptAt};
 ghost use Rattle.session_look.specs.Looks.{lookedAt};
-ghost use Rattle.session_answer.specs.Judged.{NoRefusal};
 
 // Takes one more label off.
 fn one_up(session: Session) -> Session
@@ -64,15 +63,18 @@ fn go_up(session: Session) -> Session
 
 // Ends a session with a verdict.
 fn close_by(session: Session, judgement: Judgement) -> Session
-    ensures { λ r. ⌜ (NoRefusal judgement → r ≡ closedBy judgement session) ⌝ }
+    ensures { λ r. ⌜ r ≡ closedBy judgement session ⌝ }
 {
     match judgement {
         Judgement::Permitted => session_step::close_session(session, 0, 0),
         Judgement::UnknownCritical(d) => session_step::close_session(session, 20, d.rr.0),
         Judgement::NotGranted(d) => session_step::close_session(session, 21, d.rr.0),
         Judgement::TooManyAliases(d) => session_step::close_session(session, 22, d.rr.0),
-        // No verdict by a lookup is a refusal.
-        Judgement::Refused(_) => session,
+        // No lookup is refused. The number of a refusal is no verdict.
+        Judgement::Refused(r) => {
+            let number = spec_refusal::number_of(r) as usize;
+            session_step::close_session(session, number, 0)
+        }
     }
 }
 

@@ -2,7 +2,7 @@
 use Prim.Native.Nat.{ℕ}
 use native.Mathlib.Omega.{arith}
 use mathlib.Core.Path.{_≡_, refl, ap}
-use mathlib.Core.List.{List, [], _∷_}
+use mathlib.Core.List.{[], _∷_}
 use Rattle.spec_record.specs.Records.{records}
 use Rattle.spec_rule.specs.RelevantSet.{asBook, Lookup, empty, found, endless, lookup}
 use Rattle.spec_rule.specs.Authorizations.{authorizationFrom}

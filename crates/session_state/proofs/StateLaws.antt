@@ -14,7 +14,7 @@ use Rattle.spec_rule.specs.Verdicts.{denial}
 use Rattle.spec_session.specs.declared.Session.{Session}
 use Rattle.spec_session.specs.declared.SessionAnswer.{SessionAnswer}
 use Rattle.spec_session.specs.declared.SessionAnswer.the-variants.{Asks, Judged, LookupFailed, NoVerdict}
-use Rattle.spec_session.specs.Sessions.{held, keptName, isKept, asking, decided, isAsking, asked, verdictOf, standing, stateFrom, state}
+use Rattle.spec_session.specs.Sessions.{held, isKept, asking, decided, isAsking, asked, verdictOf, standing, stateFrom, state}
 use Rattle.spec_session.proofs.Kept.{broken-is-ended}
 use Rattle.spec_session.proofs.StepLaws.{asks, asks-nothing, state-tells}
 use Rattle.session_kept.specs.declared.Place.{Place}

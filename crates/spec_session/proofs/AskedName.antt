@@ -1,23 +1,20 @@
 -- The name asked for is at the end of the kept name.
-use Prim.Native.Nat.{ℕ, zero, suc, _+_, _-_, _≤_}
+use Prim.Native.Nat.{ℕ, zero, suc, _+_, _-_}
 use native.Mathlib.Omega.{arith}
-use native.Mathlib.Nat.{le-of-suc-le-suc, not-suc-le-zero}
 use mathlib.Core.Path.{_≡_, refl, ap, sym, _∙_}
 use mathlib.Core.Bool.{Bool, true, false, cond}
 use mathlib.Core.List.{List, [], _∷_, _++_, append-assoc}
-use mathlib.Core.Option.{some, Option·some-injective}
+use mathlib.Core.Option.{Option·some-injective}
 use lib.ListN.{length, take, drop, length-append}
 use lib.Seq.{drop-at, take-length}
-use Rattle.spec_octets.specs.Octets.{Octets}
 use Rattle.spec_name.specs.Names.{Name, wire}
 use Rattle.spec_name.proofs.NameLaws.{wire-form}
 use Rattle.spec_request.specs.Request.{isAsterisk, base}
-use Rattle.spec_session.specs.declared.Session.{Session}
 use Rattle.spec_session.specs.declared.SessionAnswer.the-variants.{Asks}
-use Rattle.spec_session.specs.Sessions.{held, keptName, asked, state}
+use Rattle.spec_session.specs.Sessions.{held, keptName, state}
 use Rattle.spec_session.specs.Theorems.{Asked-octets}
 use Rattle.spec_session.proofs.Kept.{one-name-read}
-use Rattle.spec_session.proofs.StepLaws.{Live, live, asks, not-ended}
+use Rattle.spec_session.proofs.StepLaws.{live, asks, not-ended}
 
 -- y is at the end of n
 abbrev pub EndOf : Name → Name → Type 0

@@ -21,7 +21,7 @@ use Rattle.spec_record.specs.Records.{records}
 use Rattle.spec_rule.specs.declared.Judgement.{Judgement}
 use Rattle.spec_rule.specs.declared.Judgement.the-variants.{Permitted}
 use Rattle.spec_rule.specs.RelevantSet.{CaaRecord, asBook, Lookup, empty, found, endless, lookup}
-use Rattle.spec_rule.specs.Authorizations.{Authorization, unrestricted, forbidden, granted, unresolved, isUnknownCritical, governing, grantees, governedBy, unlessForbidden, permits}
+use Rattle.spec_rule.specs.Authorizations.{Authorization, granted, isUnknownCritical, governing, grantees, governedBy, unlessForbidden, permits}
 use Rattle.spec_rule.specs.Verdicts.{denied, verdict}
 use Rattle.spec_rule.specs.Calls.{judgementCode}
 use Rattle.spec_rule.proofs.Lookups.{a-lookup}
@@ -30,8 +30,8 @@ use Rattle.spec_rule.proofs.RecordNumbers.{book-numbered}
 use Rattle.spec_session.specs.declared.Session.{Session}
 use Rattle.spec_session.specs.declared.SessionAnswer.{SessionAnswer}
 use Rattle.spec_session.specs.declared.SessionAnswer.the-variants.{Judged, LookupFailed}
-use Rattle.spec_session.specs.Sessions.{held, keptApplicant, asked, verdictOf, standing}
-use Rattle.spec_session.specs.Steps.{sessionOf, oneUp, closedWith, decidedFrom, concluded, Answer, book, after, accepted, opened}
+use Rattle.spec_session.specs.Sessions.{asked, verdictOf, standing}
+use Rattle.spec_session.specs.Steps.{sessionOf, closedWith, decidedFrom, concluded, Answer, book, after}
 use Rattle.spec_session.specs.Meaning.{GoodOpening, NumberedBy}
 use Rattle.spec_session.specs.Theorems.{sessionAfter, acceptedOf, Asked-in-turn, Asks-or-stands, Verdict-stands, Own-numbers}
 use Rattle.spec_session.proofs.StepLaws.{live, closed-asks-nothing, closed-stands, asking-stands-nothing}

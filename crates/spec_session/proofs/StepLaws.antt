@@ -1,8 +1,7 @@
 -- What one answer does to a session: refusals, and the session that stays or ends.
 use Prim.Native.Nat.{ℕ, _<_}
-use native.Mathlib.Omega.{arith}
 use mathlib.Core.Path.{_≡_, refl, ap, sym, _∙_}
-use mathlib.Core.Logic.{_↔_, _≢_, _⊎_, ⊎-elim, Iff·trans}
+use mathlib.Core.Logic.{_↔_, _≢_, ⊎-elim, Iff·trans}
 use mathlib.Core.Bool.{Bool, true, false, cond, _&&_, true≢false, false≢true, and-eq-true-iff}
 use mathlib.Core.List.{List, [], _∷_}
 use mathlib.Core.Option.{Option, none, some, Option·none-ne-some, Option·some-injective}
@@ -12,28 +11,21 @@ use Rattle.spec_limits.specs.Limits.{maxRecords}
 use Rattle.spec_refusal.specs.declared.Refusal.{Refusal}
 use Rattle.spec_refusal.specs.declared.Refusal.the-variants.{SessionEnded}
 use Rattle.spec_refusal.specs.Refusal.{number}
-use Rattle.spec_octets.specs.Octets.{Octets}
 use Rattle.spec_octets.proofs.ListLaws.{true-or-false, not-passed}
 use Rattle.spec_name.specs.Names.{Name}
 use Rattle.spec_request.specs.Request.{base}
-use Rattle.spec_issuer.specs.Issuer.{isIssuer}
-use Rattle.spec_applicant.specs.Applicant.{isApplicant}
-use Rattle.spec_record.specs.Records.{bookRefusal}
-use Rattle.spec_record.specs.Theorems.{BookRow}
-use Rattle.spec_rule.specs.declared.Judgement.the-variants.{Permitted, UnknownCritical, NotGranted, TooManyAliases, Refused}
-use Rattle.spec_rule.specs.Verdicts.{denial}
+use Rattle.spec_rule.specs.declared.Judgement.the-variants.{Refused}
 use Rattle.spec_rule.specs.Calls.{firstRefusal}
-use Rattle.spec_rule.specs.Theorems.{FirstRow}
 use Rattle.spec_rule.proofs.CheckOrder.{checkedAt, Keeps, first-row, in-front, one-row}
 use Rattle.spec_rule.proofs.RefusalLaws.{book-keeps}
 use Rattle.spec_session.specs.declared.Session.{Session}
 use Rattle.spec_session.specs.declared.SessionAnswer.{SessionAnswer}
-use Rattle.spec_session.specs.declared.SessionAnswer.the-variants.{Judged, LookupFailed}
-use Rattle.spec_session.specs.Sessions.{held, keptName, keptApplicant, reaches, isKept, asking, decided, isAsking, above, asked, ofRecord, verdictOf, standing, stateFrom, state}
-use Rattle.spec_session.specs.Steps.{endedRefusal, refusedWith, goesTo, closedWith, answeredOr, answerChecks, answered, failedOr, failed, Answer, book, lookupFailed, step, isRefusal}
+use Rattle.spec_session.specs.declared.SessionAnswer.the-variants.{Judged}
+use Rattle.spec_session.specs.Sessions.{held, keptName, keptApplicant, isKept, asking, decided, isAsking, asked, ofRecord, verdictOf, standing, stateFrom, state}
+use Rattle.spec_session.specs.Steps.{endedRefusal, closedWith, answeredOr, answerChecks, answered, failedOr, failed, book, lookupFailed, isRefusal}
 use Rattle.spec_session.specs.Meaning.{EndedRow}
 use Rattle.spec_session.specs.Theorems.{Ended-refuses, State-tells, Answer-refusals, Refused-answer, Refused-book, Failed-ends, Answered-by-state}
-use Rattle.spec_session.proofs.Kept.{reached}
+use Rattle.spec_session.proofs.Kept.{reached, kept-tests}
 
 -- a session that takes answers has a name, and asks for it or for a name above it
 pub record Live (s : Session) : Type 0 where
@@ -44,12 +36,10 @@ pub record Live (s : Session) : Type 0 where
   pub keeps : isKept s ≡ true
 
 pub live : (s : Session) → isAsking s ≡ true → Live s
-unfolding isAsking isKept
+unfolding isAsking
 live s e =
     let (phase, keeps) = and-eq-true-iff (eqb (s .phase) asking) (isKept s) .0 e in
-    let (both, who) = and-eq-true-iff (reaches (keptName s) (s .up) && isIssuer (held (s .issuer))) (isApplicant (keptApplicant s)) .0 keeps in
-    let (name, issuer) = and-eq-true-iff (reaches (keptName s) (s .up)) (isIssuer (held (s .issuer))) .0 both in
-    let (n, f, up) = reached (keptName s) (s .up) .0 name in
+    let (n, f, up) = reached (keptName s) (s .up) .0 (kept-tests s .0 keeps .0) in
     record { name = n; kept = f; below = up; in-phase = borrow.Author.Tests.eqb-true _ _ phase; keeps = keeps }
 
 pub asks : (s : Session) (n : Name) → isAsking s ≡ true → keptName s ≡ some n → asked s ≡ some (drop (s .up) (base n))

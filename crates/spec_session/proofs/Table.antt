@@ -1,6 +1,6 @@
 -- The tables of sessions and the numbers of their answers, by computing.
 use mathlib.Core.Path.{refl}
-use Rattle.spec_limits.specs.Limits.{maxAccountOctets, maxAliases, maxLabelOctets, maxIssuerOctets, maxNameOctets, maxRequestOctets, maxNames, maxBookOctets, maxRecords}
+use Rattle.spec_limits.specs.Limits.{maxAccountOctets, maxAliases, maxLabelOctets, maxIssuerOctets, maxNameOctets, maxRequestOctets, maxBookOctets, maxRecords}
 use Rattle.spec_refusal.specs.Refusal.{number as refusalNumber, place}
 use Rattle.spec_octets.specs.Reader.{number}
 use Rattle.spec_name.specs.Names.{name}

@@ -1,8 +1,8 @@
 -- A session on its way: which answers are accepted, and where it ends.
-use Prim.Native.Nat.{ℕ, suc, _≤_, _<_}
+use Prim.Native.Nat.{ℕ, suc, _<_}
 use native.Mathlib.Omega.{arith}
 use mathlib.Core.Path.{_≡_, refl, ap, sym, _∙_}
-use mathlib.Core.Logic.{_≢_, _⊎_, inl, inr, ⊎-elim}
+use mathlib.Core.Logic.{_≢_, _⊎_, inl, inr}
 use mathlib.Core.Bool.{Bool, true, false, cond, _&&_, true≢false, and-eq-true-iff}
 use mathlib.Core.List.{List, [], _∷_}
 use mathlib.Core.Option.{Option, none, some, Option·none-ne-some, Option·some-injective}
@@ -10,7 +10,6 @@ use lib.Dec.{eqb, ltb}
 use lib.ListN.{length, drop}
 use borrow.Author.Tests.{ltb-true, ltb-false, lt-ltb}
 use Rattle.spec_refusal.specs.declared.Refusal.{Refusal}
-use Rattle.spec_octets.proofs.ListLaws.{true-or-false}
 use Rattle.spec_name.specs.Names.{Name}
 use Rattle.spec_request.specs.Request.{base}
 use Rattle.spec_issuer.specs.Issuer.{isIssuer}
@@ -18,11 +17,10 @@ use Rattle.spec_applicant.specs.Applicant.{Applicant, isApplicant}
 use Rattle.spec_record.specs.Records.{records, bookRefusal}
 use Rattle.spec_rule.specs.RelevantSet.{asBook, Lookup, empty, found, endless, lookup}
 use Rattle.spec_session.specs.declared.Session.{Session}
-use Rattle.spec_session.specs.declared.SessionAnswer.{SessionAnswer}
 use Rattle.spec_session.specs.Sessions.{held, keptName, keptApplicant, reaches, isKept, asking, isAsking, asked}
-use Rattle.spec_session.specs.Steps.{endedRefusal, refusedWith, goesTo, oneUp, closedWith, concluded, byLookup, byRecords, answeredOr, answered, failed, Answer, book, lookupFailed, step, after, isRefusal, accepted}
+use Rattle.spec_session.specs.Steps.{endedRefusal, refusedWith, goesTo, oneUp, closedWith, concluded, byLookup, answered, failed, Answer, book, lookupFailed, step, after, accepted}
 use Rattle.spec_session.specs.Theorems.{Ended-stays}
-use Rattle.spec_session.proofs.StepLaws.{Live, live, asks, ended-refuses, refused-book, closed-asks-nothing, state-no-refusal}
+use Rattle.spec_session.proofs.StepLaws.{live, asks, ended-refuses, refused-book, closed-asks-nothing, state-no-refusal}
 
 -- an ended session stays as it is, whatever comes
 pub ended-stays : Ended-stays

@@ -3,12 +3,12 @@ use Prim.Native.Nat.{ℕ}
 use Prim.Native.Char.{code}
 use mathlib.Core.Path.{_≡_}
 use mathlib.Core.List.{List, [], _∷_, _++_, map}
-use mathlib.Core.Option.{Option, none, some}
+use mathlib.Core.Option.{some}
 use lib.ListN.{replicate, take, drop}
 use Rattle.spec_refusal.specs.declared.Refusal.{Refusal}
 use Rattle.spec_refusal.specs.declared.Refusal.the-variants.{RequestTooLong, BadName, BadIssuer, BookTooLong, BadRecord, AliasConflict, SessionEnded, BadAccountOrMethod}
 use Rattle.spec_octets.specs.Octets.{text}
-use Rattle.spec_name.specs.Names.{Name, wire}
+use Rattle.spec_name.specs.Names.{wire}
 use Rattle.spec_request.specs.RequestEdges.{names}
 use Rattle.spec_applicant.specs.Applicant.{Applicant}
 use Rattle.spec_applicant.specs.ApplicantEdges.{withAccount}
@@ -23,8 +23,8 @@ use Rattle.spec_session.specs.declared.Session.{Session}
 use Rattle.spec_session.specs.declared.SessionAnswer.{SessionAnswer}
 use Rattle.spec_session.specs.declared.SessionAnswer.the-variants.{Asks, Judged, LookupFailed, NoVerdict}
 use Rattle.spec_session.specs.declared.Stepped.{Stepped}
-use Rattle.spec_session.specs.Sessions.{held, textOf, asked, standing, state}
-use Rattle.spec_session.specs.Steps.{sessionOf, endedSession, opened, Answer, book, lookupFailed, step}
+use Rattle.spec_session.specs.Sessions.{held, textOf, asked, state}
+use Rattle.spec_session.specs.Steps.{endedSession, opened, Answer, book, lookupFailed, step}
 
 -- What a step and the answers after it are answered with.
 abbrev pub toldBy : Stepped → List Answer → List SessionAnswer

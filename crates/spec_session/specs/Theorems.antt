@@ -20,7 +20,6 @@ use Rattle.spec_rule.specs.RelevantSet.{asBook, lookup}
 use Rattle.spec_rule.specs.Verdicts.{verdict}
 use Rattle.spec_rule.specs.Calls.{judge}
 use Rattle.spec_rule.specs.Theorems.{FirstRow, renumberedVerdict}
-use Rattle.spec_session.specs.declared.Text.{Text}
 use Rattle.spec_session.specs.declared.Session.{Session}
 use Rattle.spec_session.specs.declared.SessionAnswer.{SessionAnswer}
 use Rattle.spec_session.specs.declared.SessionAnswer.the-variants.{Asks, Judged, LookupFailed, NoVerdict}

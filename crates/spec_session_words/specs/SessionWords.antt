@@ -8,7 +8,11 @@ use Rattle.spec_session.specs.declared.Stepped.{Stepped}
 use Rattle.spec_session.specs.Sessions.{state}
 use Rattle.spec_session.specs.Steps.{opened, answered, failed, sessionCode}
 use Rattle.spec_answers.specs.Answers.{packedCode}
-use Rattle.spec_session_words.specs.declared.Worded.{Worded}
+
+-- The session after a call, and the word that the call returns.
+pub record Worded : Type 0 where
+  pub session : Session
+  pub word : ℕ
 
 -- An answer of a session in 64 bits: its number, and its values in the fields.
 unfoldable pub packedSession : SessionAnswer → ℕ

@@ -1,7 +1,7 @@
 -- `answer` meets its contract.
 use borrow.Author.Needs.{needs}
 use borrow.Author.Tests.{not-true, not-false}
-use Rattle.session_answer.proofs.AnswerLaws.{answers-not, book-refused, can-take, answers-so}
+use Rattle.session_answer.proofs.AnswerLaws.{answers-not, book-refused, takes-answer, passes-check, answers-so}
 use Rattle.session_answer.proofs.answer.Statement.{statement}
 use Rattle.session_answer.proofs.answer.Tie as tie
 
@@ -24,7 +24,7 @@ enum-told : tie.Need-enum-told
 enum-told c = search needs
 
 by-book-requires : tie.Need-by-book-requires
-by-book-requires c κs = search (needs, can-take, not-false)
+by-book-requires c κs = search (needs, takes-answer, passes-check, not-false)
 
 go-to-requires : tie.Need-go-to-requires
 go-to-requires c κs = search needs

@@ -1,6 +1,6 @@
 -- `by_book` meets its contract.
 use borrow.Author.Needs.{needs}
-use Rattle.session_answer.proofs.AnswerLaws.{asks-keeps, never-broken, finds-none, finds-verdict}
+use Rattle.session_answer.proofs.AnswerLaws.{stands-there, asks-keeps, never-broken, finds-none, finds-verdict}
 use Rattle.session_answer.proofs.by_book.Statement.{statement}
 use Rattle.session_answer.proofs.by_book.Tie as tie
 
@@ -17,7 +17,7 @@ returns : tie.Need-returns
 returns c = search (needs, never-broken)
 
 look-at-requires : tie.Need-look-at-requires
-look-at-requires c κs = search needs
+look-at-requires c κs = search (needs, stands-there)
 
 enum-told-2 : tie.Need-enum-told-2
 enum-told-2 c = search needs

@@ -1,11 +1,11 @@
 -- `one_up` meets its contract.
 use borrow.Author.Needs.{needs}
-use Rattle.session_answer.proofs.AnswerLaws.{few-off, label-off}
+use Rattle.session_answer.proofs.AnswerLaws.{up-fits, label-off}
 use Rattle.session_answer.proofs.one_up.Statement.{statement}
 use Rattle.session_answer.proofs.one_up.Tie as tie
 
 add-up : tie.Need-add-up
-add-up c = search (needs, few-off)
+add-up c = search (needs, up-fits)
 
 returns : tie.Need-returns
 returns c = search (needs, label-off)
