@@ -37,8 +37,7 @@ use Rattle.spec_session.specs.declared.Session.{Session}
 use Rattle.spec_session.specs.Sessions.{held, keptApplicant, asked, standing}
 use Rattle.spec_session.specs.Steps.{Answer, book, lookupFailed}
 use Rattle.spec_session.specs.Meaning.{OneName-2, GoodOpening, KeptWell, Agrees}
-use Rattle.spec_session_words.specs.declared.Worded.{Worded}
-use Rattle.spec_session_words.specs.SessionWords.{caaSessionOpen, caaSessionAnswer, caaSessionFail, caaSessionState}
+use Rattle.spec_session_words.specs.SessionWords.{Worded, caaSessionOpen, caaSessionAnswer, caaSessionFail, caaSessionState}
 
 -- The rows of the table of refusals: row n holds with the place p, which the word has in field a.
 

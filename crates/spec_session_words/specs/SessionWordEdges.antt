@@ -14,8 +14,7 @@ use Rattle.spec_session.specs.declared.Session.{Session}
 use Rattle.spec_session.specs.Sessions.{textOf}
 use Rattle.spec_session.specs.Steps.{Answer, book, lookupFailed}
 use Rattle.spec_session.specs.SessionEdges.{keptAs, nothing, having, broken, wholeSet}
-use Rattle.spec_session_words.specs.declared.Worded.{Worded}
-use Rattle.spec_session_words.specs.SessionWords.{caaSessionOpen, caaSessionState}
+use Rattle.spec_session_words.specs.SessionWords.{Worded, caaSessionOpen, caaSessionState}
 use Rattle.spec_session_words.specs.SessionDoor.{zeroSession, caaSessionStep}
 
 -- The words with a name in field a and b: the 17 octets of www.example.com from 0, the 13 of its parent from 4, the 5 of its top from 12; the 13 of
