@@ -1,46 +1,40 @@
 -- The word of caa_session_answer: the first row of the table that holds, the next name, or the verdict.
-use Prim.Native.Nat.{ℕ, suc, _+_, _-_, _≤_, _<_}
+use Prim.Native.Nat.{ℕ, suc, _+_, _-_, _<_}
 use native.Mathlib.Omega.{arith}
 use mathlib.Core.Path.{_≡_, refl, ap, sym, _∙_}
 use mathlib.Core.Logic.{_↔_, _≢_, _⊎_, inl, inr, ⊎-elim}
-use mathlib.Core.Bool.{Bool, true, false, cond, true≢false, false≢true}
+use mathlib.Core.Bool.{false, true≢false, false≢true}
 use mathlib.Core.List.{List, [], _∷_, List·Memᴰ}
-use mathlib.Core.Option.{Option, none, some, Option·none-ne-some}
-use lib.Dec.{ltb}
+use mathlib.Core.Option.{some}
 use lib.ListN.{length, drop, length-drop}
 use lib.Seq.{drop-drop}
-use borrow.Author.Tests.{ltb-true, ltb-false}
 use Rattle.spec_refusal.specs.declared.Refusal.{Refusal}
-use Rattle.spec_refusal.specs.Refusal.{number, place}
+use Rattle.spec_refusal.specs.Refusal.{number}
 use Rattle.spec_octets.specs.Lists.{First}
 use Rattle.spec_octets.specs.Octets.{Octets}
-use Rattle.spec_octets.proofs.ListLaws.{true-or-false}
 use Rattle.spec_name.specs.Names.{Name, wire}
-use Rattle.spec_name.proofs.NameLaws.{one-name}
-use Rattle.spec_request.specs.Request.{isWildcard, base, GoodRequested}
-use Rattle.spec_record.specs.Records.{records, bookRefusal}
+use Rattle.spec_request.specs.Request.{isWildcard, base}
 use Rattle.spec_rule.specs.declared.Judgement.{Judgement}
 use Rattle.spec_rule.specs.declared.Denial.{Denial}
 use Rattle.spec_rule.specs.declared.Judgement.the-variants.{Permitted, UnknownCritical, NotGranted, TooManyAliases, Refused}
-use Rattle.spec_rule.specs.RelevantSet.{CaaRecord, asBook, Lookup, empty, found, endless, lookup}
+use Rattle.spec_rule.specs.RelevantSet.{CaaRecord, Lookup, empty, found, endless}
 use Rattle.spec_rule.specs.Verdicts.{denial}
 use Rattle.spec_rule.specs.Meaning.{UnknownCriticalRecord, Governs}
-use Rattle.spec_rule.specs.Calls.{firstRefusal, judgementCode}
+use Rattle.spec_rule.specs.Calls.{judgementCode}
 use Rattle.spec_packed.specs.Packed.{numberIn, fieldA, fieldB, fieldC}
-use Rattle.spec_answers.specs.Door.{BookTable, row-5, row-6, row-7, row-12, NoneHolds}
+use Rattle.spec_answers.specs.Door.{row-5, row-6, row-7, row-12, NoneHolds}
 use Rattle.spec_answers.proofs.DoorRows.{one-of, none-holds, never-refuses}
 use Rattle.spec_answers.proofs.DoorWords.{judge-a, judge-b, judge-c}
 use Rattle.spec_session.specs.declared.Session.{Session}
 use Rattle.spec_session.specs.declared.SessionAnswer.{SessionAnswer}
 use Rattle.spec_session.specs.declared.SessionAnswer.the-variants.{Asks, Judged}
-use Rattle.spec_session.specs.Sessions.{held, keptName, keptApplicant, isAsking, asked, state}
-use Rattle.spec_session.specs.Steps.{endedRefusal, goesTo, oneUp, concluded, byLookup, answered, book, isRefusal, sessionCode}
+use Rattle.spec_session.specs.Sessions.{held, keptName, keptApplicant, asked, state}
+use Rattle.spec_session.specs.Steps.{oneUp, concluded, answered, book, isRefusal, sessionCode}
 use Rattle.spec_session.proofs.Kept.{one-name-read}
-use Rattle.spec_session.proofs.StepLaws.{asks-nothing, ended-refuses, refused-book, answer-refusals, state-tells}
-use Rattle.spec_session.proofs.Trails.{OnCourse, one-up-course, asks-next}
-use Rattle.spec_session.proofs.Runs.{concluded-stands}
+use Rattle.spec_session.proofs.StepLaws.{answer-refusals}
+use Rattle.spec_session.proofs.Trails.{one-up-course, asks-next}
 use Rattle.spec_session_words.specs.SessionWords.{packedSession, caaSessionAnswer, caaSessionState}
-use Rattle.spec_session_words.specs.SessionDoor.{row-14, AnswerTable, TellsName, IsFor, WithoutLabels, SameTexts, Accepts, Finds, NoneCritical, Granted, PermittedBy, AnswerWord, Caa-session-answer}
+use Rattle.spec_session_words.specs.SessionDoor.{row-14, AnswerTable, TellsName, WithoutLabels, SameTexts, Accepts, Finds, NoneCritical, Granted, PermittedBy, AnswerWord, Caa-session-answer}
 use Rattle.spec_session_words.proofs.States
 use Rattle.spec_session_words.proofs.States.{Asking}
 use Rattle.spec_session_words.proofs.WordAnswers.{HoldsAnswer, of-session, c-small, judged, word-0, word-20, word-21, word-22, word-40}
@@ -48,8 +42,9 @@ use Rattle.spec_session_words.proofs.ToldNames.{held-octets}
 use Rattle.spec_session_words.proofs.StepFits.{step-fits}
 use Rattle.spec_session_words.proofs.SessionRows.{answer-rows, word-holds, refused-word}
 use Rattle.spec_session_words.proofs.StepWords
-use Rattle.spec_session_words.proofs.StateDoor.{named, next-is, asked-above, asked-exactly}
-use Rattle.spec_session_words.proofs.Rulings.{ruling, Ruled, ruled-exactly}
+use Rattle.spec_session_words.proofs.StateDoor.{next-is, kept-is, asked-above, asked-exactly}
+use Rattle.spec_session_words.proofs.Rulings.{Ruled, ruled-exactly}
+use Rattle.spec_session_words.proofs.AnswerWays.{had, rule, Climbs, Ways, course, ways}
 
 -- the numbers of the rows
 row-number : {s : Session} {b : List ℕ} {n p : ℕ} → AnswerTable s b n p → List·Memᴰ n (14 ∷ 5 ∷ 6 ∷ 7 ∷ 12 ∷ 40 ∷ 0 ∷ 20 ∷ 21 ∷ 22 ∷ [])
@@ -71,76 +66,8 @@ asks-judged : {o l : ℕ} {j : Judgement} → Asks o l ≡ Judged j → ⊥
 asks-judged e = let z : _≡_ {A = ℕ} 0 1 = cc in omega arith
 
 module _ (s : Session) (b : List ℕ) where
-  abbrev x : SessionAnswer
-  x = answered s b .answer
-
   abbrev after : Session
   after = answered s b .session
-
-  -- what the book has for the name y, and what the rule says of it
-  abbrev had : Name → Lookup
-  had y = lookup (asBook (records b)) y
-
-  abbrev rule : Name → Lookup → Judgement
-  rule n l = ruling (keptApplicant s) (isWildcard n) (held (s .issuer)) (s .up) l
-
-  -- the three ways
-  pub record Climbs : Type 0 where
-    pub from : Asking s
-    pub nothing : had (from .next) ≡ empty
-    pub parent : suc (s .up) < length (base (from .kept))
-    pub goes : answered s b ≡ goesTo (oneUp s)
-
-  pub record Decides : Type 0 where
-    pub from : Asking s
-    pub why : (had (from .next) ≢ empty) ⊎ (suc (s .up) ≡ length (base (from .kept)))
-    pub goes : answered s b ≡ goesTo (concluded s (from .kept) (had (from .next)))
-    pub says : answered s b .answer ≡ Judged (rule (from .kept) (had (from .next)))
-
-  abbrev Refuses : Type 0
-  Refuses = (r : Refusal) × (answered s b ≡ record { answer = Judged (Refused r); session = s })
-
-  read : (h : Asking s) → bookRefusal b ≡ none → answered s b ≡ goesTo (byLookup s (h .kept) (had (h .next)))
-  unfolding answered endedRefusal
-  read h e = rw (h .takes, e, h .is-kept, h .is-next) refl
-
-  course : (h : Asking s) → OnCourse (held (s .issuer)) (keptApplicant s) (h .kept) s
-  course h = record { takes = h .takes; of-name = h .is-kept; of-issuer = refl; of-applicant = refl }
-
-  concluded-says : (h : Asking s) → state (concluded s (h .kept) (had (h .next))) ≡ Judged (rule (h .kept) (had (h .next)))
-  concluded-says h = rw (h .is-next) (state-tells (concluded s (h .kept) (had (drop (s .up) (base (h .kept))))) .1 _ (concluded-stands _ _ _ (course h) b))
-
-  accepted : (h : Asking s) → bookRefusal b ≡ none → Climbs ⊎ Decides
-  accepted h e = by-lookup (had (h .next)) refl (read h e)
-    where
-      decides :
-          (l : Lookup) → had (h .next) ≡ l → answered s b ≡ goesTo (concluded s (h .kept) l) →
-          (had (h .next) ≢ empty) ⊎ (suc (s .up) ≡ length (base (h .kept))) → Climbs ⊎ Decides
-      decides l f g why =
-          let goes : answered s b ≡ goesTo (concluded s (h .kept) (had (h .next))) = g ∙ ap (λ m. goesTo (concluded s (h .kept) m)) (sym f) in
-          inr (record { from = h; why = why; goes = goes; says = ap (λ t. t .answer) goes ∙ concluded-says h })
-
-      by-label :
-          (t : Bool) → ltb (suc (s .up)) (length (base (h .kept))) ≡ t → had (h .next) ≡ empty →
-          answered s b ≡ goesTo (cond t (oneUp s) (concluded s (h .kept) empty)) → Climbs ⊎ Decides
-      by-label true u f g = inl (record { from = h; nothing = f; parent = ltb-true _ _ u; goes = g })
-      by-label false u f g = decides empty f g (inr (omega (arith, ltb-false (suc (s .up)) (length (base (h .kept))) u, h .below)))
-
-      by-lookup : (l : Lookup) → had (h .next) ≡ l → answered s b ≡ goesTo (byLookup s (h .kept) l) → Climbs ⊎ Decides
-      by-lookup empty f g = by-label (ltb (suc (s .up)) (length (base (h .kept)))) refl f g
-      by-lookup (found rs) f g = decides (found rs) f g (inl (λ z. true≢false (let v = sym f ∙ z in cc)))
-      by-lookup (endless r) f g = decides (endless r) f g (inl (λ z. true≢false (let v = sym f ∙ z in cc)))
-
-  ways : Refuses ⊎ Climbs ⊎ Decides
-  ways = by-asking (isAsking s) refl
-    where
-      by-book : Asking s → (o : Option Refusal) → bookRefusal b ≡ o → Refuses ⊎ Climbs ⊎ Decides
-      by-book h none e = inr (accepted h e)
-      by-book h (some r) e = inl (r, refused-book s b r (λ z. Option·none-ne-some (h .next) (sym z ∙ h .asks-next)) e)
-
-      by-asking : (t : Bool) → isAsking s ≡ t → Refuses ⊎ Climbs ⊎ Decides
-      by-asking true t = by-book (States.asking s t) (bookRefusal b) refl
-      by-asking false t = inl (_, ended-refuses s (book b) (asks-nothing s t))
 
   abbrev w : ℕ
   w = caaSessionAnswer s b .word
@@ -152,21 +79,21 @@ module _ (s : Session) (b : List ℕ) where
   holds = word-holds (answered s b .answer) (step-fits s (book b))
 
   -- the parent is asked for
-  climbed : (c : Climbs) → (asked after ≡ some (drop 1 (c .from .next))) × (caaSessionState after ≡ w)
+  climbed : (c : Climbs s b) → (asked after ≡ some (drop 1 (c .from .next))) × (caaSessionState after ≡ w)
   climbed c =
       let h = c .from in
-      let up = one-up-course _ _ _ (course h) (c .parent) in
+      let up = one-up-course _ _ _ (course s b h) (c .parent) in
       let z = base (h .kept) in
       let count : suc (s .up) ≡ s .up + 1 = omega arith in
       let one-more : drop (suc (s .up)) z ≡ drop 1 (h .next) = ap (λ k. drop k z) count ∙ sym (drop-drop 1 (s .up) z) ∙ ap (drop 1) (sym (h .is-next)) in
       (ap (λ t. asked (t .session)) (c .goes) ∙ asks-next _ _ _ up ∙ ap some one-more, ap (λ t. packedSession (state (t .session))) (c .goes) ∙ sym (ap (λ t. packedSession (t .answer)) (c .goes)))
 
-  tells-parent : (c : Climbs) → TellsName w after (drop 1 (c .from .next))
+  tells-parent : (c : Climbs s b) → TellsName w after (drop 1 (c .from .next))
   tells-parent c = let (e, f) = climbed c in rw f at (asked-exactly after (drop 1 (c .from .next)) .0 e)
 
-  climb-asks : (c : Climbs) → (o l : ℕ) × (answered s b .answer ≡ Asks o l)
+  climb-asks : (c : Climbs s b) → (o l : ℕ) × (answered s b .answer ≡ Asks o l)
   climb-asks c =
-      let up = States.asking (oneUp s) (one-up-course _ _ _ (course (c .from)) (c .parent) .takes) in
+      let up = States.asking (oneUp s) (one-up-course _ _ _ (course s b (c .from)) (c .parent) .takes) in
       (length (up .front), length (wire (up .next)), ap (λ t. t .answer) (c .goes) ∙ up .in-words)
 
   -- the labels of the name asked for
@@ -187,17 +114,11 @@ module _ (s : Session) (b : List ℕ) where
     unfolding keptName
     accepts h no-row = (no-row, one-name-read (held (s .name)) (held-octets (s .name) octets) (h .kept) .0 (h .is-kept), h .asks-next)
 
-    same-kept : (h : Asking s) {n y : Name} → Accepts s b n y → h .kept ≡ n
-    same-kept h (no-row, (whole, good), e) = one-name (h .good) (good .0) (sym (h .whole) ∙ whole)
-
-    same-next : (h : Asking s) {n y : Name} → Accepts s b n y → h .next ≡ y
-    same-next h (no-row, is-for, e) = next-is h e
-
     -- 40
     abbrev Next : Type 0
     Next = (n y : Name) × Accepts s b n y × Finds b y empty × (1 < length y)
 
-    next-there : Refuses ⊎ Climbs ⊎ Decides → numberIn w ≡ 40 → Next
+    next-there : Ways s b → numberIn w ≡ 40 → Next
     next-there (inl (r, f)) e =
         let (low, high) = StepWords.refusal-told (answered s b .answer) (step-fits s (book b)) (ap (λ t. isRefusal (t .answer)) f) in
         absurd (omega (arith, high))
@@ -207,59 +128,59 @@ module _ (s : Session) (b : List ℕ) where
         (c .from .kept, c .from .next, accepts (c .from) (none-held calm), c .nothing, omega (arith, c .parent, labels-left (c .from)))
     next-there (inr (inr c)) e = absurd (asks-judged (sym (word-40 _ _ _ _ (answered s b .answer) holds e) ∙ c .says))
 
-    next-back : Refuses ⊎ Climbs ⊎ Decides → Next → numberIn w ≡ 40
+    next-back : Ways s b → Next → numberIn w ≡ 40
     next-back (inl (r, f)) (n, y, acc, e, more) = absurd (never (acc .0) r (ap (λ t. t .answer) f))
     next-back (inr (inl c)) (n, y, acc, e, more) = tells-parent c .0
     next-back (inr (inr c)) (n, y, acc, e, more) = absurd (not-both (c .why))
       where
-        not-both : (had (c .from .next) ≢ empty) ⊎ (suc (s .up) ≡ length (base (c .from .kept))) → ⊥
-        not-both (inl h) = h (rw (same-next (c .from) acc) e)
-        not-both (inr h) = omega (arith, more, labels-left (c .from), ap length (same-next (c .from) acc))
+        not-both : (had b (c .from .next) ≢ empty) ⊎ (suc (s .up) ≡ length (base (c .from .kept))) → ⊥
+        not-both (inl h) = h (rw (next-is (c .from) (acc .2)) e)
+        not-both (inr h) = omega (arith, more, labels-left (c .from), ap length (next-is (c .from) (acc .2)))
 
-    next-name : Refuses ⊎ Climbs ⊎ Decides → numberIn w ≡ 40 → (y : Name) → asked s ≡ some y → (asked after ≡ some (drop 1 y)) × TellsName w after (drop 1 y)
+    next-name : Ways s b → numberIn w ≡ 40 → (y : Name) → asked s ≡ some y → (asked after ≡ some (drop 1 y)) × TellsName w after (drop 1 y)
     next-name (inr (inl c)) e y f = let same = next-is (c .from) f in (climbed c .0 ∙ ap (λ z. some (drop 1 z)) same, rw same at (tells-parent c))
     next-name (inl g) e y f = let (n, z, acc, nothing, more) = next-there (inl g) e in absurd (never (acc .0) (g .0) (ap (λ t. t .answer) (g .1)))
     next-name (inr (inr c)) e y f = absurd (asks-judged (sym (word-40 _ _ _ _ (answered s b .answer) holds e) ∙ c .says))
 
     -- a verdict j
     abbrev Ended : Name → Type 0
-    Ended y = (had y ≢ empty) ⊎ (length y ≡ 1)
+    Ended y = (had b y ≢ empty) ⊎ (length y ≡ 1)
 
     abbrev By : Name → Name → Judgement → Type 0
-    By n y j = Ruled (keptApplicant s) (isWildcard n) (held (s .issuer)) (s .up) (had y) j
+    By n y j = Ruled (keptApplicant s) (isWildcard n) (held (s .issuer)) (s .up) (had b y) j
 
     abbrev Verdict : Judgement → Type 0
     Verdict j = (n y : Name) × Accepts s b n y × Ended y × By n y j
 
     decided-exactly : (j : Judgement) → isRefusal (Judged j) ≡ false → (answered s b .answer ≡ Judged j) ↔ Verdict j
-    decided-exactly j calm = (λ e. there ways e, λ h. back ways h)
+    decided-exactly j calm = (λ e. there (ways s b) e, λ h. back (ways s b) h)
       where
-        exactly : (n y : Name) → (rule n (had y) ≡ j) ↔ By n y j
-        exactly n y = ruled-exactly (keptApplicant s) (isWildcard n) (held (s .issuer)) (s .up) (had y) j
+        exactly : (n y : Name) → (rule s n (had b y) ≡ j) ↔ By n y j
+        exactly n y = ruled-exactly (keptApplicant s) (isWildcard n) (held (s .issuer)) (s .up) (had b y) j
 
-        ended : (h : Asking s) → (had (h .next) ≢ empty) ⊎ (suc (s .up) ≡ length (base (h .kept))) → Ended (h .next)
+        ended : (h : Asking s) → (had b (h .next) ≢ empty) ⊎ (suc (s .up) ≡ length (base (h .kept))) → Ended (h .next)
         ended h (inl f) = inl f
         ended h (inr f) = inr (omega (arith, labels-left h))
 
-        there : Refuses ⊎ Climbs ⊎ Decides → answered s b .answer ≡ Judged j → Verdict j
+        there : Ways s b → answered s b .answer ≡ Judged j → Verdict j
         there (inl (r, f)) e = absurd (judged-refused {j = j} calm (sym e ∙ ap (λ t. t .answer) f))
         there (inr (inl c)) e = let (o, l, f) = climb-asks c in absurd (asks-judged (sym f ∙ e))
         there (inr (inr c)) e =
             let h = c .from in
             let says = sym (c .says) ∙ e in
-            let same : rule (h .kept) (had (h .next)) ≡ j = cc in
+            let same : rule s (h .kept) (had b (h .next)) ≡ j = cc in
             (h .kept, h .next, accepts h (none-held (λ r g. judged-refused {j = j} calm (sym e ∙ g))), ended h (c .why), exactly (h .kept) (h .next) .0 same)
 
-        not-climbing : (c : Climbs) {n y : Name} → Accepts s b n y → Ended y → ⊥
-        not-climbing c acc (inl f) = f (rw (← same-next (c .from) acc) (c .nothing))
-        not-climbing c acc (inr f) = omega (arith, c .parent, labels-left (c .from), ap length (same-next (c .from) acc))
+        not-climbing : (c : Climbs s b) {n y : Name} → Accepts s b n y → Ended y → ⊥
+        not-climbing c acc (inl f) = f (rw (← next-is (c .from) (acc .2)) (c .nothing))
+        not-climbing c acc (inr f) = omega (arith, c .parent, labels-left (c .from), ap length (next-is (c .from) (acc .2)))
 
-        back : Refuses ⊎ Climbs ⊎ Decides → Verdict j → answered s b .answer ≡ Judged j
+        back : Ways s b → Verdict j → answered s b .answer ≡ Judged j
         back (inl (r, f)) (n, y, acc, end, h) = absurd (never (acc .0) r (ap (λ t. t .answer) f))
         back (inr (inl c)) (n, y, acc, end, h) = absurd (not-climbing c acc end)
         back (inr (inr c)) (n, y, acc, end, h) =
-            c .says ∙ ap (λ m. Judged (rule m (had (c .from .next)))) (same-kept (c .from) acc)
-            ∙ ap (λ z. Judged (rule n (had z))) (same-next (c .from) acc) ∙ ap Judged (exactly n y .1 h)
+            c .says ∙ ap (λ m. Judged (rule s m (had b (c .from .next)))) (kept-is (c .from) (acc .1))
+            ∙ ap (λ z. Judged (rule s n (had b z))) (next-is (c .from) (acc .2)) ∙ ap Judged (exactly n y .1 h)
 
     permitted-exactly :
         (numberIn w ≡ 0)
@@ -298,7 +219,7 @@ module _ (s : Session) (b : List ℕ) where
         (numberIn w ≡ v → answered s b .answer ≡ Judged (is (denial (fieldA w) (fieldB w) (fieldC w)))) →
         ((k r u : ℕ) → Word (Judged (is (denial k r u))) → (numberIn w ≡ v) × (fieldA w ≡ k) × (fieldB w ≡ r) × (fieldC w ≡ u)) →
         ((n y : Name) (k r u : ℕ) → By n y (is (denial k r u)) ↔ ((k ≡ 0) × (u ≡ s .up) × P n y r)) →
-        ((n y : Name) (r : ℕ) → P n y r → had y ≢ empty) → (k r u : ℕ) →
+        ((n y : Name) (r : ℕ) → P n y r → had b y ≢ empty) → (k r u : ℕ) →
         ((numberIn w ≡ v) × (fieldA w ≡ k) × (fieldB w ≡ r) × (fieldC w ≡ u))
         ↔ ((n y : Name) × Accepts s b n y × (k ≡ 0) × WithoutLabels n u y × P n y r)
     denied-exactly v is P calm meant told by-rule found-some k r u = (
@@ -319,10 +240,10 @@ module _ (s : Session) (b : List ℕ) where
             let here = same-off n y u (s .up) off (asked-above s (acc .1) (acc .2)) in
             (n, y, acc, inl (found-some n y r p), by-rule n y k r u .1 (zero, here, p))
 
-    not-empty : (y : Name) (l : Lookup) → l ≢ empty → Finds b y l → had y ≢ empty
+    not-empty : (y : Name) (l : Lookup) → l ≢ empty → Finds b y l → had b y ≢ empty
     not-empty y l h e z = h (sym e ∙ z)
 
-    number-found : Refuses ⊎ Climbs ⊎ Decides → List·Memᴰ (numberIn w) (14 ∷ 5 ∷ 6 ∷ 7 ∷ 12 ∷ 40 ∷ 0 ∷ 20 ∷ 21 ∷ 22 ∷ [])
+    number-found : Ways s b → List·Memᴰ (numberIn w) (14 ∷ 5 ∷ 6 ∷ 7 ∷ 12 ∷ 40 ∷ 0 ∷ 20 ∷ 21 ∷ 22 ∷ [])
     unfolding sessionCode judgementCode
     number-found (inl (r, f)) =
         let e = ap (λ t. t .answer) f in
@@ -330,7 +251,7 @@ module _ (s : Session) (b : List ℕ) where
         rw (of-session _ _ _ _ e holds .0) (row-number (answer-rows s b .table-of r row))
     number-found (inr (inl c)) = rw (tells-parent c .0) (one-of 40 _ refl)
     number-found (inr (inr c)) =
-        by-judgement (rule (c .from .kept) (had (c .from .next))) (ruled-exactly _ _ _ _ (had (c .from .next)) _ .0 refl) (of-session _ _ _ _ (c .says) holds)
+        by-judgement (rule s (c .from .kept) (had b (c .from .next))) (ruled-exactly _ _ _ _ (had b (c .from .next)) _ .0 refl) (of-session _ _ _ _ (c .says) holds)
       where
         by-judgement : (j : Judgement) → By (c .from .kept) (c .from .next) j → Word (Judged j) → List·Memᴰ (numberIn w) (14 ∷ 5 ∷ 6 ∷ 7 ∷ 12 ∷ 40 ∷ 0 ∷ 20 ∷ 21 ∷ 22 ∷ [])
         by-judgement Permitted by h = rw (h .0) (one-of 0 _ refl)
@@ -339,18 +260,18 @@ module _ (s : Session) (b : List ℕ) where
         by-judgement (TooManyAliases d) by h = rw (h .0) (one-of 22 _ refl)
         by-judgement (Refused r) by h = absurd by
 
-    texts-stay : Refuses ⊎ Climbs ⊎ Decides → SameTexts after s
+    texts-stay : Ways s b → SameTexts after s
     texts-stay (inl (r, f)) = same-texts s after s (ap (λ t. t .session) f) (refl, refl, refl, refl)
     texts-stay (inr (inl c)) = same-texts s after (oneUp s) (ap (λ t. t .session) (c .goes)) (refl, refl, refl, refl)
-    texts-stay (inr (inr c)) = same-texts s after (concluded s (c .from .kept) (had (c .from .next))) (ap (λ t. t .session) (c .goes)) (refl, refl, refl, refl)
+    texts-stay (inr (inr c)) = same-texts s after (concluded s (c .from .kept) (had b (c .from .next))) (ap (λ t. t .session) (c .goes)) (refl, refl, refl, refl)
 
     pub answer-says : AnswerWord s b (caaSessionAnswer s b .word) (caaSessionAnswer s b .session)
     unfolding sessionCode judgementCode
     answer-says = record {
       refused-exactly = refused-word (answered s b .answer) (step-fits s (book b)) (answer-rows s b) (answer-refusals s (book b) book-octets);
       refused-unchanged = StepWords.refused-unchanged s (book b);
-      next-exactly = (next-there ways, next-back ways);
-      next-name = next-name ways;
+      next-exactly = (next-there (ways s b), next-back (ways s b));
+      next-name = next-name (ways s b);
       permitted-exactly = permitted-exactly;
       unknown-critical-exactly = denied-exactly 20 UnknownCritical
           (λ n y r. (rs : List CaaRecord) × (c : CaaRecord) × Finds b y (found rs) × First UnknownCriticalRecord rs c × (c .number ≡ r))
@@ -365,8 +286,8 @@ module _ (s : Session) (b : List ℕ) where
           (λ d. refl) (word-22 _ _ _ _ (answered s b .answer) holds) (λ k r u h. h) (λ n y k r u. (λ h. h, λ h. h))
           (λ n y r e. not-empty y (endless r) (λ (z : endless r ≡ empty). true≢false (cc)) e);
       state-after = StepWords.state-after s (book b);
-      texts-stay = texts-stay ways;
-      numbers = number-found ways;
+      texts-stay = texts-stay (ways s b);
+      numbers = number-found (ways s b);
       c-small = c-small _ _ _ _ (answered s b .answer) (step-fits s (book b)) holds;
       b-unused = λ low. let (j, e, h) = judged _ _ _ _ (answered s b .answer) holds (omega arith) in judge-b _ _ _ _ j h low;
       c-unused = ⊎-elim

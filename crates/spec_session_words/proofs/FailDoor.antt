@@ -1,10 +1,9 @@
 -- The word of caa_session_fail: 14, or 23.
-use Prim.Native.Nat.{ℕ, _≤_}
+use Prim.Native.Nat.{ℕ}
 use native.Mathlib.Omega.{arith}
 use mathlib.Core.Path.{_≡_, refl, ap, sym, _∙_}
 use mathlib.Core.Logic.{_↔_, _≢_, _⊎_, inl, inr, ⊎-elim}
-use mathlib.Core.Bool.{Bool, true, false, true≢false}
-use mathlib.Core.List.{List, [], _∷_, List·Memᴰ}
+use mathlib.Core.Bool.{true, false}
 use mathlib.Core.Option.{none, some, Option·none-ne-some}
 use Rattle.spec_refusal.specs.declared.Refusal.the-variants.{SessionEnded}
 use Rattle.spec_refusal.specs.Refusal.{number, place}
@@ -19,12 +18,12 @@ use Rattle.spec_session.specs.declared.Session.{Session}
 use Rattle.spec_session.specs.declared.SessionAnswer.{SessionAnswer}
 use Rattle.spec_session.specs.declared.SessionAnswer.the-variants.{Judged, LookupFailed}
 use Rattle.spec_session.specs.Sessions.{isAsking, asked}
-use Rattle.spec_session.specs.Steps.{sessionCode, endedRefusal, refusedWith, goesTo, closedWith, failed, lookupFailed}
+use Rattle.spec_session.specs.Steps.{sessionCode, endedRefusal, failed, lookupFailed}
 use Rattle.spec_session.proofs.StepLaws.{asks-nothing, ended-refuses, failed-ends, answer-refusals}
 use Rattle.spec_session_words.specs.SessionWords.{caaSessionFail}
 use Rattle.spec_session_words.specs.SessionDoor.{SameTexts, FailWord, Caa-session-fail}
 use Rattle.spec_session_words.proofs.States
-use Rattle.spec_session_words.proofs.WordAnswers.{HoldsAnswer, of-session, word-23}
+use Rattle.spec_session_words.proofs.WordAnswers.{HoldsAnswer, of-session}
 use Rattle.spec_session_words.proofs.StepFits.{step-fits}
 use Rattle.spec_session_words.proofs.SessionRows.{ended-rows, word-holds, refused-word}
 use Rattle.spec_session_words.proofs.StepWords.{refused-unchanged, state-after}

@@ -9,6 +9,7 @@ pub mod StepWords
 pub mod FailDoor
 pub mod OpenDoor
 pub mod Rulings
+pub mod AnswerWays
 pub mod AnswerDoor
 pub mod RunDoor
 pub mod Table

@@ -2,8 +2,8 @@
 use Prim.Native.Nat.{ℕ, _+_, _≤_}
 use native.Mathlib.Omega.{arith}
 use mathlib.Core.Path.{_≡_, refl, ap, sym, _∙_}
-use mathlib.Core.Logic.{_↔_, _⊎_, inl, inr, ⊎-elim}
-use mathlib.Core.Bool.{Bool, true, false, cond, true≢false, false≢true}
+use mathlib.Core.Logic.{_⊎_, inl, inr, ⊎-elim}
+use mathlib.Core.Bool.{Bool, true, false, cond, false≢true}
 use mathlib.Core.List.{List, [], _∷_, append-nil, List·Memᴰ}
 use mathlib.Core.Option.{Option, none, some, Option·none-ne-some}
 use lib.Dec.{ltb}
@@ -11,7 +11,6 @@ use lib.ListN.{length, length-append}
 use Rattle.spec_limits.specs.Limits.{maxRequestOctets}
 use Rattle.spec_refusal.specs.declared.Refusal.{Refusal}
 use Rattle.spec_refusal.specs.declared.Refusal.the-variants.{RequestTooLong}
-use Rattle.spec_refusal.specs.Refusal.{number, place}
 use Rattle.spec_octets.specs.Octets.{Octets, text}
 use Rattle.spec_octets.proofs.ListLaws.{true-or-false}
 use Rattle.spec_octets.proofs.Texts.{same-equal}
@@ -25,22 +24,20 @@ use Rattle.spec_applicant.proofs.Texts.{applicant-refusals}
 use Rattle.spec_rule.specs.declared.Judgement.the-variants.{Permitted, UnknownCritical, NotGranted, TooManyAliases, Refused}
 use Rattle.spec_rule.specs.Calls.{firstRefusal, judgementCode}
 use Rattle.spec_packed.specs.Packed.{numberIn, fieldA, fieldB, fieldC}
-use Rattle.spec_answers.specs.Door.{NoneHolds}
 use Rattle.spec_answers.proofs.DoorRows.{one-of, among, none-holds, never-refuses}
 use Rattle.spec_session.specs.declared.Session.{Session}
 use Rattle.spec_session.specs.declared.SessionAnswer.{SessionAnswer}
 use Rattle.spec_session.specs.declared.SessionAnswer.the-variants.{Asks, Judged, LookupFailed, NoVerdict}
-use Rattle.spec_session.specs.Sessions.{maxTextOctets, held, textOf, keptApplicant, asked, state}
+use Rattle.spec_session.specs.Sessions.{maxTextOctets, held, textOf, keptApplicant}
 use Rattle.spec_session.specs.Steps.{restRefusal, oneNameRefusal, openChecks, sessionOf, endedSession, openedOr, opened, isRefusal, sessionCode}
-use Rattle.spec_session.specs.Meaning.{OpenRow, GoodOpening}
+use Rattle.spec_session.specs.Meaning.{GoodOpening}
 use Rattle.spec_session.proofs.Opening.{open-keeps, open-refusals, refused-opening, good-opening, opens, start-name, start-issuer, start-applicant}
 use Rattle.spec_session_words.specs.SessionWords.{packedSession, caaSessionOpen, caaSessionState}
-use Rattle.spec_session_words.specs.SessionDoor.{OpenTable, Refuses, zeroSession, TellsName, OpenWord, Caa-session-open}
+use Rattle.spec_session_words.specs.SessionDoor.{Refuses, zeroSession, TellsName, OpenWord, Caa-session-open}
 use Rattle.spec_session_words.proofs.WordAnswers.{HoldsAnswer, of-session, word-40}
 use Rattle.spec_session_words.proofs.StepFits.{open-fits}
 use Rattle.spec_session_words.proofs.SessionRows.{open-rows, word-holds, refused-word}
 use Rattle.spec_session_words.proofs.StepWords.{refusal-meant, refusal-told}
-use Rattle.spec_session_words.proofs.States.{Says}
 use Rattle.spec_session_words.proofs.StateDoor.{asked-exactly, nothing-said}
 
 -- what is refused has its refusal

@@ -4,8 +4,8 @@ use mathlib.Core.Path.{_≡_, refl, ap, sym, _∙_}
 use mathlib.Core.Logic.{_↔_, _⊎_, inl, inr}
 use mathlib.Core.Bool.{Bool, true, false, cond, true≢false}
 use mathlib.Core.List.{List, [], _∷_}
-use Rattle.spec_octets.specs.Lists.{any, select, All, Any, First, Selects}
-use Rattle.spec_octets.specs.Octets.{same, lowered}
+use Rattle.spec_octets.specs.Lists.{select, All, Any, First, Selects}
+use Rattle.spec_octets.specs.Octets.{lowered}
 use Rattle.spec_octets.proofs.ListLaws.{not-passed}
 use Rattle.spec_octets.proofs.SelectLaws.{selects-none, selects-first, first-selects, any-kept, any-of-kept}
 use Rattle.spec_applicant.specs.Applicant.{Applicant}

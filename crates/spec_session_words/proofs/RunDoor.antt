@@ -1,17 +1,14 @@
 -- A session from a good opening on, by the words of its calls.
-use Prim.Native.Nat.{ℕ, _≤_, _<_}
+use Prim.Native.Nat.{ℕ}
 use native.Mathlib.Omega.{arith}
 use mathlib.Core.Path.{_≡_, refl, ap, sym, _∙_}
-use mathlib.Core.Logic.{_≢_, _⊎_, inl, inr, ⊎-elim}
-use mathlib.Core.Bool.{Bool, not}
+use mathlib.Core.Logic.{_≢_, ⊎-elim}
 use mathlib.Core.List.{List, [], _∷_, List·Memᴰ, List·Memᴰ·cases-cons}
 use mathlib.Core.Option.{Option, none, some, Option·none-ne-some}
-use lib.ListN.{length, drop}
 use Rattle.spec_refusal.specs.declared.Refusal.{Refusal}
-use Rattle.spec_octets.specs.Lists.{All, consIf}
+use Rattle.spec_octets.specs.Lists.{All}
 use Rattle.spec_octets.specs.Octets.{Octets}
 use Rattle.spec_name.specs.Names.{Name}
-use Rattle.spec_request.specs.Request.{base}
 use Rattle.spec_applicant.specs.Applicant.{Applicant}
 use Rattle.spec_record.specs.Records.{bookRefusal}
 use Rattle.spec_rule.specs.declared.Judgement.{Judgement}
@@ -20,7 +17,7 @@ use Rattle.spec_rule.specs.Calls.{firstRefusal, judge, judgementCode}
 use Rattle.spec_rule.specs.Theorems.{renumberedVerdict}
 use Rattle.spec_rule.proofs.CheckOrder.{first-row}
 use Rattle.spec_rule.proofs.RefusalLaws.{book-keeps}
-use Rattle.spec_packed.specs.Packed.{numberIn, fieldA, fieldB, fieldC}
+use Rattle.spec_packed.specs.Packed.{numberIn, fieldA, fieldC}
 use Rattle.spec_answers.specs.Answers.{valueOf}
 use Rattle.spec_answers.specs.Door.{caaJudgeFor, BookTable, NoneHolds}
 use Rattle.spec_answers.proofs.DoorRows.{book-rows, never-refuses}
@@ -28,14 +25,14 @@ use Rattle.spec_answers.proofs.JudgementUnpacks.{judgement-unpacks}
 use Rattle.spec_session.specs.declared.Session.{Session}
 use Rattle.spec_session.specs.declared.SessionAnswer.{SessionAnswer}
 use Rattle.spec_session.specs.declared.SessionAnswer.the-variants.{Judged, NoVerdict}
-use Rattle.spec_session.specs.Sessions.{asked, standing, state}
+use Rattle.spec_session.specs.Sessions.{standing, state}
 use Rattle.spec_session.specs.Steps.{opened, sessionCode, Answer, book, lookupFailed, step, after, accepted}
 use Rattle.spec_session.specs.Meaning.{GoodOpening, Agrees}
 use Rattle.spec_session.specs.Theorems.{sessionAfter, acceptedOf}
 use Rattle.spec_session.proofs.StepLaws.{state-tells}
 use Rattle.spec_session.proofs.Runs.{asked-in-turn, asks-or-stands, verdict-stands}
 use Rattle.spec_session.proofs.WholeBook.{as-the-whole-book}
-use Rattle.spec_session_words.specs.SessionWords.{caaSessionOpen, caaSessionState}
+use Rattle.spec_session_words.specs.SessionWords.{caaSessionState}
 use Rattle.spec_session_words.specs.SessionDoor.{afterCalls, acceptedCalls, RunWord, Caa-session-run}
 use Rattle.spec_session_words.proofs.WordAnswers.{word-41}
 use Rattle.spec_session_words.proofs.ToldNames.{state-word}

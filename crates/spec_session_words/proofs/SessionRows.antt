@@ -1,6 +1,6 @@
 -- The refusals of the session calls, by number and place: the table's rows, and the first that holds.
 use Prim.Native.Nat.{ℕ, _≤_}
-use mathlib.Core.Path.{_≡_, refl, sym, _∙_}
+use mathlib.Core.Path.{_≡_, refl}
 use mathlib.Core.Logic.{_↔_, inl, inr}
 use mathlib.Core.List.{List}
 use Rattle.spec_refusal.specs.declared.Refusal.{Refusal}

@@ -1,37 +1,30 @@
 -- Unpacking the word of a session gives the number and the values of the answer: each fits its field.
-use Prim.Native.Nat.{ℕ, _+_, _-_, _^_, _≤_, _<_}
+use Prim.Native.Nat.{ℕ, _+_, _^_, _≤_, _<_}
 use native.Mathlib.Omega.{arith}
-use mathlib.Core.Path.{_≡_, refl, ap, sym, _∙_}
-use mathlib.Core.Bool.{Bool, true, false, cond, _&&_, and-eq-true-iff}
-use mathlib.Core.List.{List, [], _∷_, _++_, append-nil}
+use mathlib.Core.Path.{_≡_, refl}
+use mathlib.Core.Bool.{Bool, true, false, cond}
+use mathlib.Core.List.{[], _∷_}
 use mathlib.Core.Option.{Option, none, some, Option·none-ne-some, Option·some-injective}
 use lib.Dec.{eqb, ltb}
-use lib.ListN.{length, drop, length-append}
+use lib.ListN.{length, length-append}
 use borrow.Author.Tests.{eqb-true, ltb-true}
-use Rattle.spec_limits.specs.Limits.{maxNames, maxNameOctets, maxRecords}
-use Rattle.spec_refusal.specs.declared.Refusal.{Refusal}
-use Rattle.spec_refusal.specs.declared.Refusal.the-variants.{SessionEnded}
-use Rattle.spec_refusal.specs.Refusal.{place}
+use Rattle.spec_limits.specs.Limits.{maxNameOctets, maxRecords}
 use Rattle.spec_octets.specs.Lists.{All, all-nil, all-cons}
 use Rattle.spec_name.specs.Names.{Name, wire, GoodName}
 use Rattle.spec_name.proofs.NameLaws.{GoodLabel}
 use Rattle.spec_request.specs.Request.{base}
 use Rattle.spec_request.proofs.RequestedNames.{good-base}
-use Rattle.spec_rule.specs.declared.Judgement.{Judgement}
 use Rattle.spec_rule.specs.declared.Judgement.the-variants.{Permitted, UnknownCritical, NotGranted, TooManyAliases, Refused}
 use Rattle.spec_rule.specs.Verdicts.{denial}
 use Rattle.spec_rule.specs.declared.Denial.{Denial}
 use Rattle.spec_answers.specs.Answers.{packedJudgement}
 use Rattle.spec_answers.specs.Theorems.{Unpacked}
-use Rattle.spec_answers.proofs.NumberBounds.{Fits, name-read}
+use Rattle.spec_answers.proofs.NumberBounds.{Fits}
 use Rattle.spec_answers.proofs.JudgementUnpacks.{told-unpacks, fitting-unpacks}
-use Rattle.spec_session.specs.declared.Session.{Session}
 use Rattle.spec_session.specs.declared.SessionAnswer.{SessionAnswer}
 use Rattle.spec_session.specs.declared.SessionAnswer.the-variants.{Asks, Judged, LookupFailed, NoVerdict}
-use Rattle.spec_session.specs.Sessions.{held, keptName, isKept, asking, decided, isAsking, asked, ofRecord, verdictOf, standing, stateFrom, state}
+use Rattle.spec_session.specs.Sessions.{ofRecord, verdictOf}
 use Rattle.spec_session.specs.Steps.{sessionCode}
-use Rattle.spec_session.proofs.Kept.{filling-some, reached}
-use Rattle.spec_session.proofs.StepLaws.{Live, live, asks, asks-nothing}
 use Rattle.spec_session_words.specs.SessionWords.{packedSession}
 
 abbrev pub FitsAnswer : SessionAnswer → Type 0

@@ -1,18 +1,17 @@
 -- The word of caa_session_state: what a session in memory says.
-use Prim.Native.Nat.{ℕ, _≤_, _<_}
-use native.Mathlib.Omega.{arith}
+use Prim.Native.Nat.{ℕ, _<_}
 use mathlib.Core.Path.{_≡_, refl, ap, sym, _∙_}
 use mathlib.Core.Logic.{_↔_, _≢_, _⊎_, inl, inr}
-use mathlib.Core.Bool.{Bool, true, false, _&&_, true≢false, and-eq-true-iff}
-use mathlib.Core.List.{List, [], _∷_, List·Memᴰ, List·Memᴰ·head, List·Memᴰ·tail}
-use mathlib.Core.Option.{Option, none, some, Option·none-ne-some, Option·some-injective}
+use mathlib.Core.Bool.{true, and-eq-true-iff}
+use mathlib.Core.List.{[], _∷_, List·Memᴰ, List·Memᴰ·head, List·Memᴰ·tail}
+use mathlib.Core.Option.{none, some, Option·none-ne-some, Option·some-injective}
 use lib.Dec.{eqb}
-use lib.ListN.{length, drop}
-use borrow.Author.Tests.{eqb-true, eq-eqb, ne-eqb, lt-ltb}
+use lib.ListN.{drop}
+use borrow.Author.Tests.{eqb-true, ne-eqb, lt-ltb}
 use Rattle.spec_limits.specs.Limits.{maxRecords}
 use Rattle.spec_octets.specs.Octets.{Octets}
 use Rattle.spec_octets.proofs.ListLaws.{not-passed}
-use Rattle.spec_name.specs.Names.{Name, wire}
+use Rattle.spec_name.specs.Names.{Name}
 use Rattle.spec_name.proofs.NameLaws.{one-name}
 use Rattle.spec_request.specs.Request.{base}
 use Rattle.spec_rule.specs.declared.Judgement.{Judgement}
@@ -25,16 +24,16 @@ use Rattle.spec_answers.proofs.DoorRows.{one-of}
 use Rattle.spec_session.specs.declared.Session.{Session}
 use Rattle.spec_session.specs.declared.SessionAnswer.{SessionAnswer}
 use Rattle.spec_session.specs.declared.SessionAnswer.the-variants.{Asks, Judged, LookupFailed, NoVerdict}
-use Rattle.spec_session.specs.Sessions.{held, isKept, asking, decided, isAsking, asked, verdictOf, standing, state}
+use Rattle.spec_session.specs.Sessions.{isKept, asking, decided, isAsking, asked, verdictOf, standing, state}
 use Rattle.spec_session.specs.Steps.{sessionCode}
 use Rattle.spec_session.specs.Meaning.{KeptWell}
 use Rattle.spec_session.proofs.Kept.{kept-exactly, broken-is-ended}
-use Rattle.spec_session.proofs.StepLaws.{asks-nothing, not-ended, state-tells}
+use Rattle.spec_session.proofs.StepLaws.{not-ended, state-tells}
 use Rattle.spec_session_words.specs.SessionWords.{caaSessionState}
 use Rattle.spec_session_words.specs.SessionDoor.{TellsName, IsFor, WithoutLabels, StateWord, Caa-session-state}
 use Rattle.spec_session_words.proofs.SessionUnpacks.{DeniedBy, KeptAs}
 use Rattle.spec_session_words.proofs.States
-use Rattle.spec_session_words.proofs.States.{Asking, Stands, Says, says, state-fits}
+use Rattle.spec_session_words.proofs.States.{Asking, Says, says, state-fits}
 use Rattle.spec_session_words.proofs.WordAnswers.{HoldsAnswer, of-session, c-small, word-0, word-20, word-21, word-22, word-23, word-40, word-41}
 use Rattle.spec_session_words.proofs.ToldNames.{one-wire, held-octets, state-word, tells-next}
 
@@ -46,10 +45,14 @@ named s {y} e = States.asking s (not-ended s (λ z. Option·none-ne-some y (sym 
 pub next-is : {s : Session} {y : Name} (h : Asking s) → asked s ≡ some y → h .next ≡ y
 next-is h e = Option·some-injective _ _ (sym (h .asks-next) ∙ e)
 
+-- and the kept name is the one that the session is for
+pub kept-is : {s : Session} (h : Asking s) {n : Name} → IsFor s n → h .kept ≡ n
+kept-is h (whole, good) = one-name (h .good) (good .0) (sym (h .whole) ∙ whole)
+
 pub asked-above : (s : Session) {n y : Name} → IsFor s n → asked s ≡ some y → WithoutLabels n (s .up) y
-asked-above s {n} {y} (whole, good) e =
+asked-above s {n} {y} is-for e =
     let h = named s e in
-    let same : h .kept ≡ n = one-name (h .good) (good .0) (sym (h .whole) ∙ whole) in
+    let same = kept-is h is-for in
     (sym (next-is h e) ∙ h .is-next ∙ ap (λ m. drop (s .up) (base m)) same, rw same at (h .below))
 
 module _ (s : Session) where

@@ -1,5 +1,5 @@
 -- What a session says of itself, by what is in memory.
-use Prim.Native.Nat.{ℕ, _+_, _-_, _^_, _≤_, _<_}
+use Prim.Native.Nat.{ℕ, _+_, _-_, _<_}
 use native.Mathlib.Omega.{arith}
 use mathlib.Core.Path.{_≡_, refl, ap, sym, _∙_}
 use mathlib.Core.Bool.{Bool, true, false, cond, _&&_, and-eq-true-iff}
@@ -8,19 +8,16 @@ use mathlib.Core.Option.{Option, none, some, Option·none-ne-some}
 use lib.Dec.{eqb}
 use lib.ListN.{length, drop, length-append}
 use borrow.Author.Tests.{eqb-true}
-use Rattle.spec_limits.specs.Limits.{maxNames, maxNameOctets, maxRecords}
+use Rattle.spec_limits.specs.Limits.{maxNames, maxNameOctets}
 use Rattle.spec_name.specs.Names.{Name, wire, GoodName}
 use Rattle.spec_request.specs.Request.{base, requestedName}
-use Rattle.spec_rule.specs.declared.Judgement.{Judgement}
 use Rattle.spec_rule.specs.declared.Judgement.the-variants.{Permitted, UnknownCritical, NotGranted, TooManyAliases, Refused}
 use Rattle.spec_answers.proofs.NumberBounds.{name-read}
 use Rattle.spec_session.specs.declared.Session.{Session}
 use Rattle.spec_session.specs.declared.SessionAnswer.{SessionAnswer}
 use Rattle.spec_session.specs.declared.SessionAnswer.the-variants.{Asks, Judged, LookupFailed, NoVerdict}
-use Rattle.spec_issuer.specs.Issuer.{isIssuer}
-use Rattle.spec_applicant.specs.Applicant.{isApplicant}
-use Rattle.spec_session.specs.Sessions.{held, keptName, keptApplicant, reaches, isKept, decided, isAsking, asked, verdictOf, standing, state}
-use Rattle.spec_session.proofs.Kept.{filling-some, reached}
+use Rattle.spec_session.specs.Sessions.{held, keptName, isKept, decided, isAsking, asked, verdictOf, standing, state}
+use Rattle.spec_session.proofs.Kept.{filling-some, reached, kept-tests}
 use Rattle.spec_session.proofs.StepLaws.{live, asks, asks-nothing, state-tells}
 use Rattle.spec_session.proofs.AskedName.{at-the-end}
 use Rattle.spec_session_words.proofs.SessionUnpacks.{FitsAnswer, KeptAs, kept-as, few-labels}
@@ -118,11 +115,8 @@ unfolding maxNames
 one-name = omega arith
 
 pub few-off : (s : Session) → isKept s ≡ true → s .up < 127
-unfolding isKept
 few-off s e =
-    let (both, who) = and-eq-true-iff (reaches (keptName s) (s .up) && isIssuer (held (s .issuer))) (isApplicant (keptApplicant s)) .0 e in
-    let (name, issuer) = and-eq-true-iff (reaches (keptName s) (s .up)) (isIssuer (held (s .issuer))) .0 both in
-    let (n, f, up) = reached (keptName s) (s .up) .0 name in
+    let (n, f, up) = reached (keptName s) (s .up) .0 (kept-tests s .0 e .0) in
     omega (arith, up, few-labels n (kept-read s n f .1))
 
 said-fits : (s : Session) (a : SessionAnswer) → Says s a → FitsAnswer a

@@ -1,17 +1,15 @@
 -- The word of an answer to a session: a refusal, which changes nothing, or what the session says afterwards.
-use Prim.Native.Nat.{ℕ, _≤_}
-use native.Mathlib.Omega.{arith}
+use Prim.Native.Nat.{ℕ}
 use mathlib.Core.Path.{_≡_, refl, ap, sym, _∙_}
-use mathlib.Core.Logic.{_⊎_, inl, inr}
-use mathlib.Core.Bool.{Bool, true, false, _&&_, true≢false, false≢true, and-eq-true-iff}
+use mathlib.Core.Bool.{true, and-eq-true-iff}
 use lib.Dec.{leb}
 use borrow.Author.Tests.{leb-true, le-leb}
 use Rattle.spec_refusal.specs.declared.Refusal.{Refusal}
-use Rattle.spec_refusal.specs.Refusal.{number, place}
+use Rattle.spec_refusal.specs.Refusal.{number}
 use Rattle.spec_octets.proofs.ListLaws.{not-passed}
 use Rattle.spec_rule.specs.declared.Judgement.the-variants.{Permitted, UnknownCritical, NotGranted, TooManyAliases, Refused}
 use Rattle.spec_rule.specs.Calls.{judgementCode}
-use Rattle.spec_packed.specs.Packed.{numberIn, fieldA, fieldB, fieldC}
+use Rattle.spec_packed.specs.Packed.{numberIn}
 use Rattle.spec_answers.proofs.DoorWords.{number-range}
 use Rattle.spec_session.specs.declared.Session.{Session}
 use Rattle.spec_session.specs.declared.SessionAnswer.{SessionAnswer}

@@ -1,5 +1,5 @@
 -- The name that a word tells, by its octets in the kept name.
-use Prim.Native.Nat.{ℕ, _+_, _≤_, _<_}
+use Prim.Native.Nat.{ℕ, _+_}
 use native.Mathlib.Omega.{arith}
 use mathlib.Core.Path.{_≡_, refl, ap, sym, _∙_}
 use mathlib.Core.Logic.{_≢_}
@@ -17,7 +17,6 @@ use Rattle.spec_name.proofs.NameLaws.{fewer-labels}
 use Rattle.spec_packed.specs.Packed.{numberIn, fieldA, fieldB, fieldC}
 use Rattle.spec_session.specs.declared.Text.{Text}
 use Rattle.spec_session.specs.declared.Session.{Session}
-use Rattle.spec_session.specs.declared.SessionAnswer.the-variants.{Asks}
 use Rattle.spec_session.specs.Sessions.{held, state}
 use Rattle.spec_session.specs.Steps.{sessionCode}
 use Rattle.spec_session_words.specs.SessionWords.{caaSessionState}

@@ -1,5 +1,5 @@
 -- Which answer of a session a word stands for, by its number n and its fields a, b and c.
-use Prim.Native.Nat.{ℕ, _≤_, _<_}
+use Prim.Native.Nat.{ℕ, _≤_}
 use native.Mathlib.Omega.{arith}
 use mathlib.Core.Path.{_≡_, refl, ap, _∙_}
 use Rattle.spec_refusal.specs.declared.Refusal.{Refusal}
