@@ -12,7 +12,7 @@ usage() {
     cat <<'end'
 usage: bash test.sh
 
-Runs everything, in about 30 minutes: looks up what the documents name; proves every crate from scratch,
+Runs everything, in about 40 minutes: looks up what the documents name; proves every crate from scratch,
 checks that each deliberately wrong version is rejected, and runs the stored cases. Then it compares an
 independent Rust implementation with the proved library on stored and random inputs, links the library
 from C and Rust, and runs the desk program, the scripts and the tools. Removes target/ first. Progress
@@ -68,7 +68,7 @@ beside=$!
 trap 'kill "$beside" 2> /dev/null || :; rm -f "$said" "$said_beside"' EXIT
 crates=$(crates_for "")
 edits=$(find crates -path '*/must-fail/*.edit' | wc -l)
-note "proving $crates crates from scratch and trying $edits wrong versions; about 30 minutes"
+note "proving $crates crates from scratch and trying $edits wrong versions; about 40 minutes"
 rt ci 2>&1 | tee "$said" | progress "$crates" "$edits" | sed '$d' || { tail -n 1 "$said"; exit 1; }
 
 wait "$beside" || { cat "$said_beside"; note "the tests beside the proofs have failed"; exit 1; }
@@ -80,7 +80,7 @@ rt staticlib splinepearl
 compared() {
     set -e
     note "the library against the independent implementation"
-    independent --features readers,judge,list,lines -- library
+    independent --features readers,judge,list,lines,session -- library
 }
 compared > "$said_beside" 2>&1 &
 beside=$!

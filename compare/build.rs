@@ -14,7 +14,11 @@ const ARCHIVES: [(&[&str], &[&str]); 2] = [
     (&["test_readers", "readers"], &["CARGO_FEATURE_READERS"]),
     (
         &["splinepearl"],
-        &["CARGO_FEATURE_JUDGE", "CARGO_FEATURE_LINES"],
+        &[
+            "CARGO_FEATURE_JUDGE",
+            "CARGO_FEATURE_LINES",
+            "CARGO_FEATURE_SESSION",
+        ],
     ),
 ];
 

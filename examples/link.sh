@@ -204,7 +204,7 @@ int main(void)
 }
 end
 build "$work/refusals.c" "$libs" "$work/refusals"
-expect '1 2 3 4 5 6 7 8 9 10 11 12 15  [0]' "$work/refusals"
+expect '1 2 3 4 5 6 7 8 9 10 11 12 14 15  [0]' "$work/refusals"
 
 # Which bits each function takes: all ones in one field, none in the others; then all four fields.
 cat > "$work/fields.c" <<'end'
@@ -232,6 +232,95 @@ expect '255 0 0 0 0 0 0 0
 0 0 0 0 0 65535 65535 0
 0 0 0 0 0 0 0 65535
 21 249 249 249 249 1023 1023 126 [0]' "$work/fields"
+
+# The layout of a session, which no compiler compares with the library's; and which octets of it are the asked name.
+cat > "$work/layout.c" <<'end'
+#include <stdio.h>
+#include "splinepearl.h"
+static caa_session session;
+static void print_asked(uint64_t answer)
+{
+    size_t length = 999;
+    const uint8_t *const name = caa_asked_name(&session, answer, &length);
+
+    if (name == NULL) {
+        printf("none %zu\n", length);
+    } else {
+        printf("at %td, %zu octets\n", name - (const uint8_t *)&session, length);
+    }
+}
+int main(void)
+{
+    printf("%zu: %zu %zu %zu %zu %zu %zu %zu %zu\n", sizeof(caa_session), offsetof(caa_session, phase),
+           offsetof(caa_session, up), offsetof(caa_session, verdict), offsetof(caa_session, rr),
+           offsetof(caa_session, name), offsetof(caa_session, issuer), offsetof(caa_session, account),
+           offsetof(caa_session, method));
+    printf("%zu: %zu %zu\n", sizeof(struct caa_text), offsetof(struct caa_text, length),
+           offsetof(struct caa_text, octets));
+    print_asked(UINT64_C(0x0000000200001128)); /* 40, a = 17, b = 2 */
+    print_asked(UINT64_C(0x0000000000010028)); /* 40, a = 256, b = 0 */
+    print_asked(UINT64_C(0x0000000100010028)); /* 40, a = 256, b = 1: beyond the room */
+    print_asked(UINT64_C(0x0000FFFF00000128)); /* 40, a = 1, b = 65,535 */
+    print_asked(UINT64_C(0x0000000200001129)); /* 41 */
+    return 0;
+}
+end
+build "$work/layout.c" "$libs" "$work/layout"
+expect '1088: 0 8 16 24 32 296 560 824
+264: 0 8
+at 42, 17 octets
+at 40, 256 octets
+none 999
+none 999
+none 999 [0]' "$work/layout"
+
+# What the C and the Rust example of a session print.
+zone=examples/session/zone.txt
+printf '%s\n' 'example.com CNAME example.org' 'Example.com CAA 0 issue "ca1.example.net"' > "$work/conflict.txt"
+printf '%s\n' 'example.com CAA 0 issue' > "$work/no-zone.txt"
+try_sessions() {
+    local program=$1
+    expect 'look up www.example.com: 0 records
+look up example.com: 3 records
+permitted [0]' "$program" "$zone" www.example.com ca1.example.net
+    expect 'look up Pay.example.com: 1 record
+not permitted: restricted by record 0 of the last answer; labels taken off: 0 [1]' "$program" "$zone" '*.Pay.example.com' ca1.example.net
+    expect 'look up a.b.example.com: 0 records
+look up b.example.com: 0 records
+look up example.com: 3 records
+not permitted: restricted by record 0 of the last answer; labels taken off: 2 [1]' "$program" "$zone" a.b.example.com ca3.example.com
+    expect 'look up nobody.example: 0 records
+look up example: 0 records
+permitted [0]' "$program" "$zone" nobody.example ca3.example.com
+    expect 'look up shop.example.com: 2 records
+not permitted: restricted by record 1 of the last answer; labels taken off: 0 [1]' "$program" "$zone" shop.example.com ca1.example.net
+    expect 'look up a.loop.example: 0 records
+look up loop.example: 1 record
+not permitted: too many aliases from record 0 of the last answer on; labels taken off: 1 [1]' "$program" "$zone" a.loop.example ca1.example.net
+    expect 'look up critical.example: 1 record
+not permitted: record 0 of the last answer is critical and not known; labels taken off: 0 [1]' "$program" "$zone" critical.example ca1.example.net
+    expect 'look up a.broken.example.com: 0 records
+look up broken.example.com: failed
+nothing decided: a lookup failed [2]' "$program" "$zone" a.broken.example.com ca1.example.net
+    expect 'look up limited.example: 1 record
+permitted [0]' "$program" "$zone" limited.example ca1.example.net https://ca1.example.net/acct/230123 dns-01
+    expect 'look up limited.example: 1 record
+not permitted: restricted by record 0 of the last answer; labels taken off: 0 [1]' "$program" "$zone" limited.example ca1.example.net
+    expect 'look up example.com: 2 records
+refused 12 at 1 [2]' "$program" "$work/conflict.txt" example.com ca1.example.net
+    expect 'refused 2 at 0 [2]' "$program" "$zone" a_b ca1.example.net
+    expect 'refused 4 at 0 [2]' "$program" "$zone" example.com ca1.example.net.
+    expect 'refused 15 at 0 [2]' "$program" "$zone" example.com ca1.example.net 'a;b' dns-01
+    expect_status 2 "$program" "$work/not-there.txt" example.com ca1.example.net
+    expect_status 2 "$program" "$work/no-zone.txt" example.com ca1.example.net
+    expect_status 2 to_full "$program" "$zone" www.example.com ca1.example.net
+    expect_status 0 "$program" --help
+    expect_status 2 to_full "$program" --help
+    expect_status 2 "$program"
+    expect_status 2 "$program" --not-known a b
+}
+build examples/c/session.c "$libs" "$work/session"
+try_sessions "$work/session"
 
 build tools/caa-lines.c "$libs" "$work/caa-lines"
 expect '128 tbs "Unk\"\\\000n"
@@ -287,5 +376,7 @@ expect_status 2 desk "$work/anyone" "$work/anyone"
 expect_status 2 desk --not-known
 later_desk() { CARGO_TARGET_DIR="$work/cargo" rust "$work/later" run --example desk -- "$@"; }
 expect 'refused 29 at 1 [2]' later_desk "$work/anyone"
+rust_session() { rust "$libs" run --example session -- "$@"; }
+try_sessions rust_session
 
 echo "link: C and Rust give the expected lines and exit statuses"

@@ -36,6 +36,8 @@ pub enum Refusal {
     /// CAA data that can't be written as a line: laid out wrongly, or its tag holds something other
     /// than letters and digits.
     BadData,
+    /// An answer came to a session that asks for nothing.
+    SessionEnded,
     /// The account text or the method text breaks its rule.
     BadApplicant,
 }
@@ -55,6 +57,7 @@ impl Refusal {
             Refusal::LineOrDataTooLong => 10,
             Refusal::BadData => 11,
             Refusal::AliasConflict { .. } => 12,
+            Refusal::SessionEnded => 14,
             Refusal::BadApplicant => 15,
         }
     }
@@ -67,6 +70,7 @@ impl Refusal {
             | Refusal::BadLine
             | Refusal::LineOrDataTooLong
             | Refusal::BadData
+            | Refusal::SessionEnded
             | Refusal::BadApplicant => 0,
             Refusal::BadRequestedName { name } => name,
             Refusal::TooManyNames { read } | Refusal::TooManyRecords { read } => read,
@@ -147,6 +151,41 @@ impl fmt::Display for Answer {
                 write!(f, "verdict 22 name {name} record {record} up {up}")
             }
             Answer::Refused(refusal) => refusal.fmt(f),
+        }
+    }
+}
+
+/// What the calls on a [`Session`](crate::Session) answer.
+#[derive(Clone, Copy, Debug, PartialEq, Eq)]
+pub enum Reply {
+    /// Look this name up next: `length` octets of the kept name, from `offset` on, its closing zero
+    /// included.
+    Asks { length: usize, offset: usize },
+    /// A verdict, with name number 0 and the record's number in the last answer; or a refusal.
+    Judged(Answer),
+    /// Verdict 23.
+    LookupFailed,
+    /// The session has ended and has no verdict.
+    NoVerdict,
+}
+
+impl Reply {
+    pub const fn refused(refusal: Refusal) -> Reply {
+        Reply::Judged(Answer::Refused(refusal))
+    }
+
+    pub fn is_refusal(self) -> bool {
+        matches!(self, Reply::Judged(Answer::Refused(_)))
+    }
+}
+
+impl fmt::Display for Reply {
+    fn fmt(&self, f: &mut fmt::Formatter<'_>) -> fmt::Result {
+        match self {
+            Reply::Asks { length, offset } => write!(f, "asks {length} octets at {offset}"),
+            Reply::Judged(answer) => answer.fmt(f),
+            Reply::LookupFailed => write!(f, "verdict 23"),
+            Reply::NoVerdict => write!(f, "no verdict"),
         }
     }
 }

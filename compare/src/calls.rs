@@ -3,10 +3,11 @@
 
 use std::fmt;
 
-use crate::answer::{Answer, Made, Permitted};
+use crate::answer::{Answer, Made, Permitted, Reply};
 use crate::judge::judge;
 use crate::permitted::permitted_issuers;
 use crate::presentation::{read_line, write_line};
+use crate::session::Session;
 use crate::word::Word;
 
 /// Takes request, issuer name, account, method and book.
@@ -25,12 +26,26 @@ pub struct Lines {
     pub read: Convert,
 }
 
+/// Takes request, issuer name, account and method.
+pub type Open = fn(&mut Session, &[u8], &[u8], &[u8], &[u8]) -> Result<Reply, Word>;
+
+/// The calls on a session that its keeper lends.
+#[derive(Clone, Copy)]
+pub struct Sessions {
+    pub open: Open,
+    /// Takes a book.
+    pub answer: fn(&mut Session, &[u8]) -> Result<Reply, Word>,
+    pub fail: fn(&mut Session) -> Result<Reply, Word>,
+    pub state: fn(&Session) -> Result<Reply, Word>,
+}
+
 /// All calls of one maker.
 #[derive(Clone, Copy)]
 pub struct Desk {
     pub judge: Judge,
     pub permitted_issuers: PermittedIssuers,
     pub lines: Lines,
+    pub sessions: Sessions,
 }
 
 impl Desk {
@@ -45,6 +60,14 @@ impl Desk {
         lines: Lines {
             write: |data, buffer| Ok(write_line(data, buffer)),
             read: |line, buffer| Ok(read_line(line, buffer)),
+        },
+        sessions: Sessions {
+            open: |session, request, issuer, account, method| {
+                Ok(session.open(request, issuer, account, method))
+            },
+            answer: |session, book| Ok(session.answer(book)),
+            fail: |session| Ok(session.fail()),
+            state: |session| Ok(session.state()),
         },
     };
 }

@@ -3,7 +3,7 @@
 use crate::answer::{Answer, Refusal};
 use crate::applicant::read_applicant;
 use crate::book::read_book;
-use crate::issuer::read_issuer;
+use crate::issuer::{read_issuer, IssuerName};
 use crate::request::read_request;
 use crate::rule::{standing, Records, Standing};
 
@@ -26,21 +26,25 @@ fn verdict(
     let book = read_book(book)?;
     let records = Records::of(&book, applicant);
     for (name, requested) in names.iter().enumerate() {
-        match standing(&records, requested) {
-            Standing::Unrestricted => {}
-            Standing::Governed { grantees, .. } if grantees.contains(&&issuer) => {}
-            Standing::UnknownCritical { record, up } => {
-                return Ok(Answer::UnknownCritical { name, record, up })
-            }
-            Standing::TooManyAliases { record, up } => {
-                return Ok(Answer::TooManyAliases { name, record, up })
-            }
-            Standing::Governed {
-                first_governing: record,
-                up,
-                ..
-            } => return Ok(Answer::NotGranted { name, record, up }),
+        match verdict_on(name, &standing(&records, requested), &issuer) {
+            Answer::Permitted => {}
+            other => return Ok(other),
         }
     }
     Ok(Answer::Permitted)
+}
+
+/// The verdict on one name, which has this number in its request.
+pub fn verdict_on(name: usize, standing: &Standing, issuer: &IssuerName) -> Answer {
+    match *standing {
+        Standing::Unrestricted => Answer::Permitted,
+        Standing::Governed { ref grantees, .. } if grantees.contains(&issuer) => Answer::Permitted,
+        Standing::UnknownCritical { record, up } => Answer::UnknownCritical { name, record, up },
+        Standing::TooManyAliases { record, up } => Answer::TooManyAliases { name, record, up },
+        Standing::Governed {
+            first_governing: record,
+            up,
+            ..
+        } => Answer::NotGranted { name, record, up },
+    }
 }

@@ -3,14 +3,21 @@
 
 // Only here: a foreign function is unsafe to call. Each `const u8` pointer and the length behind it
 // are those of a live slice that is only read, the `mut u8` pointer and its length those of a buffer
-// lent by `&mut`, and no function keeps a pointer after it answers.
+// lent by `&mut`, and no function keeps a pointer after it answers. A session is lent by `&mut`, or by `&`
+// where it is only read, has the layout of the C header, and any octets are a session.
 #![allow(unsafe_code)]
 
 use crate::against::Other;
-use crate::calls::{Judge, Lines, PermittedIssuers};
+use crate::calls::{Judge, Lines, PermittedIssuers, Sessions};
 use crate::readers::Readers;
-use crate::small_stack::{on_small_stack, on_small_stack_with_buffer};
-#[cfg(any(feature = "readers", feature = "judge", feature = "lines"))]
+use crate::session::Session;
+use crate::small_stack::{on_small_stack, on_small_stack_with_buffer, on_small_stack_with_session};
+#[cfg(any(
+    feature = "readers",
+    feature = "judge",
+    feature = "lines",
+    feature = "session"
+))]
 use crate::word::Word;
 
 /// What this build is linked with.
@@ -19,6 +26,7 @@ pub const LINKED: Other = Other {
     judge: JUDGE,
     permitted_issuers: PERMITTED_ISSUERS,
     lines: LINES,
+    sessions: SESSIONS,
 };
 
 /// The same, each call but the readers made on a small stack.
@@ -27,6 +35,7 @@ pub const ON_SMALL_STACK: Other = Other {
     judge: JUDGE_ON_SMALL_STACK,
     permitted_issuers: PERMITTED_ISSUERS_ON_SMALL_STACK,
     lines: LINES_ON_SMALL_STACK,
+    sessions: SESSIONS_ON_SMALL_STACK,
 };
 
 #[allow(dead_code)] // What no feature links is never called.
@@ -78,6 +87,20 @@ extern "C" {
         buffer: *mut u8,
         buffer_length: usize,
     ) -> u64;
+    fn caa_session_open(
+        session: *mut Session,
+        request: *const u8,
+        request_length: usize,
+        issuer: *const u8,
+        issuer_length: usize,
+        account: *const u8,
+        account_length: usize,
+        method: *const u8,
+        method_length: usize,
+    ) -> u64;
+    fn caa_session_answer(session: *mut Session, book: *const u8, book_length: usize) -> u64;
+    fn caa_session_fail(session: *mut Session) -> u64;
+    fn caa_session_state(session: *const Session) -> u64;
 }
 
 #[cfg(feature = "readers")]
@@ -160,6 +183,34 @@ const LINES: Option<Lines> = Some(Lines {
 #[cfg(not(feature = "lines"))]
 const LINES: Option<Lines> = None;
 
+#[cfg(feature = "session")]
+const SESSIONS: Option<Sessions> = Some(Sessions {
+    open: |session, request, issuer, account, method| {
+        let word = unsafe {
+            caa_session_open(
+                session,
+                request.as_ptr(),
+                request.len(),
+                issuer.as_ptr(),
+                issuer.len(),
+                account.as_ptr(),
+                account.len(),
+                method.as_ptr(),
+                method.len(),
+            )
+        };
+        Word::unpacked(word).replied()
+    },
+    answer: |session, book| {
+        let word = unsafe { caa_session_answer(session, book.as_ptr(), book.len()) };
+        Word::unpacked(word).replied()
+    },
+    fail: |session| Word::unpacked(unsafe { caa_session_fail(session) }).replied(),
+    state: |session| Word::unpacked(unsafe { caa_session_state(session) }).replied(),
+});
+#[cfg(not(feature = "session"))]
+const SESSIONS: Option<Sessions> = None;
+
 /// A call on copies of its inputs, on a small stack. `None` where it isn't linked.
 const JUDGE_ON_SMALL_STACK: Option<Judge> = match JUDGE {
     Some(_) => Some(|request, issuer, account, method, book| {
@@ -192,6 +243,38 @@ const LINES_ON_SMALL_STACK: Option<Lines> = match LINES {
         read: |line, buffer| {
             let line = line.to_vec();
             on_small_stack_with_buffer(buffer, move |buffer| (linked(LINES).read)(&line, buffer))
+        },
+    }),
+    None => None,
+};
+
+const SESSIONS_ON_SMALL_STACK: Option<Sessions> = match SESSIONS {
+    Some(_) => Some(Sessions {
+        open: |session, request, issuer, account, method| {
+            let inputs = [request, issuer, account, method].map(<[u8]>::to_vec);
+            on_small_stack_with_session(session, move |session| {
+                let [request, issuer, account, method] = &inputs;
+                (linked(SESSIONS).open)(session, request, issuer, account, method)
+            })
+        },
+        answer: |session, book| {
+            let book = book.to_vec();
+            on_small_stack_with_session(session, move |session| {
+                (linked(SESSIONS).answer)(session, &book)
+            })
+        },
+        fail: |session| {
+            on_small_stack_with_session(session, |session| (linked(SESSIONS).fail)(session))
+        },
+        state: |session| {
+            let mut copy = *session;
+            let reply =
+                on_small_stack_with_session(&mut copy, |session| (linked(SESSIONS).state)(session));
+            assert!(
+                copy == *session,
+                "a call wrote to a session that it only reads"
+            );
+            reply
         },
     }),
     None => None,

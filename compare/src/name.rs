@@ -39,6 +39,11 @@ impl<'a> Name<'a> {
         Some((label, Name { wire }))
     }
 
+    /// The octets, closing zero included.
+    pub fn wire(self) -> &'a [u8] {
+        self.wire
+    }
+
     /// Whether both are the same whole name, `A` to `Z` counting as `a` to `z`. No length octet is a
     /// letter, so the folding can't make one label of two.
     pub fn is(self, other: Name) -> bool {

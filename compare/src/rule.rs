@@ -255,9 +255,26 @@ pub fn chains<'a>(records: &Records<'a>, name: &RequestedName<'a>) -> Vec<Chain<
 }
 
 pub fn standing<'a>(records: &'a Records, name: &RequestedName) -> Standing<'a> {
-    let Some(End { up, found }) = climb(records, name) else {
-        return Standing::Unrestricted;
-    };
+    match climb(records, name) {
+        Some(end) => standing_by(end, name.wildcard),
+        None => Standing::Unrestricted,
+    }
+}
+
+/// How a requested name stands by one look, at the name above X with `up` labels taken off; `None`
+/// where nothing is found there. Other names above X are not looked at.
+pub fn standing_at<'a>(
+    records: &'a Records,
+    name: &RequestedName,
+    up: usize,
+) -> Option<Standing<'a>> {
+    let found = look(records, name.fqdn.ancestors().nth(up)?);
+    let end = (!found.is_nothing()).then_some(End { up, found })?;
+    Some(standing_by(end, name.wildcard))
+}
+
+fn standing_by<'r>(end: End<'r, '_>, wildcard: bool) -> Standing<'r> {
+    let End { up, found } = end;
     let relevant = match found {
         Found::Set(relevant) => relevant,
         Found::TooManyAliases { first } => return Standing::TooManyAliases { record: first, up },
@@ -268,7 +285,7 @@ pub fn standing<'a>(records: &'a Records, name: &RequestedName) -> Standing<'a> 
             up,
         };
     }
-    let governing = governing_records(&relevant, name.wildcard);
+    let governing = governing_records(&relevant, wildcard);
     match governing.first() {
         None => Standing::Unrestricted,
         Some(&(first_governing, _)) => Standing::Governed {

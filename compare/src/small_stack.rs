@@ -4,6 +4,7 @@ use std::sync::mpsc::{sync_channel, SyncSender};
 use std::thread;
 
 use crate::buffer::MARGIN;
+use crate::session::Session;
 
 /// What a call has for itself, the frames of the thread included.
 pub const STACK_OCTETS: usize = 64 * 1024;
@@ -75,6 +76,37 @@ pub fn on_small_stack_with_buffer<A: Send + 'static>(
     answer
 }
 
+/// A session with octets right before and behind it.
+#[derive(Clone)]
+#[repr(C)]
+struct Guarded {
+    before: [u8; MARGIN],
+    session: Session,
+    behind: [u8; MARGIN],
+}
+
+/// The same for a call with a session.
+pub fn on_small_stack_with_session<A: Send + 'static>(
+    session: &mut Session,
+    call: impl FnOnce(&mut Session) -> A + Send + 'static,
+) -> A {
+    let (before, behind) = ([0xA5; MARGIN], [0x5A; MARGIN]);
+    // In the heap, so that the small stack is the call's alone.
+    let mut guarded = Box::new(Guarded {
+        before,
+        session: *session,
+        behind,
+    });
+    let (answer, guarded) = on_small_stack(move || {
+        let answer = call(&mut guarded.session);
+        (answer, guarded)
+    });
+    let stays = guarded.before == before && guarded.behind == behind;
+    assert!(stays, "a call wrote beside its session");
+    *session = guarded.session;
+    answer
+}
+
 #[cfg(test)]
 mod tests {
     use super::*;
@@ -95,5 +127,16 @@ mod tests {
             buffer.len()
         });
         assert_eq!((answer, &buffer), (3, b"axc"));
+    }
+
+    #[test]
+    fn what_is_written_to_a_session_comes_back() {
+        let mut session = Session::ENDED;
+        session.up = 7;
+        let answer = on_small_stack_with_session(&mut session, |session| {
+            session.rr = 9;
+            session.up
+        });
+        assert_eq!((answer, session.up, session.rr), (7, 7, 9));
     }
 }

@@ -2,7 +2,7 @@
 
 use std::fmt;
 
-use crate::answer::{Answer, Made, Permitted, Refusal};
+use crate::answer::{Answer, Made, Permitted, Refusal, Reply};
 
 /// Number in bits 0 to 7, `a` in bits 8 to 31, `b` in bits 32 to 47, `c` in bits 48 to 63. A field
 /// that an answer has no use for is 0.
@@ -52,6 +52,16 @@ impl Word {
         }
     }
 
+    /// What the word says as an answer of a call on a session; the word itself where it says none.
+    pub fn replied(self) -> Result<Reply, Word> {
+        match self.fields() {
+            (23, 0, 0, 0) => Ok(Reply::LookupFailed),
+            (40, length, offset, 0) => Ok(Reply::Asks { length, offset }),
+            (41, 0, 0, 0) => Ok(Reply::NoVerdict),
+            _ => self.judged().map(Reply::Judged),
+        }
+    }
+
     /// What the word says as an answer of who may issue; the word itself where it says none.
     pub fn permitted(self) -> Result<Permitted, Word> {
         match self.fields() {
@@ -84,6 +94,7 @@ impl Word {
             (10, 0, 0, 0) => Some(Refusal::LineOrDataTooLong),
             (11, 0, 0, 0) => Some(Refusal::BadData),
             (12, record, 0, 0) => Some(Refusal::AliasConflict { record }),
+            (14, 0, 0, 0) => Some(Refusal::SessionEnded),
             (15, 0, 0, 0) => Some(Refusal::BadApplicant),
             _ => None,
         }
@@ -173,6 +184,27 @@ mod tests {
                 octets: 32
             })
         );
+        assert_eq!(
+            Word::with(40, [17, 2, 0]).replied(),
+            Ok(Reply::Asks {
+                length: 17,
+                offset: 2
+            })
+        );
+        assert_eq!(
+            Word::with(21, [0, 3, 1]).replied(),
+            Ok(Reply::Judged(Answer::NotGranted {
+                name: 0,
+                record: 3,
+                up: 1
+            }))
+        );
+        assert_eq!(Word::number(23).replied(), Ok(Reply::LookupFailed));
+        assert_eq!(Word::number(41).replied(), Ok(Reply::NoVerdict));
+        assert_eq!(
+            Word::number(14).replied(),
+            Ok(Reply::refused(Refusal::SessionEnded))
+        );
         assert_eq!(Word::with(0, [23, 0, 0]).made(), Ok(Made::Octets(23)));
         assert_eq!(
             Word::with(8, [23, 0, 0]).made(),
@@ -203,6 +235,16 @@ mod tests {
             Word::with(31, [32, 2, 1]),
         ] {
             assert_eq!(word.permitted(), Err(word));
+        }
+        for word in [
+            Word::number(42),
+            Word::with(14, [1, 0, 0]),
+            Word::with(23, [0, 1, 0]),
+            Word::with(23, [0, 0, 1]),
+            Word::with(40, [17, 2, 1]),
+            Word::with(41, [0, 1, 0]),
+        ] {
+            assert_eq!(word.replied(), Err(word));
         }
         for word in [Word::number(99), Word::with(9, [1, 0, 0])] {
             assert_eq!(word.made(), Err(word));

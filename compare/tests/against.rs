@@ -54,6 +54,14 @@ fn what_the_other_has_not_is_not_compared() {
     assert!(told.starts_with("write line "), "{told}");
     assert!(told.contains("\nread line "), "{told}");
     assert!(!told.contains("list "), "{told}");
+    let sessions_only = Other {
+        sessions: Other::OWN.sessions,
+        ..Other::NOTHING
+    };
+    let told = compared(sessions_only, 200).to_string();
+    assert!(told.starts_with("session open "), "{told}");
+    assert!(told.contains("\nsession state "), "{told}");
+    assert!(!told.contains("judge "), "{told}");
 }
 
 #[test]

@@ -54,7 +54,12 @@ fn a_folder_is_judged() {
     }
 }
 
-#[cfg(not(any(feature = "readers", feature = "judge", feature = "lines")))]
+#[cfg(not(any(
+    feature = "readers",
+    feature = "judge",
+    feature = "lines",
+    feature = "session"
+)))]
 #[test]
 fn without_a_library_there_is_nothing_to_compare() {
     let output = run(&["library", "--seed", "2", "--cases", "1"]);

@@ -4,10 +4,11 @@ use std::collections::HashSet;
 use std::fs;
 use std::path::Path;
 
-use compare::calls::{Convert, Desk, Judge, Lines, PermittedIssuers};
+use compare::calls::{Convert, Desk, Judge, Lines, PermittedIssuers, Sessions};
 use compare::cases::{self, run};
 use compare::{
-    permitted_issuers, read_line, read_request, write_line, Answer, Made, Permitted, Word,
+    permitted_issuers, read_line, read_request, write_line, Answer, Made, Permitted, Reply,
+    Session, Word,
 };
 
 #[test]
@@ -159,6 +160,104 @@ fn a_desk_that_does_not_look_at_the_asker_is_found_out() {
         Ok(permitted_issuers(request, account, b"m", book, buffer))
     });
     assert!(no_method > 10);
+}
+
+#[test]
+fn wrong_sessions_are_found_out() {
+    const OWN: Sessions = Desk::OWN.sessions;
+    let wrong_ones: [(Sessions, usize); 7] = [
+        // A failed lookup as an empty answer.
+        (
+            Sessions {
+                fail: |session| Ok(session.answer(b"")),
+                ..OWN
+            },
+            3,
+        ),
+        // The whole name whenever one is asked for.
+        (
+            Sessions {
+                state: |session| match session.state() {
+                    Reply::Asks { .. } => Ok(Reply::Asks {
+                        length: session.name.length,
+                        offset: 0,
+                    }),
+                    reply => Ok(reply),
+                },
+                ..OWN
+            },
+            5,
+        ),
+        // A verdict of whatever is kept.
+        (
+            Sessions {
+                state: |session| match session.state() {
+                    Reply::NoVerdict => Ok(Reply::Judged(Answer::Permitted)),
+                    reply => Ok(reply),
+                },
+                ..OWN
+            },
+            20,
+        ),
+        // A refused opening that leaves the session alone.
+        (
+            Sessions {
+                open: |session, request, issuer, account, method| {
+                    let before = *session;
+                    let reply = session.open(request, issuer, account, method);
+                    if reply.is_refusal() {
+                        *session = before;
+                    }
+                    Ok(reply)
+                },
+                ..OWN
+            },
+            15,
+        ),
+        // An opening that leaves what stood behind the texts.
+        (
+            Sessions {
+                open: |session, request, issuer, account, method| {
+                    let before = *session;
+                    let reply = session.open(request, issuer, account, method);
+                    session.account.octets[255] = before.account.octets[255];
+                    Ok(reply)
+                },
+                ..OWN
+            },
+            50,
+        ),
+        // Each answer ends the session.
+        (
+            Sessions {
+                answer: |session, book| {
+                    let reply = session.answer(book);
+                    session.phase = 2;
+                    Ok(reply)
+                },
+                ..OWN
+            },
+            10,
+        ),
+        // Nothing is ever kept.
+        (
+            Sessions {
+                answer: |session, book| {
+                    let mut copy: Session = *session;
+                    Ok(copy.answer(book))
+                },
+                ..OWN
+            },
+            30,
+        ),
+    ];
+    for (number, (sessions, at_least)) in wrong_ones.into_iter().enumerate() {
+        let wrong = wrong_cases(Desk {
+            sessions,
+            ..Desk::OWN
+        });
+        assert!(wrong >= at_least, "session {number}: {wrong}");
+    }
 }
 
 #[test]

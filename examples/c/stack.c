@@ -21,7 +21,7 @@
 enum { STACK = 262144, BLOCK = 4096, MOST = 65536, CHANGED = 5000 };
 
 /* What docs/ASSUMPTIONS.md says. */
-enum { ENOUGH_FOR_LINE = 1024, ENOUGH_FOR_BOOK = 49152 };
+enum { ENOUGH_FOR_LINE = 1024, ENOUGH_FOR_SESSION = 8192, ENOUGH_FOR_BOOK = 49152 };
 
 static uint8_t stack[STACK];
 static ucontext_t here, there;
@@ -33,6 +33,8 @@ struct octets {
 };
 static struct octets request, issuer, account, method, book, line;
 static uint8_t buffer[MOST];
+/* The session before a call, and the copy that the call is given. */
+static caa_session before, session;
 
 static uint64_t answer;
 
@@ -49,6 +51,26 @@ static void call_list(void)
 }
 static void call_write(void) { answer = caa_write_line(line.at, line.length, buffer, sizeof buffer); }
 static void call_read(void) { answer = caa_read_line(line.at, line.length, buffer, sizeof buffer); }
+static void call_open(void)
+{
+    answer = caa_session_open(&session, request.at, request.length, issuer.at, issuer.length, account.at,
+                              account.length, method.at, method.length);
+}
+static void call_answer(void)
+{
+    memcpy(&session, &before, sizeof session);
+    answer = caa_session_answer(&session, book.at, book.length);
+}
+static void call_fail(void)
+{
+    memcpy(&session, &before, sizeof session);
+    answer = caa_session_fail(&session);
+}
+static void call_state(void)
+{
+    memcpy(&session, &before, sizeof session);
+    answer = caa_session_state(&session);
+}
 
 /* How many octets of the stack a call changes, filled with `fill` before. */
 static size_t changed(void (*call)(void), int fill)
@@ -272,7 +294,7 @@ static void change_some(struct octets *of)
     }
 }
 
-static size_t most_judge, most_list, most_write, most_read;
+static size_t most_judge, most_list, most_write, most_read, most_open, most_answer, most_fail, most_state;
 
 static void note(size_t *most, void (*call)(void))
 {
@@ -287,6 +309,14 @@ static void ask_book(void)
 {
     note(&most_judge, call_judge);
     note(&most_list, call_list);
+}
+
+static void ask_session(void)
+{
+    note(&most_open, call_open);
+    note(&most_answer, call_answer);
+    note(&most_fail, call_fail);
+    note(&most_state, call_state);
 }
 
 static void ask_line(void)
@@ -308,6 +338,28 @@ static void ask_changed_book(void)
         change_some(input);
         ask_book();
         memcpy(input, &good, sizeof good);
+    }
+}
+
+/* Changes the request or the book of a session, or the session itself. */
+static void ask_changed_session(void)
+{
+    struct octets *const inputs[] = {&request, &account, &book, &book};
+    const caa_session good_session = before;
+    struct octets good;
+    int n;
+
+    for (n = 0; n < CHANGED; n++) {
+        struct octets *const input = inputs[n % 4];
+
+        memcpy(&good, input, sizeof good);
+        change_some(input);
+        if (n % 2 == 0) {
+            ((uint8_t *)&before)[random_below(sizeof before)] = (uint8_t)random_below(256);
+        }
+        ask_session();
+        memcpy(input, &good, sizeof good);
+        before = good_session;
     }
 }
 
@@ -444,6 +496,108 @@ static void books(void)
     ask_changed_book();
 }
 
+/* Opens the session that the next calls are given. */
+static void open_session(void)
+{
+    call_open();
+    if (caa_number(answer) != CAA_ASKS) {
+        fprintf(stderr, "stack: a session can't be opened: %u\n", caa_number(answer));
+        exit(2);
+    }
+    before = session;
+}
+
+static void sessions(void)
+{
+    static const char *const tags[] = {"issue", "issuewild"};
+    int tag;
+
+    clear(&issuer);
+    put_text(&issuer, "ca1.e");
+    make_applicant(255);
+
+    /* one name of many labels; nothing found, at the first name and at the last, and full books */
+    make_request(1, 110);
+    open_session();
+    clear(&book);
+    expect(call_answer, CAA_ASKS);
+    ask_session();
+    make_book(1024, "d.example", "p.d.example", "issue");
+    expect(call_answer, CAA_ASKS);
+    ask_session();
+    before.up = 111;
+    expect(call_state, CAA_ASKS);
+    make_book(1024, "example", "p.d.example", "issue");
+    expect(call_answer, CAA_ASKS);
+    ask_session();
+    before.up = 112;
+    expect(call_answer, CAA_PERMITTED);
+    ask_session();
+    for (tag = 0; tag < 2; tag++) {
+        make_book(1024, "example", "example", tags[tag]);
+        ask_session();
+        make_limited_book(80, "example", "example.org", tags[tag]);
+        expect(call_answer, CAA_PERMITTED);
+        ask_session();
+        before.account.octets[254] = 'b';
+        expect(call_answer, tag == 0 ? CAA_NOT_GRANTED : CAA_PERMITTED);
+        ask_session();
+        before.account.octets[254] = 'a';
+    }
+    make_chains(113, 8, "example");
+    expect(call_answer, CAA_PERMITTED);
+    ask_session();
+    make_chains(102, 9, "example");
+    expect(call_answer, CAA_TOO_MANY_ALIASES);
+    ask_session();
+    clear(&book);
+    put_caa(&book, "example", 128, "tbs", "Unknown");
+    expect(call_answer, CAA_UNKNOWN_CRITICAL);
+    ask_session();
+
+    /* one for each refusal */
+    make_book(1025, "d.example", "example", "issue");
+    expect(call_answer, CAA_TOO_MANY_RECORDS);
+    ask_session();
+    book.length -= 100;
+    expect(call_answer, CAA_BAD_RECORD);
+    ask_session();
+    book.length = 49153;
+    expect(call_answer, CAA_BOOK_TOO_LONG);
+    ask_session();
+    make_chains(113, 8, "d.example");
+    put_caa(&book, "T7.c112.e", 0, "issue", "ca1.e");
+    expect(call_answer, CAA_ALIAS_CONFLICT);
+    ask_session();
+    before.up = 113;
+    expect(call_answer, CAA_SESSION_ENDED);
+    expect(call_fail, CAA_SESSION_ENDED);
+    expect(call_state, CAA_NO_VERDICT);
+    ask_session();
+    make_request(2, 3);
+    expect(call_open, CAA_BAD_NAME);
+    ask_session();
+    request.length = 16385;
+    expect(call_open, CAA_REQUEST_TOO_LONG);
+    ask_session();
+    make_request(1, 3);
+    put_text(&issuer, ".");
+    expect(call_open, CAA_BAD_ISSUER);
+    ask_session();
+    issuer.length--;
+    put_text(&account, "a");
+    expect(call_open, CAA_BAD_ACCOUNT_OR_METHOD);
+    ask_session();
+
+    make_applicant(11);
+    open_session();
+    make_book(8, "p.d.example", "a.p.d.example", "issue");
+    ask_changed_session();
+    make_chains(2, 8, "a.a.a.p.d.example");
+    expect(call_answer, CAA_PERMITTED);
+    ask_changed_session();
+}
+
 static void lines(void)
 {
     clear(&line);
@@ -495,9 +649,14 @@ int main(int count, char **arguments)
     }
     books();
     lines();
+    sessions();
     over = tell("caa_judge_for", most_judge, ENOUGH_FOR_BOOK);
     over |= tell("caa_permitted_issuers_for", most_list, ENOUGH_FOR_BOOK);
     over |= tell("caa_write_line", most_write, ENOUGH_FOR_LINE);
     over |= tell("caa_read_line", most_read, ENOUGH_FOR_LINE);
+    over |= tell("caa_session_open", most_open, ENOUGH_FOR_SESSION);
+    over |= tell("caa_session_answer", most_answer, ENOUGH_FOR_BOOK);
+    over |= tell("caa_session_fail", most_fail, ENOUGH_FOR_SESSION);
+    over |= tell("caa_session_state", most_state, ENOUGH_FOR_SESSION);
     return fflush(stdout) == 0 ? over : 2;
 }

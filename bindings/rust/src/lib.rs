@@ -1,12 +1,13 @@
 //! May this certificate authority issue? The CAA rules of RFC 8659 and RFC 8657, by a proved library.
 //!
-//! Safe wrappers for the four calls of `libsplinepearl.a`: slices in, enums out. Each call accepts any
+//! Safe wrappers for the calls of `libsplinepearl.a`: slices in, enums out. Each call accepts any
 //! octets and checks them itself. None panics, allocates, keeps state or reads anything but its
-//! parameters.
+//! parameters. What a [`Session`] knows is in there, and the caller keeps it.
 //!
 //! - [`judge`]: may this issuer issue for these names, for this account and by this validation method, by
 //!   these records?
 //! - [`permitted_issuers`]: who may?
+//! - [`Session`]: may this issuer issue for one name, by one lookup after the other?
 //! - [`write_line`] and [`read_line`]: CAA data as a line of text, and back.
 //!
 //! A request is a list of DNS names, not a CSR; a book is a list of resource records. Both are in the
@@ -61,9 +62,11 @@ mod issuers;
 mod judgement;
 mod lines;
 mod refusal;
+mod session;
 mod word;
 
 pub use issuers::{permitted_issuers, IssuerList, Issuers, PermittedIssuers};
 pub use judgement::{judge, Judgement};
 pub use lines::{read_line, write_line, MAX_DATA_OCTETS, MAX_LINE_OCTETS};
 pub use refusal::Refusal;
+pub use session::{Session, Verdict, SESSION_OCTETS};

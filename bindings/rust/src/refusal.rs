@@ -3,7 +3,7 @@
 use std::error::Error;
 use std::fmt;
 
-/// An input breaks a rule. Nothing was decided, and the buffer was not changed.
+/// An input breaks a rule. Nothing was decided, and neither the buffer nor the session was changed.
 ///
 /// Displayed as the line of the desk program, such as `refused 6 at 4`. `{:#}` adds the reason.
 #[derive(Clone, Copy, Debug, PartialEq, Eq, Hash)]
@@ -11,7 +11,8 @@ use std::fmt;
 pub enum Refusal {
     /// 1: the request is over 16,384 octets.
     RequestTooLong,
-    /// 2: the request is empty, or one of its names breaks a rule.
+    /// 2: the request is empty, or one of its names breaks a rule. To open a session, a request is one name:
+    /// octets after it are name 1.
     BadName {
         /// The number of that name, from 0; 0 if the request is empty.
         name: usize,
@@ -52,6 +53,8 @@ pub enum Refusal {
         /// The number of the later of the two records, from 0; the lowest such number.
         record: usize,
     },
+    /// 14: the session has ended, and takes no answer. It was not changed.
+    SessionEnded,
     /// 15: the account or the method breaks a rule. Each has 1 to 255 octets from 33 to 126 without `;`,
     /// and the method has no `,`.
     BadAccountOrMethod,
@@ -79,6 +82,7 @@ impl Refusal {
             10 => Refusal::LineTooLong,
             11 => Refusal::BadData,
             12 => Refusal::AliasConflict { record: place },
+            14 => Refusal::SessionEnded,
             15 => Refusal::BadAccountOrMethod,
             _ => Refusal::Unknown { number, place },
         }
@@ -99,6 +103,7 @@ impl Refusal {
             Refusal::LineTooLong => 10,
             Refusal::BadData => 11,
             Refusal::AliasConflict { .. } => 12,
+            Refusal::SessionEnded => 14,
             Refusal::BadAccountOrMethod => 15,
             Refusal::Unknown { number, .. } => number,
         }
@@ -118,6 +123,7 @@ impl Refusal {
             | Refusal::BadLine
             | Refusal::LineTooLong
             | Refusal::BadData
+            | Refusal::SessionEnded
             | Refusal::BadAccountOrMethod => 0,
         }
     }
@@ -145,6 +151,7 @@ impl Refusal {
                 "this record and one before it have the same owner: an alias and a CAA record, \
                  or two aliases"
             }
+            Refusal::SessionEnded => "the session has ended, and takes no answer",
             Refusal::BadAccountOrMethod => {
                 "the account or the method is empty, too long, or has an octet that isn't allowed"
             }
@@ -171,12 +178,12 @@ mod tests {
 
     #[test]
     fn number_and_place_come_back() {
-        for number in [2, 3, 6, 7, 8, 12, 0, 13, 14, 16, 20, 255] {
+        for number in [2, 3, 6, 7, 8, 12, 0, 13, 16, 20, 255] {
             let refusal = Refusal::of(number, 5);
             assert_eq!((refusal.number(), refusal.place()), (number, 5));
         }
         assert_eq!(Refusal::of(12, 5), Refusal::AliasConflict { record: 5 });
-        for number in [1, 4, 5, 9, 10, 11, 15] {
+        for number in [1, 4, 5, 9, 10, 11, 14, 15] {
             let refusal = Refusal::of(number, 0);
             assert_eq!((refusal.number(), refusal.place()), (number, 0));
         }

@@ -42,6 +42,10 @@ pub static OF_LISTS: Call = Call {
     name: "list, aliases",
     kinds: KINDS,
 };
+pub static OF_SESSIONS: Call = Call {
+    name: "session, chains",
+    kinds: KINDS,
+};
 
 /// Of requests with more names, the first ones are enough.
 const SOME_NAMES: usize = 4;

@@ -10,11 +10,12 @@ mod list;
 mod log;
 mod parameters;
 mod readers;
+mod session;
 mod up;
 
 use std::fmt;
 
-use crate::calls::{Desk, Judge, Lines, PermittedIssuers};
+use crate::calls::{Desk, Judge, Lines, PermittedIssuers, Sessions};
 use crate::cases::{self, Case, Report};
 use crate::generate::{Generator, Inputs};
 use crate::readers::Readers;
@@ -23,6 +24,7 @@ use lines::LinesComparison;
 use list::ListComparison;
 use log::{Differences, Tally};
 use readers::ReadersComparison;
+use session::SessionComparison;
 
 /// A run of so many cases or more is worth something only if each kind of answer comes
 /// `WANTED_TIMES`.
@@ -39,6 +41,7 @@ pub struct Other {
     pub judge: Option<Judge>,
     pub permitted_issuers: Option<PermittedIssuers>,
     pub lines: Option<Lines>,
+    pub sessions: Option<Sessions>,
 }
 
 impl Other {
@@ -47,6 +50,7 @@ impl Other {
         judge: None,
         permitted_issuers: None,
         lines: None,
+        sessions: None,
     };
 
     /// This package's own.
@@ -55,6 +59,7 @@ impl Other {
         judge: Some(Desk::OWN.judge),
         permitted_issuers: Some(Desk::OWN.permitted_issuers),
         lines: Some(Desk::OWN.lines),
+        sessions: Some(Desk::OWN.sessions),
     };
 
     pub fn is_nothing(&self) -> bool {
@@ -63,7 +68,10 @@ impl Other {
 
     /// Whether there is more than readers.
     pub fn has_calls(&self) -> bool {
-        self.judge.is_some() || self.permitted_issuers.is_some() || self.lines.is_some()
+        self.judge.is_some()
+            || self.permitted_issuers.is_some()
+            || self.lines.is_some()
+            || self.sessions.is_some()
     }
 
     /// Its calls, with ours for those it has not; `None` without any.
@@ -72,12 +80,14 @@ impl Other {
             judge,
             permitted_issuers,
             lines,
+            sessions,
             ..
         } = *self;
         self.has_calls().then(|| Desk {
             judge: judge.unwrap_or(Desk::OWN.judge),
             permitted_issuers: permitted_issuers.unwrap_or(Desk::OWN.permitted_issuers),
             lines: lines.unwrap_or(Desk::OWN.lines),
+            sessions: sessions.unwrap_or(Desk::OWN.sessions),
         })
     }
 }
@@ -212,6 +222,9 @@ fn parts(other: &Other, seed: u64) -> Vec<Box<dyn Part>> {
     }
     if let Some(lines) = other.lines {
         parts.push(Box::new(LinesComparison::new(lines, seed)));
+    }
+    if let Some(sessions) = other.sessions {
+        parts.push(Box::new(SessionComparison::new(sessions, seed)));
     }
     parts
 }

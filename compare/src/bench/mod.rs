@@ -13,6 +13,7 @@ mod lines;
 mod list;
 mod measure;
 pub mod night;
+mod sessions;
 mod shapes;
 pub mod yardstick;
 
@@ -63,6 +64,13 @@ pub fn run(library: &Other, text: &str, mut tell: impl FnMut(Result<Measured, St
     }
     if let Some(library) = library.lines {
         for load in lines::loads() {
+            if load.title.contains(text) {
+                tell(load.measure(library));
+            }
+        }
+    }
+    if let Some(library) = library.sessions {
+        for load in sessions::loads() {
             if load.title.contains(text) {
                 tell(load.measure(library));
             }

@@ -5,14 +5,16 @@ mod check;
 mod notation;
 mod reader;
 mod runner;
+mod session;
 
 pub use check::Asker;
 pub use notation::to_hex;
 pub use reader::{read_cases, Case};
 pub use runner::{run, Report};
+pub use session::{memory, SessionCall, Step};
 
 /// Every stored case file, by name.
-pub const FILES: [(&str, &str); 13] = [
+pub const FILES: [(&str, &str); 14] = [
     ("whole-case.txt", include_str!("../../cases/whole-case.txt")),
     ("rfc8659.txt", include_str!("../../cases/rfc8659.txt")),
     ("values.txt", include_str!("../../cases/values.txt")),
@@ -21,6 +23,7 @@ pub const FILES: [(&str, &str); 13] = [
     ("climb.txt", include_str!("../../cases/climb.txt")),
     ("up.txt", include_str!("../../cases/up.txt")),
     ("aliases.txt", include_str!("../../cases/aliases.txt")),
+    ("sessions.txt", include_str!("../../cases/sessions.txt")),
     ("permitted.txt", include_str!("../../cases/permitted.txt")),
     ("request.txt", include_str!("../../cases/request.txt")),
     ("issuer.txt", include_str!("../../cases/issuer.txt")),

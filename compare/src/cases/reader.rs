@@ -2,6 +2,7 @@
 
 use super::check::{Asker, Check};
 use super::notation::{hex, number, quoted, text, wire_name, word};
+use super::session::Step;
 
 /// Inputs and what has to be answered for them.
 pub struct Case {
@@ -11,6 +12,8 @@ pub struct Case {
     /// For the checks that are read next.
     asker: Asker,
     pub(super) checks: Vec<Check>,
+    /// What is done with the case's session, in order.
+    pub steps: Vec<Step>,
 }
 
 impl Case {
@@ -70,7 +73,8 @@ pub fn read_cases(file: &str, contents: &str) -> Result<Vec<Case>, String> {
         }
         read_line(&mut cases, line).map_err(|why| format!("{file}:{}: {why}", index + 1))?;
     }
-    match cases.iter().find(|case| case.checks.is_empty()) {
+    let asks_nothing = |case: &&Case| case.checks.is_empty() && case.steps.is_empty();
+    match cases.iter().find(asks_nothing) {
         Some(case) => Err(format!("{file}: case `{}` asks nothing", case.title)),
         None => Ok(cases),
     }
@@ -85,6 +89,7 @@ fn read_line(cases: &mut Vec<Case>, line: &str) -> Result<(), String> {
             book: Vec::new(),
             asker: Asker::default(),
             checks: Vec::new(),
+            steps: Vec::new(),
         });
         return Ok(());
     }
@@ -109,6 +114,11 @@ fn read_directive(case: &mut Case, directive: &str, rest: &str) -> Result<(), St
         "account" => case.asker.account = text(rest)?,
         "method" => case.asker.method = text(rest)?,
         _ => {
+            let (request, book) = (&mut case.request, &mut case.book);
+            if let Some(step) = Step::read(directive, rest, request, book, &case.asker) {
+                case.steps.push(step?);
+                return Ok(());
+            }
             let check = Check::read(directive, rest, &case.asker)
                 .ok_or_else(|| format!("`{directive}` is no directive"))?;
             case.checks.push(check?);
@@ -158,6 +168,7 @@ fn two_octets(number: usize) -> Result<[u8; 2], String> {
 
 #[cfg(test)]
 mod tests {
+    use super::super::session::SessionCall;
     use super::*;
 
     #[test]
@@ -191,6 +202,15 @@ mod tests {
             "case x\nvalue ; => no name",
             "case x\nwrite room 9 \\0 => refused 11 at 0",
             "case x\nread 0 a b => data \\256",
+            "case x\nstate",
+            "case x\nfail x => verdict 23",
+            "case x\nopen x => asks a",
+            "case x\nopen x => asks a at b",
+            "case x\nset frown 1",
+            "case x\nset phase -1",
+            "case x\nset name-frown 1",
+            "case x\nset account a{257}",
+            "case x\nnumbers => phase 1 up 0",
         ] {
             let mistake = read_cases("f", wrong).err().expect(wrong);
             assert!(mistake.starts_with("f:"), "{mistake}");
@@ -216,6 +236,40 @@ mod tests {
         assert!(judged == [(&b"a"[..], &good), (b"c", &other), (b"d", &without)]);
         assert!(cases[0].askers() == [&good, &other, &without]);
         assert!(cases[1].askers() == [&good]);
+    }
+
+    #[test]
+    fn an_opening_takes_the_names_above_it_and_an_answer_the_records() {
+        let cases = read_cases(
+            "f",
+            "case x\nrequest a\nbook-hex 01\nopen x => ?\nbook-hex 02\nanswer => ?\nrequest b\n\
+             book-hex 03\nanswer => ?\nrequest c\nopen => ?\nanswer => ?",
+        )
+        .unwrap();
+        let mut given: Vec<&[u8]> = Vec::new();
+        for step in &cases[0].steps {
+            match step {
+                Step::Call {
+                    call: SessionCall::Open { request, .. },
+                    ..
+                } => given.push(request),
+                Step::Call {
+                    call: SessionCall::Answer { book },
+                    ..
+                } => given.push(book),
+                _ => panic!("another step"),
+            }
+        }
+        assert_eq!(
+            given,
+            [
+                &b"\x01a\x00"[..],
+                b"\x01\x02",
+                b"\x03",
+                b"\x01b\x00\x01c\x00",
+                b""
+            ]
+        );
     }
 
     #[test]

@@ -4,6 +4,7 @@ use std::fmt;
 
 use super::check::{Asker, Check, Expected};
 use super::reader::Case;
+use super::session::try_steps;
 use crate::buffer::MARGIN;
 use crate::calls::{told, Desk};
 use crate::limits::LINE_OCTETS;
@@ -33,8 +34,9 @@ pub fn run(desk: Desk, cases: &[Case]) -> Report {
     let wrong = cases
         .iter()
         .filter_map(|case| {
-            let mistakes = case.checks.iter().map(|check| try_one(desk, case, check));
-            let first = mistakes.filter_map(Result::err).next()?;
+            let checks = case.checks.iter().map(|check| try_one(desk, case, check));
+            let steps = std::iter::once_with(|| try_steps(&desk.sessions, &case.steps));
+            let first = checks.chain(steps).filter_map(Result::err).next()?;
             Some(format!("{}: {first}", case.title))
         })
         .collect();

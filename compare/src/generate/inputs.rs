@@ -101,7 +101,7 @@ impl Generator {
         }
     }
 
-    fn any_issuer(&mut self) -> Vec<u8> {
+    pub(super) fn any_issuer(&mut self) -> Vec<u8> {
         match self.below(16) {
             0 => {
                 let issuer = self.issuer();

@@ -9,11 +9,13 @@ mod heights;
 mod inputs;
 mod lines;
 mod names;
+mod sessions;
 mod slices;
 
 pub use every::{every_short_data, every_short_line, every_slice};
 pub use inputs::Inputs;
 pub use names::name_of_octets;
+pub use sessions::{CutAnswer, WholeBook, Written};
 
 /// The xorshift64* generator: small, and the same on every machine.
 pub struct Generator {

@@ -6,6 +6,7 @@ mod lines;
 mod lists;
 mod readers;
 mod rules;
+mod sessions;
 
 use compare::against::{differs_at_random, Other};
 

@@ -14,7 +14,7 @@ use Rattle.spec_record.specs.declared.PropertyTag.{PropertyTag}
 use Rattle.spec_record.specs.declared.PropertyTag.the-variants.{Issue, IssueWild}
 use Rattle.spec_record.specs.Property.{property}
 use Rattle.spec_applicant.specs.Applicant.{Applicant}
-use Rattle.spec_rule.specs.RelevantSet.{CaaRecord, Lookup, empty, found, endless, relevantSet}
+use Rattle.spec_rule.specs.RelevantSet.{CaaRecord, Lookup, empty, found, endless, lookup, relevantSet}
 use Rattle.spec_rule.specs.Authorizations.{Authorization, unrestricted, granted, unresolved, isUnknownCritical, isIssue, isIssueWild, isGrantee, consSome, orElse, governing, grantees, governedBy as ruleGovernedBy, unlessForbidden, authorizationFrom}
 use Rattle.read_grantee.specs.Places.{granteeOfData}
 use Rattle.read_grantee.proofs.Grantees.{grantee-of-data}
@@ -26,9 +26,9 @@ use Rattle.book_places.specs.Table.{tableOf, dataAt, isAliasAt}
 use Rattle.book_places.specs.Chains.{chainsOf}
 use Rattle.book_places.specs.Sets.{setAt, dataHasTag, dataIsUnknownCritical, dataGrants, inSet, firstUnknownCritical, firstTagged, setGrants}
 use Rattle.book_places.specs.NameAuthorizations.{governedBy, byIssue, byTags, unlessCritical, setAuthorization, bySet, nameAuthorization, granteesAt, setGrantees, meaning}
-use Rattle.book_places.specs.Theorems.{recordsIn, numbersOf, firstNumber, Finds, Authorization-by-offset, Set-grants}
-use Rattle.book_places.proofs.LookLaws.{Holds, first-numbers, ruled, caas-hold}
-use Rattle.book_places.proofs.ClimbLaws.{climb-by-offset, relevant-have}
+use Rattle.book_places.specs.Theorems.{recordsIn, numbersOf, firstNumber, Finds, Authorization-by-offset, Look-authorization-by-offset, Set-grants}
+use Rattle.book_places.proofs.LookLaws.{Holds, first-numbers, ruled, caas-hold, look-by-offset}
+use Rattle.book_places.proofs.ClimbLaws.{climb-by-offset, looked-have, relevant-have}
 
 -- the test q says of data what p says of a record that holds it
 abbrev Tells : (List ℕ → Bool) → (CaaRecord → Bool) → Type 0
@@ -158,6 +158,11 @@ unfolding nameAuthorization
 authorization-by-offset who book x wildcard accepted good =
     found-means who book (tableOf book) (chainsOf book .links) wildcard (relevantSet (ruled book accepted) x) _ (climb-by-offset book x accepted good)
     (relevant-have (Holds book (tableOf book)) (ruled book accepted) (caas-hold book accepted) x)
+
+pub look-authorization-by-offset : Look-authorization-by-offset
+look-authorization-by-offset who book x wildcard accepted good =
+    found-means who book (tableOf book) (chainsOf book .links) wildcard (lookup (ruled book accepted) x) _ (look-by-offset book x accepted good)
+    (looked-have (Holds book (tableOf book)) (ruled book accepted) (caas-hold book accepted) x (lookup (ruled book accepted) x) refl)
 
 pub set-grants : Set-grants
 unfolding setGrants setGrantees dataGrants

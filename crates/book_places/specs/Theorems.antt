@@ -24,7 +24,7 @@ use Rattle.book_places.specs.Chains.{chainsOf}
 use Rattle.book_places.specs.Sets.{isOwnedOf, ownedOf, ownedFrom, firstOf, lookedUpAt, nearestRecord, labelsOffAt, setAt, dataHasTag, dataIsUnknownCritical, dataGrants, setGrants}
 use Rattle.book_places.specs.Onward.{onwardOf}
 use Rattle.book_places.specs.declared.Kind.{Kind}
-use Rattle.book_places.specs.NameAuthorizations.{questionNumber, setAuthorization, nameAuthorization, answerTo, setGrantees, meaning}
+use Rattle.book_places.specs.NameAuthorizations.{questionNumber, setAuthorization, bySet, nameAuthorization, answerTo, setGrantees, meaning}
 use Rattle.book_places.specs.declared.FirstRecord.{FirstRecord}
 use Rattle.book_places.specs.declared.FirstRecord.the-variants.{At, Nothing}
 use Rattle.book_places.specs.declared.Governing.{Governing}
@@ -144,6 +144,15 @@ Authorization-by-offset =
     meaning who book (tableOf book) (chainsOf book .links)
     (nameAuthorization book (tableOf book) (chainsOf book .links) (chainsOf book .heads) (onwardOf book) (wire x) wildcard)
     ≡ authorizationFrom who wildcard (relevantSet (asBook (records book)) x)
+
+-- The same for a lookup of X alone, without the climb.
+abbrev pub Look-authorization-by-offset : Type 0
+Look-authorization-by-offset =
+    (who : Applicant) (book : List ℕ) (x : Name) (wildcard : Bool) → bookRefusal book ≡ none → GoodName x →
+    meaning who book (tableOf book) (chainsOf book .links)
+    (bySet book (tableOf book) (chainsOf book .links) wildcard
+    (lookedUpAt book (tableOf book) (chainsOf book .links) (chainsOf book .heads) (onwardOf book) (wire x)))
+    ≡ authorizationFrom who wildcard (lookup (asBook (records book)) x)
 
 -- The number of a question says which set is asked, and whether for X or for *.X. This holds for any table and links.
 abbrev pub Question-by-number : Type 0

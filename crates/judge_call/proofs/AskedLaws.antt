@@ -1,4 +1,4 @@
--- The verdict by a set that is asked, and notes of those that were asked.
+-- Notes of the sets that were asked.
 use Prim.Native.Nat.{ℕ, zero, suc, _+_, _*_, _%_, _≤_, _<_}
 use native.Mathlib.Omega.{arith}
 use mathlib.Core.Path.{_≡_, refl, sym, ap, _∙_}
@@ -16,19 +16,15 @@ use Rattle.spec_octets.proofs.ListLaws.{true-or-false}
 use Rattle.spec_refusal.specs.declared.RecordNo.{RecordNo}
 use Rattle.spec_applicant.specs.Applicant.{Applicant}
 use Rattle.spec_rule.specs.declared.Judgement.{Judgement}
-use Rattle.spec_rule.specs.declared.Judgement.the-variants.{Permitted, UnknownCritical, NotGranted, TooManyAliases}
+use Rattle.spec_rule.specs.declared.Judgement.the-variants.{Permitted}
 use Rattle.spec_rule.specs.Authorizations.{Authorization, unrestricted, forbidden, granted, unresolved, permits}
 use Rattle.spec_rule.specs.Verdicts.{denied}
-use Rattle.book_places.specs.declared.Governing.{Governing}
-use Rattle.book_places.specs.declared.NameAuthorization.{NameAuthorization}
-use Rattle.book_places.specs.declared.NameAuthorization.the-variants.{Unrestricted, Forbidden, Governed, Unresolved}
 use Rattle.book_places.specs.Table.{roomFor}
-use Rattle.book_places.specs.Sets.{setGrants}
 use Rattle.book_places.specs.NameAuthorizations.{questionNumber, setAuthorization, answerTo, meaning}
 use Rattle.book_places.proofs.StandingRecords.{room-enough}
-use Rattle.book_places.proofs.AuthorizationLaws.{set-grants}
 use Rattle.book_places.proofs.Questions.{question-by-number}
-use Rattle.judge_call.specs.Asked.{verdictBySet, answerPermits, Asked}
+use Rattle.judge_set.specs.BySet.{verdictBySet}
+use Rattle.judge_call.specs.Asked.{answerPermits, Asked}
 
 module _ (issuer : List ℕ) (k u : ℕ) where
   pub permits-it : (a : Authorization) → Permitted ≡ cond (permits issuer a) Permitted (denied k u a) → permits issuer a ≡ true
@@ -42,32 +38,6 @@ module _ (issuer : List ℕ) (k u : ℕ) where
       go false f = let z : _≡_ {A = ℕ} 0 1 = cc in absurd (omega arith)
 
 module _ (who : Applicant) (issuer book table links : List ℕ) where
-  -- a is what the set says
-  module _ (k : ℕ) (set : RecordNo) (up : ℕ) (wildcard : Bool) (a : NameAuthorization) (d : a ≡ setAuthorization book table links wildcard set) where
-    pub by-unrestricted : a ≡ Unrestricted → Permitted ≡ verdictBySet who issuer book table links k set up wildcard
-    unfolding verdictBySet
-    by-unrestricted e = rw (← d, e)
-
-    pub by-critical :
-        (rr : RecordNo) → a ≡ Forbidden rr → UnknownCritical (record { name = record { 0 = k }; rr = rr; up = record { 0 = up } }) ≡ verdictBySet who issuer book table links k set up wildcard
-    unfolding verdictBySet
-    by-critical rr e = rw (← d, e)
-
-    pub by-alias :
-        (rr : RecordNo) → a ≡ Unresolved rr → TooManyAliases (record { name = record { 0 = k }; rr = rr; up = record { 0 = up } }) ≡ verdictBySet who issuer book table links k set up wildcard
-    unfolding verdictBySet
-    by-alias rr e = rw (← d, e)
-
-    module _ (g : Governing) (e : a ≡ Governed g) (b : Bool) (q : b ≡ setGrants who (g .tag) issuer book table links (g .set .0)) where
-      pub by-grant : b ≡ true → Permitted ≡ verdictBySet who issuer book table links k set up wildcard
-      unfolding verdictBySet
-      by-grant h = rw (← d, e, ← set-grants who book table links issuer (g .tag) (g .set .0), ← q, h)
-
-      pub by-no-grant :
-          b ≡ false → NotGranted (record { name = record { 0 = k }; rr = g .first; up = record { 0 = up } }) ≡ verdictBySet who issuer book table links k set up wildcard
-      unfolding verdictBySet
-      by-no-grant h = rw (← d, e, ← set-grants who book table links issuer (g .tag) (g .set .0), ← q, h)
-
   -- notes
   none-set : (m n : ℕ) → getD (replicate m false) n false ≡ false
   none-set zero n = refl

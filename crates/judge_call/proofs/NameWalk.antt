@@ -48,7 +48,8 @@ use Rattle.book_places.proofs.ChainedRecords.{chains-fit}
 use Rattle.book_places.proofs.ClimbLaws.{labels-off-by-offset}
 use Rattle.book_places.proofs.AuthorizationLaws.{authorization-by-offset}
 use Rattle.book_places.proofs.Bounds.{nearest-below}
-use Rattle.judge_call.specs.Asked.{Ready, verdictBySet}
+use Rattle.judge_set.specs.BySet.{verdictBySet}
+use Rattle.judge_call.specs.Asked.{Ready}
 use Rattle.judge_call.proofs.AskedLaws.{permits-it}
 
 -- what `let Judgement::Permitted = j else` knows

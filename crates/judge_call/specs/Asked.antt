@@ -3,20 +3,17 @@
 use Prim.Native.Nat.{ℕ, _*_}
 use mathlib.Core.Path.{_≡_}
 use mathlib.Core.Bool.{Bool, true, false}
-use mathlib.Core.List.{List, [], _∷_}
+use mathlib.Core.List.{List}
 use mathlib.Core.Option.{none}
 use lib.ListN.{length, getD, replicate}
 use Rattle.spec_limits.specs.Limits.{maxRecords}
-use Rattle.spec_refusal.specs.declared.RecordNo.{RecordNo}
 use Rattle.spec_applicant.specs.Applicant.{Applicant}
-use Rattle.spec_rule.specs.declared.Judgement.{Judgement}
 use Rattle.spec_rule.specs.Authorizations.{permits}
-use Rattle.spec_rule.specs.Verdicts.{verdictFrom}
 use Rattle.spec_rule.specs.Calls.{firstRefusal, judgeChecks}
 use Rattle.book_places.specs.Table.{roomFor, tableOf}
 use Rattle.book_places.specs.Chains.{noRecord, chainsOf}
 use Rattle.book_places.specs.Onward.{onwardOf}
-use Rattle.book_places.specs.NameAuthorizations.{setAuthorization, answerTo, meaning}
+use Rattle.book_places.specs.NameAuthorizations.{answerTo, meaning}
 use Rattle.book_index.specs.Indexes.{Blank}
 
 pub record Ready (who : Applicant) (request issuer book table links heads onward : List ℕ) : Type 0 where
@@ -27,11 +24,6 @@ pub record Ready (who : Applicant) (request issuer book table links heads onward
   pub pointed : onward ≡ onwardOf book
 
 module _ (who : Applicant) (issuer book table links : List ℕ) where
-  -- The verdict on name k alone, given its relevant set and how many labels were taken off to reach it.
-  unfoldable pub verdictBySet : ℕ → RecordNo → ℕ → Bool → Judgement
-  verdictBySet k set up wildcard =
-      verdictFrom k issuer (record { says = meaning who book table links (setAuthorization book table links wildcard set); up = up } ∷ [])
-
   -- Whether the answer to the question with this number permits the issuer.
   unfoldable pub answerPermits : ℕ → Bool
   answerPermits question = permits issuer (meaning who book table links (answerTo book table links question))

@@ -2,7 +2,6 @@
 use book_places::END;
 use book_places::FEW_RECORDS;
 use book_places::FirstRecord;
-use book_places::NameAuthorization;
 use book_places::SHORT_BOOK;
 use book_places::SHORT_TABLE;
 use book_places::TABLE;
@@ -12,13 +11,13 @@ use spec_refusal::Check;
 use spec_refusal::NameNo;
 use spec_refusal::RecordNo;
 use spec_refusal::Refusal;
-use spec_rule::Denial;
 use spec_rule::Judgement;
 use spec_rule::LabelsOff;
 ghost use mathlib.Core.Path.{_≡_};
 ghost use mathlib.Core.Option.{none};
 ghost use Rattle.spec_rule.specs.Calls.{firstRefusal, judgeChecks, judge};
-ghost use Rattle.judge_call.specs.Asked.{Ready, verdictBySet, Asked, Lent, HeadsLent};
+ghost use Rattle.judge_set.specs.BySet.{verdictBySet};
+ghost use Rattle.judge_call.specs.Asked.{Ready, Asked, Lent, HeadsLent};
 ghost use Prim.Native.Nat.{_≤_, _<_};
 ghost use lib.ListN.{length};
 ghost use Rattle.book_places.specs.Table.{shortBook, roomFor};
@@ -28,39 +27,7 @@ const NOTES: usize = 2 * MAX_RECORDS;
 
 const SHORT_NOTES: usize = 2 * FEW_RECORDS;
 
-// Judges one name, given its relevant set and how many labels were taken off to reach it.
-fn judge_by_set(
-    issuer: &[u8],
-    account: &[u8],
-    method: &[u8],
-    book: &[u8],
-    table: &[u16],
-    links: &[u16],
-    name: NameNo,
-    set: RecordNo,
-    up: LabelsOff,
-    wildcard: bool,
-) -> Judgement
-    ensures { λ r. ⌜ r ≡ verdictBySet (record { account = now (account .entry); method = now (method .entry) }) (now (issuer .entry)) (now (book .entry)) (now (table .entry)) (now (links .entry)) (name .0) set (up .0) wildcard ⌝ }
-{
-    match book_authorization::set_authorization(book, table, links, set, wildcard) {
-        NameAuthorization::Unrestricted => Judgement::Permitted,
-        NameAuthorization::Forbidden(rr) => Judgement::UnknownCritical(Denial { name, rr, up }),
-        NameAuthorization::Unresolved(rr) => Judgement::TooManyAliases(Denial { name, rr, up }),
-        NameAuthorization::Governed(g) => {
-            let governing = g.set;
-            let from = governing.0;
-            let rr = g.first;
-            let tag = g.tag;
-            if book_set::any_grants(book, table, links, from, tag, issuer, account, method) {
-                return Judgement::Permitted;
-            }
-            Judgement::NotGranted(Denial { name, rr, up })
-        }
-    }
-}
-
-// The same, and notes if the set permits the issuer. Where that is noted already, the set is not asked again.
+// Judges one name by its relevant set, and notes if the set permits the issuer. Where that is noted already, the set is not asked again.
 fn judge_once(
     issuer: &[u8],
     account: &[u8],
@@ -82,7 +49,7 @@ fn judge_once(
     if asked[question] {
         return Judgement::Permitted;
     }
-    let judgement = judge_by_set(
+    let judgement = judge_set::judge_by_set(
         issuer,
         account,
         method,

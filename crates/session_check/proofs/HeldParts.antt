@@ -1,9 +1,9 @@
 -- A kept text as a part of its octets; and the ways out of `kept`.
 use Prim.Native.Nat.{ℕ, _-_, _≤_}
 use native.Mathlib.Omega.{arith}
-use mathlib.Core.Path.{_≡_, refl, ap, sym, _∙_}
-use mathlib.Core.Bool.{Bool, true, false, cond, _&&_}
-use mathlib.Core.List.{List, []}
+use mathlib.Core.Path.{_≡_, refl, ap, _∙_}
+use mathlib.Core.Bool.{Bool, true, false, cond}
+use mathlib.Core.List.{[]}
 use mathlib.Core.Option.{none, some}
 use lib.Dec.{leb}
 use lib.ListN.{length, take, drop}
@@ -14,7 +14,7 @@ use Rattle.spec_refusal.specs.declared.Check.{Check}
 use Rattle.spec_refusal.specs.declared.Check.the-variants.{Accepted, Refused}
 use Rattle.spec_refusal.specs.Checks.{checked}
 use Rattle.spec_issuer.specs.Issuer.{isIssuer}
-use Rattle.spec_applicant.specs.Applicant.{Applicant, isApplicant, applicantRefusal}
+use Rattle.spec_applicant.specs.Applicant.{isApplicant, applicantRefusal}
 use Rattle.spec_session.specs.declared.Text.{Text}
 use Rattle.spec_session.specs.declared.Session.{Session}
 use Rattle.spec_session.specs.Sessions.{held, keptApplicant}

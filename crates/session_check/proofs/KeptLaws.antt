@@ -1,16 +1,15 @@
 -- What the answer of `kept` says about the session, for its callers.
 use Prim.Native.Nat.{ℕ, _-_}
 use native.Mathlib.Omega.{arith}
-use mathlib.Core.Path.{_≡_, refl, ap, sym, _∙_}
+use mathlib.Core.Path.{_≡_, refl, ap, sym}
 use mathlib.Core.Bool.{Bool, true, false, cond, _&&_}
 use mathlib.Core.Option.{Option, none, some}
 use lib.Dec.{ltb}
 use lib.ListN.{length, drop}
 use Rattle.spec_name.specs.Names.{Name, wire}
-use Rattle.spec_request.specs.Request.{isWildcard, base, requestedName}
+use Rattle.spec_request.specs.Request.{isWildcard, base}
 use Rattle.spec_issuer.specs.Issuer.{isIssuer}
 use Rattle.spec_applicant.specs.Applicant.{isApplicant}
-use Rattle.spec_record.specs.Records.{filling}
 use Rattle.spec_session.specs.declared.Session.{Session}
 use Rattle.spec_session.specs.Sessions.{held, keptName, keptApplicant, reaches, isKept}
 use Rattle.session_kept.specs.declared.Place.{Place}

@@ -4,7 +4,7 @@ use native.Mathlib.Omega.{arith}
 use mathlib.Core.Path.{_≡_, refl, ap, sym, _∙_}
 use mathlib.Core.List.{List, [], _∷_, _++_, append-nil, append-assoc}
 use lib.ListN.{length, take, replicate, set, getD}
-use lib.Seq.{take-length, take-append-le, take-suc, length-take-le, set-append-seam, set-at}
+use lib.Seq.{take-length, take-append-le, take-suc, length-take-le, set-at}
 use Rattle.spec_session.specs.declared.Text.{Text}
 use Rattle.spec_session.specs.Sessions.{maxTextOctets, textOf}
 use Rattle.spec_session.proofs.Texts.{texts-kept}

@@ -1,19 +1,17 @@
 -- The loop of label_above: what is left of the name gives the answer.
-use Prim.Native.Nat.{ℕ, zero, suc, _+_, _-_, _≤_, _<_}
+use Prim.Native.Nat.{ℕ, suc, _+_, _-_, _≤_, _<_}
 use native.Mathlib.Omega.{arith}
 use mathlib.Core.Path.{_≡_, refl, ap, sym, _∙_}
-use mathlib.Core.Bool.{cond}
 use mathlib.Core.List.{List, [], _∷_, _++_, append-nil}
 use lib.Dec.{ltb}
 use lib.ListN.{length, drop, length-drop}
 use borrow.Author.Tests.{lt-ltb, le-ltb}
 use Rattle.spec_octets.specs.Lists.{All}
-use Rattle.spec_octets.proofs.ListLaws.{true-or-false, All-head, All-tail}
+use Rattle.spec_octets.proofs.ListLaws.{All-head, All-tail}
 use Rattle.spec_name.specs.Names.{Name, wire, GoodName}
 use Rattle.spec_name.proofs.NameLaws.{GoodLabel}
 use Rattle.read_name.specs.Places.{parentPlace}
 use Rattle.read_name.proofs.Parents.{further, root-stays, behind-label, label-passed}
-use Rattle.session_kept.specs.declared.Above.{Above}
 use Rattle.session_kept.specs.declared.Above.the-variants.{Label, Top}
 use Rattle.session_kept.specs.Places.{aboveAt}
 

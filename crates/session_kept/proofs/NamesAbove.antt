@@ -2,10 +2,9 @@
 use Prim.Native.Nat.{ℕ, _-_, _≤_, _<_}
 use native.Mathlib.Omega.{arith}
 use mathlib.Core.Path.{_≡_, refl, ap, sym, _∙_}
-use mathlib.Core.Bool.{Bool}
-use mathlib.Core.List.{List, [], _∷_}
+use mathlib.Core.List.{List, [], _∷_, _++_, append-nil}
 use mathlib.Core.Option.{some}
-use lib.ListN.{length, take, drop, drop-of-length-le, length-drop}
+use lib.ListN.{length, drop, drop-of-length-le, length-drop}
 use lib.Seq.{take-all}
 use Rattle.spec_octets.specs.Reader.{given}
 use Rattle.spec_octets.proofs.ReaderLaws.{bind-some, given-some}
@@ -19,19 +18,25 @@ use Rattle.read_request.specs.declared.RequestedRead.{RequestedRead}
 use Rattle.read_request.specs.declared.RequestedRead.the-variants.{Good, Fault}
 use Rattle.read_request.specs.Places.{requestedAt}
 use Rattle.read_request.proofs.RequestPlaces.{RequestedTo, name-broken, requested-there}
+use Rattle.spec_session.proofs.Kept.{filling-some}
 use Rattle.session_kept.specs.declared.Part.{Part}
 use Rattle.session_kept.specs.declared.Above.{Above}
 use Rattle.session_kept.specs.declared.Above.the-variants.{Label, Top}
 use Rattle.session_kept.specs.declared.KeptName.the-variants.{At, Broken}
 use Rattle.session_kept.specs.Places.{aboveAt, placedAt, placedIn, nameAbove}
 
--- a requested name that is read is a valid name
-read-good : (s : List ℕ) (n : Name) (rest : List ℕ) → requestedName s ≡ some (n, rest) → GoodName n
+-- a requested name that is read is a valid name, and stands at the front
+read-name : (s : List ℕ) (n : Name) (rest : List ℕ) → requestedName s ≡ some (n, rest) → (s ≡ wire n ++ rest) × GoodName n
 unfolding requestedName
-read-good s n rest e =
+read-name s n rest e =
     let (m, mid, f, h) = bind-some name (λ m. given (isRequestable m) m) s n rest .0 e in
     let (t, same, end) = given-some (isRequestable m) m n mid rest .0 h in
-    rw same at (name-is-its-labels s m mid .0 f .1)
+    rw (same, end) at (name-is-its-labels s m mid .0 f)
+
+pub name-alone : (s : List ℕ) (n : Name) → filling (requestedName s) ≡ some n → (s ≡ wire n) × GoodName n
+name-alone s n e =
+    let (whole, good) = read-name s n [] (filling-some (requestedName s) n .0 e) in
+    (whole ∙ append-nil (wire n), good)
 
 module _ (s : List ℕ) (u : ℕ) (o : RequestedRead) (f : o ≡ requestedAt s 0) where
   pub no-name : o ≡ Fault → Broken ≡ nameAbove s u
@@ -71,7 +76,7 @@ module _ (s : List ℕ) (u : ℕ) (o : RequestedRead) (f : o ≡ requestedAt s 0
                 nameAbove s u ≡ placedAt (r .wildcard) q
             go n found wild octets =
                 ap (λ v. placedIn (length s) u (filling v)) found
-                ∙ ap (placedAt (isWildcard n)) (sym (d (base n) (good-base n (read-good s n [] found)) octets))
+                ∙ ap (placedAt (isWildcard n)) (sym (d (base n) (good-base n (read-name s n [] found .1)) octets))
                 ∙ ap (λ w. placedAt w q) (sym wild)
 
         pub at-root : q ≡ Top → Broken ≡ nameAbove s u

@@ -2,10 +2,8 @@
 use read_name::Climb;
 use read_request::RequestedRead;
 use spec_session::MAX_TEXT_OCTETS;
-use spec_session::Session;
 use spec_session::Text;
 ghost use mathlib.Core.Path.{_≡_};
-ghost use mathlib.Core.Bool.{_&&_};
 ghost use lib.ListN.{length, drop};
 ghost use Rattle.spec_name.specs.Names.{Name, wire, GoodName};
 ghost use Rattle.spec_session.specs.Sessions.{textOf};

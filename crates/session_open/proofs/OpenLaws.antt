@@ -1,5 +1,5 @@
 -- The ways out of the functions that open a session.
-use Prim.Native.Nat.{ℕ, _-_, _≤_, _<_}
+use Prim.Native.Nat.{ℕ, _≤_, _<_}
 use native.Mathlib.Omega.{arith}
 use mathlib.Core.Path.{_≡_, refl, ap, sym, _∙_}
 use mathlib.Core.List.{List, [], _∷_}
@@ -28,7 +28,7 @@ use Rattle.spec_session.specs.declared.Session.{Session}
 use Rattle.spec_session.specs.declared.SessionAnswer.the-variants.{Judged}
 use Rattle.spec_session.specs.declared.Stepped.{Stepped}
 use Rattle.spec_session.specs.Sessions.{maxTextOctets, textOf, asking}
-use Rattle.spec_session.specs.Steps.{goesTo, restRefusal, oneNameRefusal, openChecks, sessionOf, endedSession, openedOr, opened}
+use Rattle.spec_session.specs.Steps.{goesTo, restRefusal, oneNameRefusal, openChecks, sessionOf, endedSession, opened}
 use Rattle.spec_session.proofs.Texts.{texts-kept}
 
 module _ (s : List ℕ) where

@@ -1,10 +1,12 @@
 -- The ways out of kept_verdict and of state.
-use Prim.Native.Nat.{ℕ}
+use Prim.Native.Nat.{ℕ, _≤_, _<_}
 use mathlib.Core.Path.{_≡_, refl, ap, sym, _∙_}
-use mathlib.Core.Bool.{Bool, true, cond, _&&_}
+use mathlib.Core.Bool.{Bool, true, false, cond, _&&_}
 use mathlib.Core.Option.{Option, none, some}
+use lib.Dec.{eqb}
 use lib.ListN.{length, drop}
-use borrow.Author.Tests.{eq-eqb, ne-eqb}
+use borrow.Author.Tests.{eq-eqb, ne-eqb, lt-ltb, le-ltb}
+use Rattle.spec_limits.specs.Limits.{maxRecords}
 use Rattle.spec_name.specs.Names.{Name}
 use Rattle.spec_request.specs.Request.{base}
 use Rattle.spec_rule.specs.declared.Judgement.the-variants.{Permitted, UnknownCritical, NotGranted, TooManyAliases}
@@ -12,7 +14,7 @@ use Rattle.spec_rule.specs.Verdicts.{denial}
 use Rattle.spec_session.specs.declared.Session.{Session}
 use Rattle.spec_session.specs.declared.SessionAnswer.{SessionAnswer}
 use Rattle.spec_session.specs.declared.SessionAnswer.the-variants.{Asks, Judged, LookupFailed, NoVerdict}
-use Rattle.spec_session.specs.Sessions.{held, keptName, isKept, asking, decided, isAsking, asked, verdictOf, standing, stateFrom, state}
+use Rattle.spec_session.specs.Sessions.{held, isKept, asking, decided, isAsking, asked, verdictOf, standing, stateFrom, state}
 use Rattle.spec_session.proofs.Kept.{broken-is-ended}
 use Rattle.spec_session.proofs.StepLaws.{asks, asks-nothing, state-tells}
 use Rattle.session_kept.specs.declared.Place.{Place}
@@ -27,21 +29,31 @@ module _ (v r u : ℕ) where
   unfolding verdictOf
   is-0 e = rw e
 
-  pub is-20 : v ≡ 20 → Judged (UnknownCritical (denial 0 r u)) ≡ orNoVerdict (verdictOf v r u)
+  pub is-20 : r < maxRecords → v ≡ 20 → Judged (UnknownCritical (denial 0 r u)) ≡ orNoVerdict (verdictOf v r u)
   unfolding verdictOf
-  is-20 e = rw e
+  is-20 h e = rw (e, lt-ltb r maxRecords h) refl
 
-  pub is-21 : v ≡ 21 → Judged (NotGranted (denial 0 r u)) ≡ orNoVerdict (verdictOf v r u)
+  pub is-21 : r < maxRecords → v ≡ 21 → Judged (NotGranted (denial 0 r u)) ≡ orNoVerdict (verdictOf v r u)
   unfolding verdictOf
-  is-21 e = rw e
+  is-21 h e = rw (e, lt-ltb r maxRecords h) refl
 
-  pub is-22 : v ≡ 22 → Judged (TooManyAliases (denial 0 r u)) ≡ orNoVerdict (verdictOf v r u)
+  pub is-22 : r < maxRecords → v ≡ 22 → Judged (TooManyAliases (denial 0 r u)) ≡ orNoVerdict (verdictOf v r u)
   unfolding verdictOf
-  is-22 e = rw e
+  is-22 h e = rw (e, lt-ltb r maxRecords h) refl
 
   pub is-23 : v ≡ 23 → LookupFailed ≡ orNoVerdict (verdictOf v r u)
   unfolding verdictOf
   is-23 e = rw e
+
+  pub is-beyond : (v ≡ 0 → ⊥) → (v ≡ 23 → ⊥) → maxRecords ≤ r → NoVerdict ≡ orNoVerdict (verdictOf v r u)
+  unfolding verdictOf
+  is-beyond a b h = rw (ne-eqb v 0 a, ne-eqb v 23 b, le-ltb r maxRecords h) (go (eqb v 20) (eqb v 21) (eqb v 22))
+    where
+      go : (x y z : Bool) → NoVerdict ≡ orNoVerdict (cond x none (cond y none (cond z none none)))
+      go true y z = refl
+      go false true z = refl
+      go false false true = refl
+      go false false false = refl
 
   pub is-none :
       (v ≡ 0 → ⊥) → (v ≡ 23 → ⊥) → (v ≡ 20 → ⊥) → (v ≡ 21 → ⊥) → (v ≡ 22 → ⊥) → NoVerdict ≡ orNoVerdict (verdictOf v r u)

@@ -1,5 +1,6 @@
 // What a session says of itself: the name to be looked up next, the verdict that stands, or neither.
 use session_kept::KeptName;
+use spec_limits::MAX_RECORDS;
 use spec_refusal::NameNo;
 use spec_refusal::RecordNo;
 use spec_rule::Denial;
@@ -22,6 +23,10 @@ fn kept_verdict(number: usize, rr: usize, up: usize) -> SessionAnswer
     }
     if number == 23 {
         return SessionAnswer::LookupFailed;
+    }
+    // No accepted book has such a record.
+    if MAX_RECORDS <= rr {
+        return SessionAnswer::NoVerdict;
     }
     let d = Denial {
         name: NameNo(0),

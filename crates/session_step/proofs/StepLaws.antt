@@ -4,12 +4,14 @@ use mathlib.Core.Path.{_≡_, refl, ap, sym, _∙_}
 use mathlib.Core.Bool.{Bool, true, false, _&&_}
 use lib.Dec.{eqb}
 use borrow.Author.Tests.{eq-eqb, ne-eqb}
+use Rattle.spec_refusal.specs.declared.Refusal.the-variants.{SessionEnded}
+use Rattle.spec_rule.specs.declared.Judgement.the-variants.{Refused}
 use Rattle.spec_session.specs.declared.Session.{Session}
 use Rattle.spec_session.specs.declared.Stepped.{Stepped}
 use Rattle.spec_session.specs.declared.SessionAnswer.{SessionAnswer}
-use Rattle.spec_session.specs.declared.SessionAnswer.the-variants.{Ended}
+use Rattle.spec_session.specs.declared.SessionAnswer.the-variants.{Judged}
 use Rattle.spec_session.specs.Sessions.{isKept, asking, decided, isAsking, state}
-use Rattle.spec_session.specs.Steps.{goesTo, closedWith, failed}
+use Rattle.spec_session.specs.Steps.{endedRefusal, goesTo, closedWith, failed}
 use Rattle.session_kept.specs.declared.Place.{Place}
 use Rattle.session_kept.specs.declared.KeptName.{KeptName}
 use Rattle.session_kept.specs.declared.KeptName.the-variants.{At, Broken}
@@ -38,12 +40,12 @@ module _ (s : Session) where
     takes-answers h p e = sym (both-true (eq-eqb (s .phase) 1 h) (at-place s p (sym f ∙ e) .0))
 
   module _ (b : Bool) (f : b ≡ isAsking s) where
-    pub fails-not : b ≡ false → _≡_ {A = Stepped} (record { answer = Ended; session = s }) (failed s)
-    unfolding failed
+    pub fails-not : b ≡ false → _≡_ {A = Stepped} (record { answer = Judged (Refused SessionEnded); session = s }) (failed s)
+    unfolding failed endedRefusal
     fails-not e = rw (← f, e) refl
 
     pub fails-so : b ≡ true → (t : Session) → t ≡ closedWith 23 0 s → (r : Stepped) → r ≡ goesTo t → r ≡ failed s
-    unfolding failed
+    unfolding failed endedRefusal
     fails-so e t g r h = rw (← f, e) (h ∙ ap goesTo g)
 
   pub goes : (a : SessionAnswer) → a ≡ state s → _≡_ {A = Stepped} (record { answer = a; session = s }) (goesTo s)

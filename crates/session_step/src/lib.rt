@@ -1,5 +1,7 @@
 // Steps of a session, by value: where it goes, how it ends, and a lookup that failed.
 use session_kept::KeptName;
+use spec_refusal::Refusal;
+use spec_rule::Judgement;
 use spec_session::ASKING;
 use spec_session::DECIDED;
 use spec_session::Session;
@@ -57,7 +59,7 @@ pub fn fail(session: Session) -> Stepped
     ensures { λ r. ⌜ r ≡ failed session ⌝ }
 {
     if !is_asking(session) {
-        let answer = SessionAnswer::Ended;
+        let answer = SessionAnswer::Judged(Judgement::Refused(Refusal::SessionEnded));
         return Stepped { answer, session };
     }
     go_to(close_session(session, 23, 0))

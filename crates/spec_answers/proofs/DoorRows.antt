@@ -22,7 +22,7 @@ use Rattle.spec_rule.specs.Theorems.{RoomRow, JudgeRow, ListRow, FirstRow}
 use Rattle.spec_answers.specs.Door.{RequestTable, row-1, row-2, row-3, IssuerTable, row-4, ApplicantTable, row-15, BookTable, row-5, row-6, row-7, row-12, RoomTable, row-8, JudgeTable, ListTable, FirstToHold, NoneHolds}
 
 -- a row by number and place, as a row of a refusal
-abbrev Found : (Refusal → Type 0) → ℕ → ℕ → Type 0
+abbrev pub Found : (Refusal → Type 0) → ℕ → ℕ → Type 0
 Found rows n p = (r : Refusal) × (number r ≡ n) × (place r ≡ p) × rows r
 
 -- the two tables have the same rows
@@ -30,7 +30,8 @@ pub record SameRows (table : ℕ → ℕ → Type 0) (rows : Refusal → Type 0)
   pub table-of : (r : Refusal) → rows r → table (number r) (place r)
   pub of-table : (n p : ℕ) → table n p → Found rows n p
 
-both :
+-- the rows of two inputs
+pub both :
     {T U : ℕ → ℕ → Type 0} {P Q : Refusal → Type 0} → SameRows T P → SameRows U Q →
     SameRows (λ n p. T n p ⊎ U n p) (λ r. P r ⊎ Q r)
 both {T} {U} {P} {Q} here behind = record {
@@ -56,7 +57,7 @@ request-rows s = record { table-of = table-of; of-table = λ n p h. of-table h }
     of-table (row-2 k h) = (BadName (record { 0 = k }), refl, refl, inr (inl (k, refl, h)))
     of-table (row-3 h) = (TooManyNames, refl, refl, inr (inr (refl, h)))
 
-issuer-rows : (d : List ℕ) → SameRows (IssuerTable d) (IssuerRow d)
+pub issuer-rows : (d : List ℕ) → SameRows (IssuerTable d) (IssuerRow d)
 unfolding number place
 issuer-rows d = record { table-of = table-of; of-table = λ n p h. of-table h }
   where
@@ -66,7 +67,7 @@ issuer-rows d = record { table-of = table-of; of-table = λ n p h. of-table h }
     of-table : {n p : ℕ} → IssuerTable d n p → Found (IssuerRow d) n p
     of-table (row-4 h) = (BadIssuer, refl, refl, (refl, h))
 
-applicant-rows : (who : Applicant) → SameRows (ApplicantTable who) (ApplicantRow who)
+pub applicant-rows : (who : Applicant) → SameRows (ApplicantTable who) (ApplicantRow who)
 unfolding number place
 applicant-rows who = record { table-of = table-of; of-table = λ n p h. of-table h }
   where
@@ -76,7 +77,7 @@ applicant-rows who = record { table-of = table-of; of-table = λ n p h. of-table
     of-table : {n p : ℕ} → ApplicantTable who n p → Found (ApplicantRow who) n p
     of-table (row-15 h) = (BadAccountOrMethod, refl, refl, (refl, h))
 
-book-rows : (b : List ℕ) → SameRows (BookTable b) (BookRow b)
+pub book-rows : (b : List ℕ) → SameRows (BookTable b) (BookRow b)
 unfolding number place
 book-rows b = record { table-of = table-of; of-table = λ n p h. of-table h }
   where

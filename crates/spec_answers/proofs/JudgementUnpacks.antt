@@ -15,7 +15,7 @@ pub told-unpacks : (t : AnswerCode) → t .number < 2 ^ 8 → valueOf t 0 < 2 ^ 
 unfolding packed
 told-unpacks t n a b c = omega arith
 
-fitting-unpacks : (j : Judgement) → Fits j → Unpacked (packedJudgement j) (judgementCode j)
+pub fitting-unpacks : (j : Judgement) → Fits j → Unpacked (packedJudgement j) (judgementCode j)
 unfolding packedJudgement judgementCode maxNames maxRecords
 fitting-unpacks Permitted h = told-unpacks (judgementCode Permitted) (omega arith) (omega arith) (omega arith) (omega arith)
 fitting-unpacks (UnknownCritical d) h = told-unpacks (judgementCode (UnknownCritical d)) (omega arith) (omega arith) (omega arith) (omega arith)

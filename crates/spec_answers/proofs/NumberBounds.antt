@@ -3,28 +3,25 @@ use Prim.Native.Nat.{ℕ, zero, suc, _+_, _^_, _≤_, _<_}
 use native.Mathlib.Omega.{arith}
 use mathlib.Core.Path.{_≡_, refl}
 use mathlib.Core.Bool.{Bool, true, false, cond, true≢false}
-use mathlib.Core.List.{List, [], _∷_, map}
+use mathlib.Core.List.{List, [], _∷_, _++_, map}
 use mathlib.Core.Option.{Option, none, some}
 use lib.ListN.{length, drop, length-append}
 use Rattle.spec_limits.specs.Limits.{maxNames, maxRecords}
 use Rattle.spec_refusal.specs.declared.Refusal.{Refusal}
 use Rattle.spec_refusal.specs.Refusal.{place}
 use Rattle.spec_octets.specs.Lists.{All, all-nil, all-cons, First}
-use Rattle.spec_octets.proofs.ListLaws.{All-head, All-rest, All-join}
+use Rattle.spec_octets.proofs.ListLaws.{All-head, All-rest}
 use Rattle.spec_octets.proofs.SelectedLists.{selects-all}
 use Rattle.spec_octets.specs.Items.{Items, whole, broken, over, follow, before, wholeItems, items}
 use Rattle.spec_octets.proofs.ReaderLaws.{bind-some, given-some}
-use Rattle.spec_name.specs.Names.{Name, name, GoodName}
+use Rattle.spec_name.specs.Names.{Name, wire, name, GoodName}
 use Rattle.spec_name.proofs.NameLaws.{name-is-its-labels}
 use Rattle.spec_request.specs.Request.{base, isRequestable, requestedName, nameItems, requestedNames}
-use Rattle.spec_record.specs.Property.{Property, property}
-use Rattle.spec_record.specs.Records.{Record, isCaa, isAlias, target, resourceRecord, recordItems, records}
-use Rattle.spec_record.specs.Kinds.{kept, ofKindFrom}
+use Rattle.spec_record.specs.Records.{records}
 use Rattle.spec_applicant.specs.Applicant.{Applicant}
 use Rattle.spec_rule.specs.declared.Judgement.{Judgement}
 use Rattle.spec_rule.specs.declared.Judgement.the-variants.{Permitted, UnknownCritical, NotGranted, TooManyAliases, Refused}
-use Rattle.spec_rule.specs.Aliases.{Alias, asAlias, aliasesFrom, aliases}
-use Rattle.spec_rule.specs.RelevantSet.{CaaRecord, Book, empty, found, endless, asCaa, caaRecordsFrom, caaRecords, asBook, relevantSet}
+use Rattle.spec_rule.specs.RelevantSet.{CaaRecord, Book, empty, found, endless, asBook, relevantSet}
 use Rattle.spec_rule.specs.Verdicts.{decision, verdict}
 use Rattle.spec_rule.specs.Calls.{decisions, firstRefusal, judgeChecks, refusedOr, judge}
 use Rattle.spec_rule.specs.Meaning.{AliasOf, DecidedAt, LowestNot}
@@ -32,6 +29,7 @@ use Rattle.spec_rule.proofs.Lookups.{a-lookup}
 use Rattle.spec_rule.proofs.Nearest.{nearest-name-decides}
 use Rattle.spec_rule.proofs.LabelsTakenOff.{up-below-labels}
 use Rattle.spec_rule.proofs.VerdictLaws.{verdict-by-the-rule}
+use Rattle.spec_rule.proofs.RecordNumbers.{Numbered, book-numbered}
 use Rattle.spec_octets.proofs.ItemRoom.{items-within, whole-within}
 use Rattle.spec_answers.proofs.RefusalPlaces.{PlaceFits, request-fits, issuer-fits, applicant-fits, book-fits}
 
@@ -48,39 +46,17 @@ refused-fits (none ∷ checks) j (all-cons h hs) k = refused-fits checks j hs k
 refused-fits (some r ∷ checks) j (all-cons h hs) k = h
 
 -- The verdict: a record's number is one of the book's, a name's one of the request's.
--- records of one kind are numbered below their bound
-module _ {A B : Type 0} (isOf : ℕ → ℕ → Bool) (read : List ℕ → Option A) (made : ℕ → Name → A → B) (numberOf : B → ℕ)
-    (numbered : (k : ℕ) (x : Name) (a : A) → numberOf (made k x a) ≡ k) (m : ℕ) where
-  kind-numbered : (k : ℕ) (rs : List Record) → k + length rs ≤ m → All (λ b. numberOf b < m) (ofKindFrom isOf read made k rs)
-  kind-numbered k [] h = all-nil
-  kind-numbered k (r ∷ rs) h = All-join (one (isOf (r .type) (r .class)) (read (r .rdata))) (kind-numbered (suc k) rs (omega arith))
-    where
-      one : (t : Bool) (o : Option A) → All (λ b. numberOf b < m) (cond t (kept (made k (r .owner)) o) [])
-      one true none = all-nil
-      one true (some a) = all-cons {x = made k (r .owner) a} (rw (numbered k (r .owner) a) (omega arith)) all-nil
-      one false o = all-nil
-
-abbrev Numbered : ℕ → Book → Type 0
-Numbered m book = All (λ c. c .number < m) (book .caa) × All (λ a. a .number < m) (book .aliases)
-
-book-numbered : (b : List ℕ) → Numbered maxRecords (asBook (records b))
-unfolding records recordItems
-book-numbered b =
-    let few = whole-within maxRecords (recordItems b) (items-within resourceRecord maxRecords b) in (
-      kind-numbered isCaa property asCaa (λ c. c .number) (λ k x p. refl) maxRecords 0 (records b) (omega arith),
-      kind-numbered isAlias target asAlias (λ a. a .number) (λ k x t. refl) maxRecords 0 (records b) (omega arith),
-    )
-
 names-few : (s : List ℕ) → length (requestedNames s) ≤ maxNames
 unfolding requestedNames nameItems
 names-few s = whole-within maxNames (nameItems s) (items-within requestedName maxNames s)
 
 -- each name of a request was read, so it is valid
-name-good : (s : List ℕ) (n : Name) (rest : List ℕ) → requestedName s ≡ some (n, rest) → GoodName n
+pub name-read : (s : List ℕ) (n : Name) (rest : List ℕ) → requestedName s ≡ some (n, rest) → (s ≡ wire n ++ rest) × GoodName n
 unfolding requestedName
-name-good s n rest e =
+name-read s n rest e =
     let (m, mid, f, g) = bind-some name _ s n rest .0 e in
-    rw (← given-some (isRequestable m) m n mid rest .0 g .1) (name-is-its-labels s m mid .0 f .1)
+    let (passed, same, end) = given-some (isRequestable m) m n mid rest .0 g in
+    rw (same, end) at (name-is-its-labels s m mid .0 f)
 
 follow-good : (n : Name) (i : Items Name) → GoodName n → All GoodName (wholeItems i) → All GoodName (wholeItems (follow n i))
 follow-good n (whole ns) g h = all-cons g h
@@ -97,7 +73,7 @@ items-good (suc room) (x ∷ s) = go (requestedName (x ∷ s)) refl (items-good 
         (o : Option (Name × List ℕ)) → requestedName (x ∷ s) ≡ o → ((t : List ℕ) → All GoodName (wholeItems (items requestedName room t))) →
         All GoodName (wholeItems (before o (items requestedName room)))
     go none e ih = all-nil
-    go (some r) e ih = follow-good (r .0) (items requestedName room (r .1)) (name-good (x ∷ s) (r .0) (r .1) e) (ih (r .1))
+    go (some r) e ih = follow-good (r .0) (items requestedName room (r .1)) (name-read (x ∷ s) (r .0) (r .1) e .1) (ih (r .1))
 
 names-good : (s : List ℕ) → All GoodName (requestedNames s)
 unfolding requestedNames nameItems

@@ -30,7 +30,7 @@ fault-fits bad many limit at last l (whole xs) h = tt
 fault-fits bad many limit at last l (broken k) h = omega (arith, at k)
 fault-fits bad many limit at last l over h = omega arith
 
-cond-fits : (t : Bool) (a b : Option Refusal) → PlaceFits a → PlaceFits b → PlaceFits (cond t a b)
+pub cond-fits : (t : Bool) (a b : Option Refusal) → PlaceFits a → PlaceFits b → PlaceFits (cond t a b)
 cond-fits true a b h k = h
 cond-fits false a b h k = k
 

@@ -3,7 +3,7 @@
 use Prim.Native.Nat.{ℕ}
 use Rattle.spec_limits.specs.Limits.{maxNames, maxRecords}
 use Rattle.spec_refusal.specs.declared.Refusal.{Refusal}
-use Rattle.spec_refusal.specs.declared.Refusal.the-variants.{RequestTooLong, BadName, TooManyNames, BadIssuer, BookTooLong, BadRecord, TooManyRecords, NoRoom, BadLine, LineTooLong, BadData, AliasConflict, BadAccountOrMethod}
+use Rattle.spec_refusal.specs.declared.Refusal.the-variants.{RequestTooLong, BadName, TooManyNames, BadIssuer, BookTooLong, BadRecord, TooManyRecords, NoRoom, BadLine, LineTooLong, BadData, AliasConflict, SessionEnded, BadAccountOrMethod}
 
 unfoldable pub number : Refusal → ℕ
 number RequestTooLong = 1
@@ -18,6 +18,7 @@ number BadLine = 9
 number LineTooLong = 10
 number BadData = 11
 number (AliasConflict r) = 12
+number SessionEnded = 14
 number BadAccountOrMethod = 15
 
 unfoldable pub place : Refusal → ℕ
@@ -33,4 +34,5 @@ place BadLine = 0
 place LineTooLong = 0
 place BadData = 0
 place (AliasConflict r) = r .0
+place SessionEnded = 0
 place BadAccountOrMethod = 0

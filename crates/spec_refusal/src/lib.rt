@@ -27,6 +27,8 @@ pub enum Refusal {
     BadData,
     // The owner of this record has an alias and a CAA record, or two aliases.
     AliasConflict(RecordNo),
+    // An answer comes to a session that is ended.
+    SessionEnded,
     // The account text, the method text or both break a rule.
     BadAccountOrMethod,
 }
@@ -54,6 +56,7 @@ pub fn number_of(r: Refusal) -> u64
         Refusal::LineTooLong => 10,
         Refusal::BadData => 11,
         Refusal::AliasConflict(_) => 12,
+        Refusal::SessionEnded => 14,
         Refusal::BadAccountOrMethod => 15,
     }
 }
@@ -75,6 +78,7 @@ pub fn place_of(r: Refusal) -> usize
         Refusal::LineTooLong => 0,
         Refusal::BadData => 0,
         Refusal::AliasConflict(k) => k.0,
+        Refusal::SessionEnded => 0,
         Refusal::BadAccountOrMethod => 0,
     }
 }

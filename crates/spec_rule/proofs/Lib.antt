@@ -4,6 +4,7 @@ pub mod Following
 pub mod Lookups
 pub mod Nearest
 pub mod LabelsTakenOff
+pub mod RecordNumbers
 pub mod Renumber
 pub mod AuthorizationLaws
 pub mod VerdictLaws

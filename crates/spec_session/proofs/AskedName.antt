@@ -1,26 +1,23 @@
 -- The name asked for is at the end of the kept name.
-use Prim.Native.Nat.{ℕ, zero, suc, _+_, _-_, _≤_}
+use Prim.Native.Nat.{ℕ, zero, suc, _+_, _-_}
 use native.Mathlib.Omega.{arith}
-use native.Mathlib.Nat.{le-of-suc-le-suc, not-suc-le-zero}
 use mathlib.Core.Path.{_≡_, refl, ap, sym, _∙_}
 use mathlib.Core.Bool.{Bool, true, false, cond}
 use mathlib.Core.List.{List, [], _∷_, _++_, append-assoc}
-use mathlib.Core.Option.{some, Option·some-injective}
+use mathlib.Core.Option.{Option·some-injective}
 use lib.ListN.{length, take, drop, length-append}
 use lib.Seq.{drop-at, take-length}
-use Rattle.spec_octets.specs.Octets.{Octets}
 use Rattle.spec_name.specs.Names.{Name, wire}
 use Rattle.spec_name.proofs.NameLaws.{wire-form}
 use Rattle.spec_request.specs.Request.{isAsterisk, base}
-use Rattle.spec_session.specs.declared.Session.{Session}
 use Rattle.spec_session.specs.declared.SessionAnswer.the-variants.{Asks}
-use Rattle.spec_session.specs.Sessions.{held, keptName, asked, state}
+use Rattle.spec_session.specs.Sessions.{held, keptName, state}
 use Rattle.spec_session.specs.Theorems.{Asked-octets}
 use Rattle.spec_session.proofs.Kept.{one-name-read}
-use Rattle.spec_session.proofs.StepLaws.{Live, live, asks, not-ended}
+use Rattle.spec_session.proofs.StepLaws.{live, asks, not-ended}
 
 -- y is at the end of n
-abbrev EndOf : Name → Name → Type 0
+abbrev pub EndOf : Name → Name → Type 0
 EndOf n y = (p : List ℕ) × (wire n ≡ p ++ wire y)
 
 one-label : (l : List ℕ) (x y : Name) → EndOf x y → EndOf (l ∷ x) y
@@ -43,6 +40,9 @@ without-asterisk (l ∷ ls) y h = go (isAsterisk l) h
     go true h = one-label l ls y h
     go false h = h
 
+pub at-the-end : (u : ℕ) (n : Name) → EndOf n (drop u (base n))
+at-the-end u n = without-asterisk n (drop u (base n)) (labels-off u (base n))
+
 pub asked-octets : Asked-octets
 unfolding state keptName
 asked-octets s y o e =
@@ -50,7 +50,7 @@ asked-octets s y o e =
     let l = live s t in
     let same = Option·some-injective _ _ (sym e ∙ asks s (l .name) t (l .kept)) in
     let (whole, good) = one-name-read (held (s .name)) o (l .name) .0 (l .kept) in
-    let (p, f) = without-asterisk (l .name) (drop (s .up) (base (l .name))) (labels-off (s .up) (base (l .name))) in
+    let (p, f) = at-the-end (s .up) (l .name) in
     placed p (whole ∙ f ∙ ap (λ z. p ++ wire z) (sym same))
   where
     placed :

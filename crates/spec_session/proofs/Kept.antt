@@ -2,7 +2,7 @@
 use Prim.Native.Nat.{ℕ, _<_}
 use mathlib.Core.Path.{_≡_, refl, ap, sym, _∙_}
 use mathlib.Core.Logic.{_↔_}
-use mathlib.Core.Bool.{Bool, true, false, cond, _&&_, false≢true, and-eq-true-iff}
+use mathlib.Core.Bool.{Bool, true, false, _&&_, false≢true, and-eq-true-iff}
 use mathlib.Core.List.{List, [], _∷_, append-nil, cons≢nil}
 use mathlib.Core.Option.{Option, none, some, Option·some-injective, Option·none-ne-some}
 use lib.Dec.{eqb}
@@ -24,7 +24,7 @@ use Rattle.spec_session.specs.Meaning.{KeptWell}
 use Rattle.spec_session.specs.Theorems.{Broken-is-ended, Kept-exactly}
 
 -- a name that fills the octets
-filling-some : (o : Option (Name × List ℕ)) (n : Name) → (filling o ≡ some n) ↔ (o ≡ some (n, []))
+pub filling-some : (o : Option (Name × List ℕ)) (n : Name) → (filling o ≡ some n) ↔ (o ≡ some (n, []))
 filling-some none n = (λ e. absurd (Option·none-ne-some _ e), λ e. absurd (Option·none-ne-some _ e))
 filling-some (some (m, [])) n = (λ e. pure-some m n [] [] .1 (Option·some-injective _ _ e, refl), λ e. ap some (pure-some m n [] [] .0 e .0))
 filling-some (some (m, x ∷ s)) n = (λ e. absurd (Option·none-ne-some _ e), λ e. absurd (cons≢nil (pure-some m n (x ∷ s) [] .0 e .1)))
@@ -43,32 +43,34 @@ reached (some n) u = (
   λ (m, e, h). let same = Option·some-injective n m e in rw same (lt-ltb u (length (base m)) h),
 )
 
+-- the three tests of a session that keeps the rules
+pub kept-tests :
+    (s : Session) →
+    (isKept s ≡ true)
+    ↔ ((reaches (keptName s) (s .up) ≡ true) × (isIssuer (held (s .issuer)) ≡ true) × (isApplicant (keptApplicant s) ≡ true))
+unfolding isKept
+kept-tests s = (
+  λ e.
+      let (both, who) = and-eq-true-iff (reaches (keptName s) (s .up) && isIssuer (held (s .issuer))) (isApplicant (keptApplicant s)) .0 e in
+      let (name, issuer) = and-eq-true-iff (reaches (keptName s) (s .up)) (isIssuer (held (s .issuer))) .0 both in
+      (name, issuer, who),
+  λ h. rw (h .0, h .1, h .2) refl,
+)
+
 pub kept-exactly : Kept-exactly
-unfolding isKept keptName
+unfolding keptName
 kept-exactly s o = (there, back)
   where
-    Tests : Type 0
-    Tests = (reaches (keptName s) (s .up) ≡ true) × (isIssuer (held (s .issuer)) ≡ true) × (isApplicant (keptApplicant s) ≡ true)
-
-    tests : (isKept s ≡ true) ↔ Tests
-    tests = (
-      λ e.
-          let (both, who) = and-eq-true-iff (reaches (keptName s) (s .up) && isIssuer (held (s .issuer))) (isApplicant (keptApplicant s)) .0 e in
-          let (name, issuer) = and-eq-true-iff (reaches (keptName s) (s .up)) (isIssuer (held (s .issuer))) .0 both in
-          (name, issuer, who),
-      λ h. rw (h .0, h .1, h .2) refl,
-    )
-
     there : isKept s ≡ true → KeptWell s
     there e =
-        let (name, issuer, who) = tests .0 e in
+        let (name, issuer, who) = kept-tests s .0 e in
         let (n, f, up) = reached (keptName s) (s .up) .0 name in
         let (whole, good) = one-name-read (held (s .name)) o n .0 f in
         (n, whole, good, up, issuer-is-its-labels _ .0 issuer, applicant-texts _ .0 who)
 
     back : KeptWell s → isKept s ≡ true
     back (n, whole, good, up, issuer, who) =
-        tests .1 (
+        kept-tests s .1 (
           reached (keptName s) (s .up) .1 (n, one-name-read (held (s .name)) o n .1 (whole, good), up),
           issuer-is-its-labels _ .1 issuer,
           applicant-texts _ .1 who,

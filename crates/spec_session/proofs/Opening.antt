@@ -4,11 +4,11 @@ use native.Mathlib.Omega.{arith}
 use mathlib.Core.Path.{_≡_, refl, ap, sym, _∙_}
 use mathlib.Core.Logic.{_↔_, _≢_, _⊎_, inl, inr, Iff·trans}
 use mathlib.Core.Bool.{Bool, true, false, cond, not, false≢true, and-eq-true-iff}
-use mathlib.Core.List.{List, [], _∷_, _++_, append-nil, cons≢nil, List·Memᴰ, List·Memᴰ·head}
+use mathlib.Core.List.{List, [], _∷_, _++_, append-nil, cons≢nil, List·Memᴰ·head}
 use mathlib.Core.Option.{Option, none, some, Option·none-ne-some, Option·some-injective}
-use lib.Dec.{ltb, eqb}
+use lib.Dec.{ltb}
 use lib.ListN.{length}
-use borrow.Author.Tests.{leb-true, ltb-true, ltb-false, lt-ltb, le-ltb}
+use borrow.Author.Tests.{leb-true, ltb-true, ltb-false, le-ltb}
 use Rattle.spec_limits.specs.Limits.{maxRequestOctets, maxNameOctets, maxIssuerOctets, maxAccountOctets}
 use Rattle.spec_refusal.specs.declared.Refusal.{Refusal}
 use Rattle.spec_refusal.specs.declared.Refusal.the-variants.{RequestTooLong, BadName}
@@ -20,7 +20,6 @@ use Rattle.spec_octets.specs.Reader.{given}
 use Rattle.spec_octets.proofs.ReaderLaws.{pure-some, bind-some, given-some}
 use Rattle.spec_name.specs.Names.{Name, wire, name}
 use Rattle.spec_request.specs.Request.{base, isRequestable, requestedName, GoodRequested}
-use Rattle.spec_request.specs.Theorems.{Row-1}
 use Rattle.spec_request.proofs.RequestedNames.{requested-name-is-its-labels}
 use Rattle.spec_issuer.proofs.Dotted.{issuer-refusals}
 use Rattle.spec_applicant.specs.Applicant.{Applicant}
@@ -30,11 +29,10 @@ use Rattle.spec_rule.specs.Calls.{firstRefusal}
 use Rattle.spec_rule.proofs.CheckOrder.{checkedAt, Keeps, first-row, in-front, limited-rows}
 use Rattle.spec_rule.proofs.RefusalLaws.{issuer-keeps, applicant-keeps}
 use Rattle.spec_session.specs.declared.Session.{Session}
-use Rattle.spec_session.specs.declared.SessionAnswer.{SessionAnswer}
 use Rattle.spec_session.specs.declared.SessionAnswer.the-variants.{Judged}
-use Rattle.spec_session.specs.Sessions.{maxTextOctets, held, textOf, keptName, keptApplicant, isKept, asking, decided, isAsking, asked, standing, state}
+use Rattle.spec_session.specs.Sessions.{maxTextOctets, held, textOf, keptName, keptApplicant, isKept, asking, decided, isAsking, asked, standing}
 use Rattle.spec_session.specs.Steps.{goesTo, restRefusal, oneNameRefusal, openChecks, sessionOf, endedSession, openedOr, opened, isRefusal}
-use Rattle.spec_session.specs.Meaning.{NoName, MoreThanOneName, OneName-2, OneNameRow, OpenRow, GoodOpening}
+use Rattle.spec_session.specs.Meaning.{OneName-2, OneNameRow, OpenRow, GoodOpening}
 use Rattle.spec_session.specs.Theorems.{Open-refusals, Refused-opening, Good-opening}
 use Rattle.spec_session.proofs.Texts.{texts-kept}
 use Rattle.spec_session.proofs.Kept.{one-name-read, kept-exactly}

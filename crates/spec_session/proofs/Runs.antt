@@ -8,7 +8,11 @@ use mathlib.Core.Bool.{Bool, true, false, cond}
 use mathlib.Core.List.{List, [], _∷_, _++_, map}
 use mathlib.Core.Option.{Option, none, some, Option·none-ne-some, Option·some-injective}
 use lib.ListN.{length, take, drop, getD}
-use Rattle.spec_octets.specs.Lists.{select}
+use borrow.Author.Tests.{lt-ltb}
+use Rattle.spec_limits.specs.Limits.{maxRecords}
+use Rattle.spec_octets.specs.Lists.{All, select}
+use Rattle.spec_octets.proofs.ListLaws.{All-head, All-rest}
+use Rattle.spec_octets.proofs.SelectedLists.{selects-all}
 use Rattle.spec_octets.proofs.SelectLaws.{selects-none, selects-first}
 use Rattle.spec_name.specs.Names.{Name, ancestors}
 use Rattle.spec_request.specs.Request.{isWildcard, base}
@@ -17,15 +21,17 @@ use Rattle.spec_record.specs.Records.{records}
 use Rattle.spec_rule.specs.declared.Judgement.{Judgement}
 use Rattle.spec_rule.specs.declared.Judgement.the-variants.{Permitted}
 use Rattle.spec_rule.specs.RelevantSet.{CaaRecord, asBook, Lookup, empty, found, endless, lookup}
-use Rattle.spec_rule.specs.Authorizations.{Authorization, unrestricted, forbidden, granted, unresolved, isUnknownCritical, governing, grantees, governedBy, unlessForbidden, permits}
+use Rattle.spec_rule.specs.Authorizations.{Authorization, granted, isUnknownCritical, governing, grantees, governedBy, unlessForbidden, permits}
 use Rattle.spec_rule.specs.Verdicts.{denied, verdict}
 use Rattle.spec_rule.specs.Calls.{judgementCode}
+use Rattle.spec_rule.proofs.Lookups.{a-lookup}
 use Rattle.spec_rule.proofs.AuthorizationLaws.{critical-selects, governing-selects}
+use Rattle.spec_rule.proofs.RecordNumbers.{book-numbered}
 use Rattle.spec_session.specs.declared.Session.{Session}
 use Rattle.spec_session.specs.declared.SessionAnswer.{SessionAnswer}
 use Rattle.spec_session.specs.declared.SessionAnswer.the-variants.{Judged, LookupFailed}
-use Rattle.spec_session.specs.Sessions.{held, keptApplicant, asked, verdictOf, standing}
-use Rattle.spec_session.specs.Steps.{sessionOf, oneUp, closedWith, decidedFrom, concluded, Answer, book, after, accepted, opened}
+use Rattle.spec_session.specs.Sessions.{asked, verdictOf, standing}
+use Rattle.spec_session.specs.Steps.{sessionOf, closedWith, decidedFrom, concluded, Answer, book, after}
 use Rattle.spec_session.specs.Meaning.{GoodOpening, NumberedBy}
 use Rattle.spec_session.specs.Theorems.{sessionAfter, acceptedOf, Asked-in-turn, Asks-or-stands, Verdict-stands, Own-numbers}
 use Rattle.spec_session.proofs.StepLaws.{live, closed-asks-nothing, closed-stands, asking-stands-nothing}
@@ -37,30 +43,6 @@ pub first-ancestor : (u : ℕ) (x : Name) → u < length x → ancestors (drop u
 first-ancestor u [] h = absurd (not-suc-le-zero h)
 first-ancestor zero (l ∷ x) h = refl
 first-ancestor (suc u) (l ∷ x) h = first-ancestor u x (le-of-suc-le-suc h)
-
--- a verdict on one name is read back from what is kept of it
-told-back :
-    (d : List ℕ) (a : Authorization) (u : ℕ) →
-    verdictOf
-    (judgementCode (verdict d (record { says = a; up = u } ∷ [])) .number)
-    (getD (judgementCode (verdict d (record { says = a; up = u } ∷ [])) .values) 1 0)
-    u
-    ≡ some (Judged (verdict d (record { says = a; up = u } ∷ [])))
-unfolding verdict judgementCode verdictOf
-told-back d a u = go (permits d a) a
-  where
-    go :
-        (t : Bool) (a : Authorization) →
-        verdictOf
-        (judgementCode (cond t Permitted (denied 0 u a)) .number)
-        (getD (judgementCode (cond t Permitted (denied 0 u a)) .values) 1 0)
-        u
-        ≡ some (Judged (cond t Permitted (denied 0 u a)))
-    go true a = refl
-    go false unrestricted = refl
-    go false (forbidden r) = refl
-    go false (granted r ns) = refl
-    go false (unresolved r) = refl
 
 -- the numbers of a verdict on one name are those of the lookup
 numbered : (d : List ℕ) (who : Applicant) (wildcard : Bool) (u : ℕ) (l : Lookup) → NumberedBy wildcard l u (verdict d (decidedFrom who wildcard u l ∷ []))
@@ -91,6 +73,37 @@ numbered d who wildcard u (found rs) = by-critical (select isUnknownCritical rs)
     by-critical [] e = by-governing e (governing wildcard rs) refl
     by-critical (c ∷ us) e = inr (inl (rs, c, refl, selects-first (critical-selects rs) e, refl))
 
+-- the records that a lookup tells are records of the book
+abbrev Below : Lookup → Type 0
+Below empty = Unit {0}
+Below (found rs) = All (λ c. c .number < maxRecords) rs
+Below (endless r) = r < maxRecords
+
+looked-below : (b : List ℕ) (x : Name) (l : Lookup) → lookup (asBook (records b)) x ≡ l → Below l
+looked-below b x empty e = tt
+looked-below b x (found rs) e =
+    let (y, ends, selects, some-set) = a-lookup (asBook (records b)) x .1 rs .0 e in
+    selects-all selects (book-numbered b .0)
+looked-below b x (endless r) e =
+    let (y, leads, (a, (before, after, f, p, ns), number)) = a-lookup (asBook (records b)) x .2 r .0 e in
+    rw (← number) (All-head (All-rest before (a ∷ after) (rw f at (book-numbered b .1))))
+
+-- a verdict on one name is read back from what is kept of it
+told-back :
+    (wildcard : Bool) (l : Lookup) (u : ℕ) → Below l → (j : Judgement) → NumberedBy wildcard l u j →
+    verdictOf (judgementCode j .number) (getD (judgementCode j .values) 1 0) u ≡ some (Judged j)
+unfolding judgementCode verdictOf
+told-back wildcard l u h j (inl e) = rw e refl
+told-back wildcard l u h j (inr (inl (rs, c, f, (before, after, split, p, ns), e))) =
+    let few : All (λ c. c .number < maxRecords) rs = rw f at h in
+    rw (e, lt-ltb (c .number) maxRecords (All-head (All-rest before (c ∷ after) (rw split at few)))) refl
+told-back wildcard l u h j (inr (inr (inl (rs, c, f, known, (before, after, split, p, ns), e)))) =
+    let few : All (λ c. c .number < maxRecords) rs = rw f at h in
+    rw (e, lt-ltb (c .number) maxRecords (All-head (All-rest before (c ∷ after) (rw split at few)))) refl
+told-back wildcard l u h j (inr (inr (inr (r, f, e)))) =
+    let few : r < maxRecords = rw f at h in
+    rw (e, lt-ltb r maxRecords few) refl
+
 stands : {o : Option SessionAnswer} {v : SessionAnswer} → o ≡ some v → o ≢ none
 stands {o} {v} e z = Option·none-ne-some v (sym z ∙ e)
 
@@ -108,11 +121,14 @@ module _ (issuer : List ℕ) (who : Applicant) (n : Name) where
   phase-asks {s} c = asking-stands-nothing s (live s (c .takes) .in-phase)
 
   pub concluded-stands :
-      {s : Session} → OnCourse issuer who n s → (l : Lookup) →
-      standing (concluded s n l) ≡ some (Judged (verdict issuer (decidedFrom who (isWildcard n) (s .up) l ∷ [])))
-  concluded-stands {s} c l =
+      {s : Session} → OnCourse issuer who n s → (b : List ℕ) →
+      standing (concluded s n (looked issuer who n s b))
+      ≡ some (Judged (verdict issuer (decidedFrom who (isWildcard n) (s .up) (looked issuer who n s b) ∷ [])))
+  concluded-stands {s} c b =
+      let l = looked issuer who n s b in
       closed-stands _ _ s (live s (c .takes) .keeps)
-      ∙ rw (c .of-issuer, c .of-applicant) (told-back issuer _ (s .up))
+      ∙ rw (c .of-issuer, c .of-applicant)
+      (told-back (isWildcard n) l (s .up) (looked-below b (next issuer who n s) l refl) _ (numbered issuer who (isWildcard n) (s .up) l))
 
   failed-stands : {s : Session} → OnCourse issuer who n s → standing (closedWith 23 0 s) ≡ some LookupFailed
   unfolding verdictOf
@@ -134,7 +150,7 @@ module _ (issuer : List ℕ) (who : Applicant) (n : Name) where
       let k : s .up + suc (length ts) ≡ suc (s .up) + length ts = omega arith in
       rw k (place more)
   place (decides {s} {b} c why) = inr (
-    stands (concluded-stands c (looked issuer who n s b)),
+    stands (concluded-stands c b),
     closed-asks-nothing _ _ s,
     omega (arith, below issuer who n c),
   )
@@ -153,7 +169,7 @@ module _ (issuer : List ℕ) (who : Applicant) (n : Name) where
       let (front, y, a, u, k, split, is) = by-the-last more j e in
       ((some (next issuer who n s), book b) ∷ front, y, a, u, omega arith, ap (_∷_ (some (next issuer who n s), book b)) split, is)
   by-the-last (decides {s} {b} c why) j e =
-      let same = Option·some-injective _ _ (sym e ∙ concluded-stands c (looked issuer who n s b)) in
+      let same = Option·some-injective _ _ (sym e ∙ concluded-stands c b) in
       ([], next issuer who n s, b, s .up, omega arith, refl, cc)
   by-the-last (fails c) j e =
       let same = Option·some-injective _ _ (sym e ∙ failed-stands c) in

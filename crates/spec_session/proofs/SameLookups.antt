@@ -1,7 +1,6 @@
 -- Two books that have the same for a name: the same lookup, but for numbers and owners.
 use Prim.Native.Nat.{ℕ, zero, suc}
 use mathlib.Core.Path.{_≡_, refl, ap, sym, _∙_, fun-ext}
-use mathlib.Core.Logic.{_↔_}
 use mathlib.Core.List.{List, [], _∷_, map, nil≢cons, cons≢nil, head-eq-of-cons-eq, tail-eq-of-cons-eq}
 use mathlib.Core.Option.{Option, none, some, Option·none-ne-some}
 use Rattle.spec_limits.specs.Limits.{maxAliases}
@@ -12,7 +11,6 @@ use Rattle.spec_name.specs.Names.{Name, sameName}
 use Rattle.spec_name.proofs.WholeNames.{whole-names}
 use Rattle.spec_rule.specs.Aliases.{Alias, aliasesOf, through, followed}
 use Rattle.spec_rule.specs.RelevantSet.{CaaRecord, Book, Lookup, empty, found, endless, asLookup, caaAt, lookedUp, lookup}
-use Rattle.spec_rule.specs.Meaning.{EndsAt}
 use Rattle.spec_rule.proofs.Following.{followed-ends}
 use Rattle.spec_session.specs.Meaning.{onward, targets, propertiesOf, HoldsAs}
 

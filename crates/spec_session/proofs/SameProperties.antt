@@ -7,9 +7,8 @@ use Rattle.spec_octets.specs.Lists.{select}
 use Rattle.spec_octets.proofs.SelectLaws.{select-map}
 use Rattle.spec_record.specs.Property.{Property}
 use Rattle.spec_applicant.specs.Applicant.{Applicant}
-use Rattle.spec_rule.specs.declared.Judgement.{Judgement}
 use Rattle.spec_rule.specs.declared.Judgement.the-variants.{Permitted}
-use Rattle.spec_rule.specs.RelevantSet.{CaaRecord, Lookup, empty, found, endless}
+use Rattle.spec_rule.specs.RelevantSet.{CaaRecord, Lookup, found}
 use Rattle.spec_rule.specs.Authorizations.{Authorization, unrestricted, forbidden, granted, unresolved, isUnknownCritical, isIssue, isIssueWild, orElse, governing, grantee, grantees, governedBy, unlessForbidden, authorizationFrom, permits}
 use Rattle.spec_rule.specs.Verdicts.{denied, verdict}
 use Rattle.spec_rule.specs.Theorems.{renumberedAuthorization, renumberedVerdict}

@@ -1,35 +1,31 @@
 -- What one answer does to a session: refusals, and the session that stays or ends.
 use Prim.Native.Nat.{ℕ, _<_}
-use native.Mathlib.Omega.{arith}
 use mathlib.Core.Path.{_≡_, refl, ap, sym, _∙_}
-use mathlib.Core.Logic.{_↔_, _≢_, _⊎_, ⊎-elim, Iff·trans}
+use mathlib.Core.Logic.{_↔_, _≢_, ⊎-elim, Iff·trans}
 use mathlib.Core.Bool.{Bool, true, false, cond, _&&_, true≢false, false≢true, and-eq-true-iff}
 use mathlib.Core.List.{List, [], _∷_}
 use mathlib.Core.Option.{Option, none, some, Option·none-ne-some, Option·some-injective}
-use lib.Dec.{eqb}
+use lib.Dec.{eqb, ltb}
 use lib.ListN.{length, drop}
+use Rattle.spec_limits.specs.Limits.{maxRecords}
 use Rattle.spec_refusal.specs.declared.Refusal.{Refusal}
-use Rattle.spec_octets.specs.Octets.{Octets}
+use Rattle.spec_refusal.specs.declared.Refusal.the-variants.{SessionEnded}
+use Rattle.spec_refusal.specs.Refusal.{number}
 use Rattle.spec_octets.proofs.ListLaws.{true-or-false, not-passed}
 use Rattle.spec_name.specs.Names.{Name}
 use Rattle.spec_request.specs.Request.{base}
-use Rattle.spec_issuer.specs.Issuer.{isIssuer}
-use Rattle.spec_applicant.specs.Applicant.{isApplicant}
-use Rattle.spec_record.specs.Records.{bookRefusal}
-use Rattle.spec_record.specs.Theorems.{BookRow}
-use Rattle.spec_rule.specs.declared.Judgement.the-variants.{Permitted, UnknownCritical, NotGranted, TooManyAliases, Refused}
-use Rattle.spec_rule.specs.Verdicts.{denial}
+use Rattle.spec_rule.specs.declared.Judgement.the-variants.{Refused}
 use Rattle.spec_rule.specs.Calls.{firstRefusal}
-use Rattle.spec_rule.specs.Theorems.{FirstRow}
-use Rattle.spec_rule.proofs.CheckOrder.{first-row}
+use Rattle.spec_rule.proofs.CheckOrder.{checkedAt, Keeps, first-row, in-front, one-row}
 use Rattle.spec_rule.proofs.RefusalLaws.{book-keeps}
 use Rattle.spec_session.specs.declared.Session.{Session}
 use Rattle.spec_session.specs.declared.SessionAnswer.{SessionAnswer}
-use Rattle.spec_session.specs.declared.SessionAnswer.the-variants.{Judged, LookupFailed}
-use Rattle.spec_session.specs.Sessions.{held, keptName, keptApplicant, reaches, isKept, asking, decided, isAsking, above, asked, verdictOf, standing, stateFrom, state}
-use Rattle.spec_session.specs.Steps.{sessionEnded, refusedWith, goesTo, closedWith, answeredOr, answered, failed, Answer, book, lookupFailed, step, isRefusal}
-use Rattle.spec_session.specs.Theorems.{Ended-refuses, State-tells, Answer-refusals, Refused-book, Failed-ends, Answered-by-state}
-use Rattle.spec_session.proofs.Kept.{reached}
+use Rattle.spec_session.specs.declared.SessionAnswer.the-variants.{Judged}
+use Rattle.spec_session.specs.Sessions.{held, keptName, keptApplicant, isKept, asking, decided, isAsking, asked, ofRecord, verdictOf, standing, stateFrom, state}
+use Rattle.spec_session.specs.Steps.{endedRefusal, closedWith, answeredOr, answerChecks, answered, failedOr, failed, book, lookupFailed, isRefusal}
+use Rattle.spec_session.specs.Meaning.{EndedRow}
+use Rattle.spec_session.specs.Theorems.{Ended-refuses, State-tells, Answer-refusals, Refused-answer, Refused-book, Failed-ends, Answered-by-state}
+use Rattle.spec_session.proofs.Kept.{reached, kept-tests}
 
 -- a session that takes answers has a name, and asks for it or for a name above it
 pub record Live (s : Session) : Type 0 where
@@ -40,12 +36,10 @@ pub record Live (s : Session) : Type 0 where
   pub keeps : isKept s ≡ true
 
 pub live : (s : Session) → isAsking s ≡ true → Live s
-unfolding isAsking isKept
+unfolding isAsking
 live s e =
     let (phase, keeps) = and-eq-true-iff (eqb (s .phase) asking) (isKept s) .0 e in
-    let (both, who) = and-eq-true-iff (reaches (keptName s) (s .up) && isIssuer (held (s .issuer))) (isApplicant (keptApplicant s)) .0 keeps in
-    let (name, issuer) = and-eq-true-iff (reaches (keptName s) (s .up)) (isIssuer (held (s .issuer))) .0 both in
-    let (n, f, up) = reached (keptName s) (s .up) .0 name in
+    let (n, f, up) = reached (keptName s) (s .up) .0 (kept-tests s .0 keeps .0) in
     record { name = n; kept = f; below = up; in-phase = borrow.Author.Tests.eqb-true _ _ phase; keeps = keeps }
 
 pub asks : (s : Session) (n : Name) → isAsking s ≡ true → keptName s ≡ some n → asked s ≡ some (drop (s .up) (base n))
@@ -63,12 +57,12 @@ pub not-ended : (s : Session) → asked s ≢ none → isAsking s ≡ true
 not-ended s h = ⊎-elim (λ t. t) (λ f. absurd (h (asks-nothing s f))) (true-or-false (isAsking s))
 
 pub ended-refuses : Ended-refuses
-unfolding answered failed
+unfolding answered failed endedRefusal
 ended-refuses s (book b) e = rw (ended s e)
 ended-refuses s lookupFailed e = rw (ended s e)
 
 pub refused-book : Refused-book
-unfolding answered
+unfolding answered endedRefusal
 refused-book s b r h e = rw (not-ended s h, e)
 
 -- ending a session keeps its texts
@@ -90,7 +84,7 @@ unfolding standing asking decided
 asking-stands-nothing s e = rw e
 
 pub failed-ends : Failed-ends
-unfolding failed state verdictOf
+unfolding failed endedRefusal state verdictOf
 failed-ends s h =
     let t = not-ended s h in
     let stands = closed-stands 23 0 s (live s t .keeps) in
@@ -107,13 +101,16 @@ neither-refusal : (t : Bool) (o p : Option SessionAnswer) → NoRefusal o → No
 neither-refusal true o p h k = h
 neither-refusal false o p h k = k
 
+record-no-refusal : (r : ℕ) (b : SessionAnswer) → isRefusal b ≡ false → NoRefusal (ofRecord r b)
+record-no-refusal r b h = neither-refusal (ltb r maxRecords) _ _ (no-refusal b h) (λ a e. absurd (Option·none-ne-some a e))
+
 verdict-no-refusal : (v r u : ℕ) → NoRefusal (verdictOf v r u)
 unfolding verdictOf
 verdict-no-refusal v r u =
     neither-refusal (eqb v 0) _ _ (no-refusal _ refl)
-    (neither-refusal (eqb v 20) _ _ (no-refusal _ refl)
-    (neither-refusal (eqb v 21) _ _ (no-refusal _ refl)
-    (neither-refusal (eqb v 22) _ _ (no-refusal _ refl)
+    (neither-refusal (eqb v 20) _ _ (record-no-refusal r _ refl)
+    (neither-refusal (eqb v 21) _ _ (record-no-refusal r _ refl)
+    (neither-refusal (eqb v 22) _ _ (record-no-refusal r _ refl)
     (neither-refusal (eqb v 23) _ _ (no-refusal _ refl) (λ a e. absurd (Option·none-ne-some a e))))))
 
 pub standing-no-refusal : (s : Session) (a : SessionAnswer) → standing s ≡ some a → isRefusal a ≡ false
@@ -146,74 +143,62 @@ state-tells s = (
 
 pub answered-by-state : Answered-by-state
 unfolding answered failed
-answered-by-state s (book b) = go (isAsking s) (bookRefusal b)
+answered-by-state s (book b) = go (firstRefusal (answerChecks s b))
   where
-    go :
-        (t : Bool) (c : Option Refusal) →
-        isRefusal (cond t (answeredOr c s b) (refusedWith sessionEnded s) .answer) ≡ false →
-        cond t (answeredOr c s b) (refusedWith sessionEnded s) .answer ≡ state (cond t (answeredOr c s b) (refusedWith sessionEnded s) .session)
-    go true none h = refl
-    go true (some r) h = absurd (true≢false h)
-    go false c h = absurd (true≢false h)
-answered-by-state s lookupFailed = go (isAsking s)
+    go : (c : Option Refusal) → isRefusal (answeredOr c s b .answer) ≡ false → answeredOr c s b .answer ≡ state (answeredOr c s b .session)
+    go none h = refl
+    go (some r) h = absurd (true≢false h)
+answered-by-state s lookupFailed = go (endedRefusal s)
   where
-    go :
-        (t : Bool) → isRefusal (cond t (goesTo (closedWith 23 0 s)) (refusedWith sessionEnded s) .answer) ≡ false →
-        cond t (goesTo (closedWith 23 0 s)) (refusedWith sessionEnded s) .answer ≡ state (cond t (goesTo (closedWith 23 0 s)) (refusedWith sessionEnded s) .session)
-    go true h = refl
-    go false h = absurd (true≢false h)
+    go : (c : Option Refusal) → isRefusal (failedOr c s .answer) ≡ false → failedOr c s .answer ≡ state (failedOr c s .session)
+    go none h = refl
+    go (some r) h = absurd (true≢false h)
 
--- what is no refusal is neither 14 nor another
-not-14 : {a : SessionAnswer} → isRefusal a ≡ false → a ≢ sessionEnded
-not-14 h e = false≢true (sym h ∙ ap isRefusal e)
-
+-- what is no refusal
 not-refused : {a : SessionAnswer} {r : Refusal} → isRefusal a ≡ false → a ≢ Judged (Refused r)
 not-refused h e = false≢true (sym h ∙ ap isRefusal e)
 
-refused-is-not-14 : {r : Refusal} → Judged (Refused r) ≢ sessionEnded
-refused-is-not-14 e = let z : _≡_ {A = ℕ} 0 1 = cc in absurd (omega arith)
+-- row 14 alone, and before the rows of a book
+ended-keeps : (s : Session) → Keeps (endedRefusal s ∷ []) (EndedRow s) (14 ∷ [])
+unfolding endedRefusal number
+ended-keeps s = one-row (⊎-elim while-asking when-ended (true-or-false (isAsking s))) (λ r. only (isAsking s) r) refl
+  where
+    while-asking : isAsking s ≡ true → (cond (isAsking s) none (some SessionEnded) ≡ some SessionEnded) ↔ (asked s ≡ none)
+    while-asking e = (λ h. absurd (Option·none-ne-some _ (ap (λ t. cond t none (some SessionEnded)) (sym e) ∙ h)), λ h. absurd (true≢false (sym e ∙ ended s h)))
+
+    when-ended : isAsking s ≡ false → (cond (isAsking s) none (some SessionEnded) ≡ some SessionEnded) ↔ (asked s ≡ none)
+    when-ended e = (λ h. asks-nothing s e, λ h. ap (λ t. cond t none (some SessionEnded)) e)
+
+    only : (t : Bool) (r : Refusal) → cond t none (some SessionEnded) ≡ some r → r ≡ SessionEnded
+    only true r h = absurd (Option·none-ne-some r h)
+    only false r h = sym (Option·some-injective _ _ h)
 
 one-check : (c : Option Refusal) → firstRefusal (c ∷ []) ≡ c
 one-check none = refl
 one-check (some r) = refl
 
+answer-refused : (c : Option Refusal) (s : Session) (b : List ℕ) (r : Refusal) → (answeredOr c s b .answer ≡ Judged (Refused r)) ↔ (c ≡ some r)
+answer-refused none s b r = (λ e. absurd (not-refused (state-no-refusal _) e), λ e. absurd (Option·none-ne-some r e))
+answer-refused (some q) s b r = (λ e. cc, λ e. cc)
+
+failure-refused : (c : Option Refusal) (s : Session) (r : Refusal) → (failedOr c s .answer ≡ Judged (Refused r)) ↔ (c ≡ some r)
+failure-refused none s r = (λ e. absurd (not-refused (state-no-refusal _) e), λ e. absurd (Option·none-ne-some r e))
+failure-refused (some q) s r = (λ e. cc, λ e. cc)
+
 pub answer-refusals : Answer-refusals
+unfolding answered failed checkedAt
+answer-refusals s (book b) o r = Iff·trans (answer-refused _ s b r) (first-row (in-front (ended-keeps s) (book-keeps b o) refl) r)
+answer-refusals s lookupFailed o r = Iff·trans (failure-refused _ s r) (rw (one-check (endedRefusal s)) at (first-row (ended-keeps s) r))
+
+pub refused-answer : Refused-answer
 unfolding answered failed
-answer-refusals s b o = ⊎-elim while-asking when-ended (true-or-false (isAsking s))
+refused-answer s (book b) r = go (firstRefusal (answerChecks s b))
   where
-    Said : Type 0
-    Said =
-        ((answered s b .answer ≡ sessionEnded) ↔ (asked s ≡ none))
-        × ((failed s .answer ≡ sessionEnded) ↔ (asked s ≡ none))
-        × ((r : Refusal) → (answered s b .answer ≡ Judged (Refused r)) ↔ ((asked s ≢ none) × FirstRow (BookRow b) r))
-        × ((r : Refusal) → failed s .answer ≢ Judged (Refused r))
-
-    rows : (r : Refusal) → (bookRefusal b ≡ some r) ↔ FirstRow (BookRow b) r
-    rows r = rw (one-check (bookRefusal b)) at (first-row (book-keeps b o) r)
-
-    when-ended : isAsking s ≡ false → Said
-    when-ended e = let n = asks-nothing s e in rw e (
-      (λ h. n, λ h. refl),
-      (λ h. n, λ h. refl),
-      λ r. (λ h. absurd (refused-is-not-14 (sym h)), λ h. absurd (h .0 n)),
-      λ r h. refused-is-not-14 (sym h),
-    )
-
-    while-asking : isAsking s ≡ true → Said
-    while-asking e = rw e (
-      (λ h. absurd (by-book (bookRefusal b) h), λ h. absurd (some-name h)),
-      (λ h. absurd (not-14 (state-no-refusal (closedWith 23 0 s)) h), λ h. absurd (some-name h)),
-      λ r. (λ h. (some-name, rows r .0 (by-row (bookRefusal b) r h)), λ h. rw (rows r .1 (h .1))),
-      λ r. not-refused (state-no-refusal (closedWith 23 0 s)),
-    )
-      where
-        some-name : asked s ≢ none
-        some-name h = true≢false (sym e ∙ ended s h)
-
-        by-book : (c : Option Refusal) → answeredOr c s b .answer ≢ sessionEnded
-        by-book none h = not-14 (state-no-refusal _) h
-        by-book (some r) h = refused-is-not-14 h
-
-        by-row : (c : Option Refusal) (r : Refusal) → answeredOr c s b .answer ≡ Judged (Refused r) → c ≡ some r
-        by-row none r h = absurd (not-refused (state-no-refusal _) h)
-        by-row (some q) r h = cc
+    go : (c : Option Refusal) → answeredOr c s b .answer ≡ Judged (Refused r) → answeredOr c s b .session ≡ s
+    go none e = absurd (not-refused (state-no-refusal _) e)
+    go (some q) e = refl
+refused-answer s lookupFailed r = go (endedRefusal s)
+  where
+    go : (c : Option Refusal) → failedOr c s .answer ≡ Judged (Refused r) → failedOr c s .session ≡ s
+    go none e = absurd (not-refused (state-no-refusal _) e)
+    go (some q) e = refl

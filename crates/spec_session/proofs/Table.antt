@@ -1,6 +1,7 @@
 -- The tables of sessions and the numbers of their answers, by computing.
 use mathlib.Core.Path.{refl}
-use Rattle.spec_limits.specs.Limits.{maxAccountOctets, maxAliases, maxLabelOctets, maxIssuerOctets, maxNameOctets, maxRequestOctets, maxNames, maxBookOctets, maxRecords}
+use Rattle.spec_limits.specs.Limits.{maxAccountOctets, maxAliases, maxLabelOctets, maxIssuerOctets, maxNameOctets, maxRequestOctets, maxBookOctets, maxRecords}
+use Rattle.spec_refusal.specs.Refusal.{number as refusalNumber, place}
 use Rattle.spec_octets.specs.Reader.{number}
 use Rattle.spec_name.specs.Names.{name}
 use Rattle.spec_octets.specs.Octets.{isDigit, isUpper, isLower, isLetterOrDigit, isBlank, lower, equalIgnoringCase, isParameterOctet}
@@ -18,7 +19,7 @@ use Rattle.spec_rule.specs.Authorizations.{isUnknownCritical, governing, grante
 use Rattle.spec_rule.specs.Verdicts.{verdict}
 use Rattle.spec_rule.specs.Calls.{judgementCode}
 use Rattle.spec_session.specs.Sessions.{maxTextOctets, held, textOf, keptName, keptApplicant, isKept, asking, decided, isAsking, asked, verdictOf, standing, state}
-use Rattle.spec_session.specs.Steps.{oneNameRefusal, sessionOf, endedSession, opened, answered, failed, sessionCode}
+use Rattle.spec_session.specs.Steps.{endedRefusal, oneNameRefusal, sessionOf, endedSession, opened, answered, failed, sessionCode}
 use Rattle.spec_session.specs.SessionEdges.{Runs-agree, States-agree, Asked-as-given}
 use Rattle.spec_session.specs.Pinned.{Session-codes}
 
@@ -29,11 +30,11 @@ unfolding maxLabelOctets maxIssuerOctets maxAliases maxNameOctets maxRequestOcte
     admits lookup isUnknownCritical governing grantee verdict name isRequestable requestedName issuerRefusal maxAccountOctets isAccount isMethod
     isApplicant applicantRefusal isLaidOut resourceRecord recordItems records layoutRefusal clashes conflictRefusal bookRefusal number judgementCode
     maxTextOctets held textOf keptName keptApplicant isKept asking decided isAsking asked verdictOf standing state oneNameRefusal sessionOf
-    endedSession opened answered failed
+    endedSession opened endedRefusal answered failed
 runs-agree = refl
 
 pub states-agree : States-agree
-unfolding maxLabelOctets maxIssuerOctets maxNameOctets isDigit isUpper isLower isLetterOrDigit isLetterDigitHyphen isLabel isHostLabel base isIssuer
+unfolding maxLabelOctets maxIssuerOctets maxNameOctets maxRecords isDigit isUpper isLower isLetterOrDigit isLetterDigitHyphen isLabel isHostLabel base isIssuer
     isParameterOctet name isRequestable requestedName maxAccountOctets isAccount isMethod isApplicant maxTextOctets held textOf keptName keptApplicant
     isKept asking decided isAsking asked verdictOf standing state endedSession
 states-agree = refl
@@ -45,5 +46,5 @@ unfolding maxLabelOctets maxIssuerOctets maxNameOctets maxRequestOctets isDigit 
 asked-as-given = (refl, refl)
 
 pub session-codes : Session-codes
-unfolding sessionCode
+unfolding sessionCode judgementCode refusalNumber place
 session-codes = (λ o l. refl, λ j. refl, refl, refl, refl)

@@ -1,8 +1,8 @@
 -- A session on its way: which answers are accepted, and where it ends.
-use Prim.Native.Nat.{ℕ, suc, _≤_, _<_}
+use Prim.Native.Nat.{ℕ, suc, _<_}
 use native.Mathlib.Omega.{arith}
 use mathlib.Core.Path.{_≡_, refl, ap, sym, _∙_}
-use mathlib.Core.Logic.{_≢_, _⊎_, inl, inr, ⊎-elim}
+use mathlib.Core.Logic.{_≢_, _⊎_, inl, inr}
 use mathlib.Core.Bool.{Bool, true, false, cond, _&&_, true≢false, and-eq-true-iff}
 use mathlib.Core.List.{List, [], _∷_}
 use mathlib.Core.Option.{Option, none, some, Option·none-ne-some, Option·some-injective}
@@ -10,7 +10,6 @@ use lib.Dec.{eqb, ltb}
 use lib.ListN.{length, drop}
 use borrow.Author.Tests.{ltb-true, ltb-false, lt-ltb}
 use Rattle.spec_refusal.specs.declared.Refusal.{Refusal}
-use Rattle.spec_octets.proofs.ListLaws.{true-or-false}
 use Rattle.spec_name.specs.Names.{Name}
 use Rattle.spec_request.specs.Request.{base}
 use Rattle.spec_issuer.specs.Issuer.{isIssuer}
@@ -18,11 +17,10 @@ use Rattle.spec_applicant.specs.Applicant.{Applicant, isApplicant}
 use Rattle.spec_record.specs.Records.{records, bookRefusal}
 use Rattle.spec_rule.specs.RelevantSet.{asBook, Lookup, empty, found, endless, lookup}
 use Rattle.spec_session.specs.declared.Session.{Session}
-use Rattle.spec_session.specs.declared.SessionAnswer.{SessionAnswer}
 use Rattle.spec_session.specs.Sessions.{held, keptName, keptApplicant, reaches, isKept, asking, isAsking, asked}
-use Rattle.spec_session.specs.Steps.{refusedWith, goesTo, oneUp, closedWith, concluded, byLookup, byRecords, answeredOr, answered, failed, Answer, book, lookupFailed, step, after, isRefusal, accepted}
+use Rattle.spec_session.specs.Steps.{endedRefusal, refusedWith, goesTo, oneUp, closedWith, concluded, byLookup, answered, failed, Answer, book, lookupFailed, step, after, accepted}
 use Rattle.spec_session.specs.Theorems.{Ended-stays}
-use Rattle.spec_session.proofs.StepLaws.{Live, live, asks, ended-refuses, refused-book, closed-asks-nothing, state-no-refusal}
+use Rattle.spec_session.proofs.StepLaws.{live, asks, ended-refuses, refused-book, closed-asks-nothing, state-no-refusal}
 
 -- an ended session stays as it is, whatever comes
 pub ended-stays : Ended-stays
@@ -31,8 +29,9 @@ ended-stays s (a ∷ more) e = rw (ended-refuses s a e) (ended-stays s more e)
 
 -- one answer in front: it is refused, or it leads to another session
 module _ (s : Session) (a : Answer) (more : List Answer) where
-  passed-over : (q : SessionAnswer) → step s a ≡ refusedWith q s → isRefusal q ≡ true → (accepted s (a ∷ more) ≡ accepted s more) × (after s (a ∷ more) ≡ after s more)
-  passed-over q e r = rw (e, r) (refl, refl)
+  passed-over :
+      (r : Refusal) → step s a ≡ refusedWith r s → (accepted s (a ∷ more) ≡ accepted s more) × (after s (a ∷ more) ≡ after s more)
+  passed-over r e = rw e (refl, refl)
 
   taken : (t : Session) → step s a ≡ goesTo t → (accepted s (a ∷ more) ≡ (asked s, a) ∷ accepted t more) × (after s (a ∷ more) ≡ after t more)
   taken t e = rw (e, state-no-refusal t) (refl, refl)
@@ -91,11 +90,11 @@ module _ (issuer : List ℕ) (who : Applicant) (n : Name) where
 
   -- an accepted book
   read : {s : Session} (b : List ℕ) → OnCourse s → bookRefusal b ≡ none → step s (book b) ≡ goesTo (byLookup s n (looked s b))
-  unfolding answered
+  unfolding answered endedRefusal
   read b c e = rw (c .takes, e, c .of-name) refl
 
   gave-up : {s : Session} → OnCourse s → step s lookupFailed ≡ goesTo (closedWith 23 0 s)
-  unfolding failed
+  unfolding failed endedRefusal
   gave-up c = rw (c .takes) refl
 
   -- a session that ends with the first answer
@@ -147,5 +146,5 @@ module _ (issuer : List ℕ) (who : Applicant) (n : Name) where
       by-check none e later = by-lookup (looked s b) refl (read b c e) later
       by-check (some r) e later =
           let named : asked s ≢ none = λ z. Option·none-ne-some _ (sym z ∙ asks-next c) in
-          let (front, last) = passed-over s (book b) more _ (refused-book s b r named e) refl in
+          let (front, last) = passed-over s (book b) more r (refused-book s b r named e) in
           rw (front, last) (later s c)

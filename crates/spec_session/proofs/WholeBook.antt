@@ -2,24 +2,24 @@
 use Prim.Native.Nat.{ℕ, suc, _+_, _≤_, _<_}
 use native.Mathlib.Omega.{arith}
 use mathlib.Core.Path.{_≡_, refl, ap, sym, _∙_}
-use mathlib.Core.Logic.{_≢_, _⊎_, inl, inr, ⊎-elim}
-use mathlib.Core.Bool.{Bool, true≢false}
-use mathlib.Core.List.{List, [], _∷_, _++_, map, append-nil}
+use mathlib.Core.Logic.{_≢_, _⊎_, inl, inr}
+use mathlib.Core.Bool.{true≢false}
+use mathlib.Core.List.{List, [], _∷_, map, append-nil}
 use mathlib.Core.Option.{Option, none, some, Option·none-ne-some, Option·some-injective}
 use lib.ListN.{length, drop, drop-of-length-le}
 use borrow.Author.Tests.{leb-true}
-use Rattle.spec_limits.specs.Limits.{maxNames, maxNameOctets, maxRequestOctets}
+use Rattle.spec_limits.specs.Limits.{maxNames}
 use Rattle.spec_octets.specs.Lists.{All, all-nil, all-cons}
 use Rattle.spec_octets.proofs.ListLaws.{All-head, All-tail}
 use Rattle.spec_name.specs.Names.{Name, wire, ancestors}
-use Rattle.spec_request.specs.Request.{isWildcard, base, requestedNames, requestRefusal}
+use Rattle.spec_request.specs.Request.{isWildcard, base}
 use Rattle.spec_request.proofs.Requests.{request-is-its-names}
 use Rattle.spec_issuer.proofs.Dotted.{issuer-refusals}
 use Rattle.spec_applicant.specs.Applicant.{Applicant}
 use Rattle.spec_applicant.proofs.Texts.{applicant-refusals}
 use Rattle.spec_record.specs.Records.{records, bookRefusal}
 use Rattle.spec_rule.specs.declared.Judgement.{Judgement}
-use Rattle.spec_rule.specs.RelevantSet.{Book, asBook, Lookup, empty, found, endless, lookup, firstFound, relevantSet, emptyBefore, labelsOff}
+use Rattle.spec_rule.specs.RelevantSet.{Book, asBook, Lookup, empty, lookup, firstFound, relevantSet, emptyBefore, labelsOff}
 use Rattle.spec_rule.specs.Authorizations.{authorization}
 use Rattle.spec_rule.specs.Verdicts.{decision, verdict}
 use Rattle.spec_rule.specs.Calls.{decisions, judge}
@@ -28,11 +28,11 @@ use Rattle.spec_session.specs.declared.Session.{Session}
 use Rattle.spec_session.specs.declared.SessionAnswer.{SessionAnswer}
 use Rattle.spec_session.specs.declared.SessionAnswer.the-variants.{Judged}
 use Rattle.spec_session.specs.Sessions.{standing}
-use Rattle.spec_session.specs.Steps.{sessionOf, decidedFrom, Answer, book, lookupFailed}
-use Rattle.spec_session.specs.Meaning.{GoodOpening, HoldsAs, Agrees}
-use Rattle.spec_session.specs.Theorems.{sessionAfter, acceptedOf, As-the-whole-book}
+use Rattle.spec_session.specs.Steps.{sessionOf, decidedFrom, Answer, book}
+use Rattle.spec_session.specs.Meaning.{GoodOpening, Agrees}
+use Rattle.spec_session.specs.Theorems.{As-the-whole-book}
 use Rattle.spec_session.proofs.Opening.{short, names-within}
-use Rattle.spec_session.proofs.Trails.{OnCourse, below, next, looked, Trail, stays, climbs, decides, fails}
+use Rattle.spec_session.proofs.Trails.{below, next, looked, Trail, stays, climbs, decides, fails}
 use Rattle.spec_session.proofs.Runs.{first-ancestor, phase-asks, concluded-stands, from-start}
 use Rattle.spec_session.proofs.SameLookups.{Alike, both-empty, both-found, both-endless, same-lookups}
 use Rattle.spec_session.proofs.SameProperties.{verdicts-alike}
@@ -102,7 +102,7 @@ module _ (issuer : List ℕ) (who : Applicant) (n : Name) (whole : List ℕ) whe
       rw (passed (s .up) (below issuer who n c) there) (as-whole more (All-tail all) v e)
   as-whole (decides {s} {b} c why) all v e = (
     verdict issuer (decidedFrom who (isWildcard n) (s .up) (looked issuer who n s b) ∷ []),
-    Option·some-injective _ _ (sym e ∙ concluded-stands issuer who n c (looked issuer who n s b)),
+    Option·some-injective _ _ (sym e ∙ concluded-stands issuer who n c b),
     settled (s .up) (below issuer who n c) (looked issuer who n s b) (lookup library (next issuer who n s)) refl (agreed s b (All-head all)) why,
   )
   as-whole (fails {s} c) all v e =

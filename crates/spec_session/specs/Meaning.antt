@@ -4,11 +4,11 @@ use mathlib.Core.Path.{_≡_}
 use mathlib.Core.Logic.{_≢_, _⊎_}
 use mathlib.Core.Bool.{Bool}
 use mathlib.Core.List.{List, [], _∷_, _++_, map}
-use mathlib.Core.Option.{Option, some}
+use mathlib.Core.Option.{Option, none, some}
 use lib.ListN.{length}
 use Rattle.spec_limits.specs.Limits.{maxAliases}
 use Rattle.spec_refusal.specs.declared.Refusal.{Refusal}
-use Rattle.spec_refusal.specs.declared.Refusal.the-variants.{RequestTooLong, BadName}
+use Rattle.spec_refusal.specs.declared.Refusal.the-variants.{RequestTooLong, BadName, SessionEnded}
 use Rattle.spec_octets.specs.Lists.{All, First}
 use Rattle.spec_octets.specs.Octets.{Octets, lowered}
 use Rattle.spec_name.specs.Names.{Name, wire}
@@ -21,6 +21,7 @@ use Rattle.spec_applicant.specs.Meaning.{GoodApplicant}
 use Rattle.spec_applicant.specs.Theorems.{ApplicantRow}
 use Rattle.spec_record.specs.Property.{Property}
 use Rattle.spec_record.specs.Records.{records}
+use Rattle.spec_record.specs.Theorems.{BookRow}
 use Rattle.spec_rule.specs.declared.Judgement.{Judgement}
 use Rattle.spec_rule.specs.declared.Judgement.the-variants.{Permitted, UnknownCritical, NotGranted, TooManyAliases}
 use Rattle.spec_rule.specs.Aliases.{Alias, aliasesOf}
@@ -28,8 +29,8 @@ use Rattle.spec_rule.specs.RelevantSet.{CaaRecord, Book, asBook, Lookup, found,
 use Rattle.spec_rule.specs.Meaning.{EndsAt, UnknownCriticalRecord, Governs}
 use Rattle.spec_rule.specs.Verdicts.{denial}
 use Rattle.spec_session.specs.declared.Session.{Session}
-use Rattle.spec_session.specs.Sessions.{held, keptApplicant}
-use Rattle.spec_session.specs.Steps.{Answer, book}
+use Rattle.spec_session.specs.Sessions.{held, keptApplicant, asked}
+use Rattle.spec_session.specs.Steps.{Answer, book, lookupFailed}
 
 -- Row 2 for a request of one name, with its place: no valid name at the front (0), or octets behind one (1).
 abbrev pub NoName : List ℕ → Type 0
@@ -48,6 +49,19 @@ OneNameRow s r = ((r ≡ RequestTooLong) × Row-1 s) ⊎ ((k : ℕ) × (r ≡ Ba
 -- The rows of opening a session.
 abbrev pub OpenRow : List ℕ → List ℕ → Applicant → Refusal → Type 0
 OpenRow request issuer who r = OneNameRow request r ⊎ IssuerRow issuer r ⊎ ApplicantRow who r
+
+-- The rows of an answer to a session: by a book, and by a failure.
+abbrev pub EndedRow : Session → Refusal → Type 0
+EndedRow s r = (r ≡ SessionEnded) × (asked s ≡ none)
+
+abbrev pub AnswerRow : Session → Answer → Refusal → Type 0
+AnswerRow s (book b) r = EndedRow s r ⊎ BookRow b r
+AnswerRow s lookupFailed r = EndedRow s r
+
+-- A book that comes as an answer is made of octets.
+abbrev pub OctetsOf : Answer → Type 0
+OctetsOf (book b) = Octets b
+OctetsOf lookupFailed = Octets []
 
 -- The request is the one valid name n, and the issuer domain name, account and method keep to their rules.
 pub record GoodOpening (request issuer : List ℕ) (who : Applicant) (n : Name) : Type 0 where

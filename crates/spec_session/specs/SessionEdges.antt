@@ -3,12 +3,12 @@ use Prim.Native.Nat.{ℕ}
 use Prim.Native.Char.{code}
 use mathlib.Core.Path.{_≡_}
 use mathlib.Core.List.{List, [], _∷_, _++_, map}
-use mathlib.Core.Option.{Option, none, some}
+use mathlib.Core.Option.{some}
 use lib.ListN.{replicate, take, drop}
 use Rattle.spec_refusal.specs.declared.Refusal.{Refusal}
-use Rattle.spec_refusal.specs.declared.Refusal.the-variants.{RequestTooLong, BadName, BadIssuer, BookTooLong, BadRecord, AliasConflict, BadAccountOrMethod}
+use Rattle.spec_refusal.specs.declared.Refusal.the-variants.{RequestTooLong, BadName, BadIssuer, BookTooLong, BadRecord, AliasConflict, SessionEnded, BadAccountOrMethod}
 use Rattle.spec_octets.specs.Octets.{text}
-use Rattle.spec_name.specs.Names.{Name, wire}
+use Rattle.spec_name.specs.Names.{wire}
 use Rattle.spec_request.specs.RequestEdges.{names}
 use Rattle.spec_applicant.specs.Applicant.{Applicant}
 use Rattle.spec_applicant.specs.ApplicantEdges.{withAccount}
@@ -23,8 +23,8 @@ use Rattle.spec_session.specs.declared.Session.{Session}
 use Rattle.spec_session.specs.declared.SessionAnswer.{SessionAnswer}
 use Rattle.spec_session.specs.declared.SessionAnswer.the-variants.{Asks, Judged, LookupFailed, NoVerdict}
 use Rattle.spec_session.specs.declared.Stepped.{Stepped}
-use Rattle.spec_session.specs.Sessions.{held, textOf, asked, standing, state}
-use Rattle.spec_session.specs.Steps.{sessionEnded, sessionOf, endedSession, opened, Answer, book, lookupFailed, step}
+use Rattle.spec_session.specs.Sessions.{held, textOf, asked, state}
+use Rattle.spec_session.specs.Steps.{endedSession, opened, Answer, book, lookupFailed, step}
 
 -- What a step and the answers after it are answered with.
 abbrev pub toldBy : Stepped → List Answer → List SessionAnswer
@@ -71,6 +71,9 @@ asksTop = Asks 12 5
 
 abbrev pub refused : Refusal → SessionAnswer
 refused r = Judged (Refused r)
+
+abbrev pub sessionEnded : SessionAnswer
+sessionEnded = refused SessionEnded
 
 abbrev pub badName : ℕ → SessionAnswer
 badName k = refused (BadName (record { 0 = k }))
@@ -208,6 +211,15 @@ stateEdges =
     ∷ (numbers 2 1 22 7, Judged (TooManyAliases (denial 0 7 1)))
     ∷ (numbers 2 1 23 7, LookupFailed)
     ∷ (numbers 2 1 24 7, NoVerdict)
+    -- The record numbers are below 1,024. Without a record, any number does.
+    ∷ (numbers 2 1 20 1023, Judged (UnknownCritical (denial 0 1023 1)))
+    ∷ (numbers 2 1 20 1024, NoVerdict)
+    ∷ (numbers 2 1 21 1023, notGranted 1023 1)
+    ∷ (numbers 2 1 21 1024, NoVerdict)
+    ∷ (numbers 2 1 22 1023, Judged (TooManyAliases (denial 0 1023 1)))
+    ∷ (numbers 2 1 22 1024, NoVerdict)
+    ∷ (numbers 2 1 0 1024, permitted)
+    ∷ (numbers 2 1 23 1024, LookupFailed)
     -- The kept name: no octets, one missing, one more, beyond the room. A name that may not be requested; two names.
     ∷ (withName 1 (ofLength 0 www), NoVerdict)
     ∷ (withName 1 (ofLength 16 www), NoVerdict)

@@ -5,6 +5,7 @@ use mathlib.Core.List.{List, [], _++_}
 use mathlib.Core.Option.{Option, none, some}
 use lib.Dec.{eqb, leb, ltb}
 use lib.ListN.{length, take, drop, replicate}
+use Rattle.spec_limits.specs.Limits.{maxRecords}
 use Rattle.spec_name.specs.Names.{Name, wire}
 use Rattle.spec_request.specs.Request.{base, requestedName}
 use Rattle.spec_issuer.specs.Issuer.{isIssuer}
@@ -65,13 +66,17 @@ above (some n) u = some (drop u (base n))
 unfoldable pub asked : Session → Option Name
 asked s = cond (isAsking s) (above (keptName s) (s .up)) none
 
+-- A verdict by record rr. No accepted book has a record with a number of `maxRecords` or more.
+abbrev pub ofRecord : ℕ → SessionAnswer → Option SessionAnswer
+ofRecord rr v = cond (ltb rr maxRecords) (some v) none
+
 -- The verdict with this number, for the one name of a session. No other number is a verdict.
 unfoldable pub verdictOf : ℕ → ℕ → ℕ → Option SessionAnswer
 verdictOf number rr up =
     cond (eqb number 0) (some (Judged Permitted))
-    (cond (eqb number 20) (some (Judged (UnknownCritical (denial 0 rr up))))
-    (cond (eqb number 21) (some (Judged (NotGranted (denial 0 rr up))))
-    (cond (eqb number 22) (some (Judged (TooManyAliases (denial 0 rr up))))
+    (cond (eqb number 20) (ofRecord rr (Judged (UnknownCritical (denial 0 rr up))))
+    (cond (eqb number 21) (ofRecord rr (Judged (NotGranted (denial 0 rr up))))
+    (cond (eqb number 22) (ofRecord rr (Judged (TooManyAliases (denial 0 rr up))))
     (cond (eqb number 23) (some LookupFailed) none))))
 
 -- The verdict that stands, if any. The labels taken off are those at which the session ended.

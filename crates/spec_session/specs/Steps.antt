@@ -7,7 +7,7 @@ use lib.Dec.{ltb}
 use lib.ListN.{length, drop, getD}
 use Rattle.spec_limits.specs.Limits.{maxRequestOctets}
 use Rattle.spec_refusal.specs.declared.Refusal.{Refusal}
-use Rattle.spec_refusal.specs.declared.Refusal.the-variants.{RequestTooLong, BadName}
+use Rattle.spec_refusal.specs.declared.Refusal.the-variants.{RequestTooLong, BadName, SessionEnded}
 use Rattle.spec_octets.specs.Lists.{consIf}
 use Rattle.spec_name.specs.Names.{Name}
 use Rattle.spec_request.specs.Request.{isWildcard, base, requestedName}
@@ -22,17 +22,17 @@ use Rattle.spec_rule.specs.Verdicts.{Decision, verdict}
 use Rattle.spec_rule.specs.Calls.{firstRefusal, AnswerCode, judgementCode}
 use Rattle.spec_session.specs.declared.Session.{Session}
 use Rattle.spec_session.specs.declared.SessionAnswer.{SessionAnswer}
-use Rattle.spec_session.specs.declared.SessionAnswer.the-variants.{Asks, Judged, LookupFailed, NoVerdict, Ended}
+use Rattle.spec_session.specs.declared.SessionAnswer.the-variants.{Asks, Judged, LookupFailed, NoVerdict}
 use Rattle.spec_session.specs.declared.Stepped.{Stepped}
 use Rattle.spec_session.specs.Sessions.{textOf, keptName, keptApplicant, held, asking, decided, isAsking, asked, state}
 
--- Refusal 14: an answer comes to an ended session.
-abbrev pub sessionEnded : SessionAnswer
-sessionEnded = Ended
+-- Row 14: "Any answer to an ended session". It is looked for before the book is read.
+unfoldable pub endedRefusal : Session → Option Refusal
+endedRefusal s = cond (isAsking s) none (some SessionEnded)
 
 -- A refusal leaves the session as it was.
-abbrev pub refusedWith : SessionAnswer → Session → Stepped
-refusedWith a s = record { answer = a; session = s }
+abbrev pub refusedWith : Refusal → Session → Stepped
+refusedWith r s = record { answer = Judged (Refused r); session = s }
 
 -- Whatever is accepted is answered by the state of the session after it.
 abbrev pub goesTo : Session → Stepped
@@ -125,15 +125,22 @@ byRecords s (some n) book = byLookup s n (lookup book (drop (s .up) (base n)))
 
 abbrev pub answeredOr : Option Refusal → Session → List ℕ → Stepped
 answeredOr none s b = goesTo (byRecords s (keptName s) (asBook (records b)))
-answeredOr (some r) s b = refusedWith (Judged (Refused r)) s
+answeredOr (some r) s b = refusedWith r s
+
+abbrev pub answerChecks : Session → List ℕ → List (Option Refusal)
+answerChecks s b = endedRefusal s ∷ bookRefusal b ∷ []
 
 -- A book comes as the answer to the name asked for.
 unfoldable pub answered : Session → List ℕ → Stepped
-answered s b = cond (isAsking s) (answeredOr (bookRefusal b) s b) (refusedWith sessionEnded s)
+answered s b = answeredOr (firstRefusal (answerChecks s b)) s b
 
 -- The lookup of the name asked for failed: verdict 23.
+abbrev pub failedOr : Option Refusal → Session → Stepped
+failedOr none s = goesTo (closedWith 23 0 s)
+failedOr (some r) s = refusedWith r s
+
 unfoldable pub failed : Session → Stepped
-failed s = cond (isAsking s) (goesTo (closedWith 23 0 s)) (refusedWith sessionEnded s)
+failed s = failedOr (endedRefusal s) s
 
 -- An answer to a session.
 pub data Answer : Type 0 where
@@ -158,17 +165,15 @@ isRefusal (Judged (TooManyAliases d)) = false
 isRefusal (Judged (Refused r)) = true
 isRefusal LookupFailed = false
 isRefusal NoVerdict = false
-isRefusal Ended = true
 
 -- Those of the answers that are not refused, each with the name that was asked for.
 abbrev pub accepted : Session → List Answer → List (Option Name × Answer)
 accepted s [] = []
 accepted s (a ∷ more) = consIf (not (isRefusal (step s a .answer))) (asked s, a) (accepted (step s a .session) more)
 
--- The number and the values of each answer. 14 and 23 are the requirements' numbers; 40, with length and offset, and 41 are this project's own.
+-- The number and the values of each answer. 23 is the requirements' number; 40, with length and offset, and 41 are this project's own.
 unfoldable pub sessionCode : SessionAnswer → AnswerCode
 sessionCode (Asks o l) = record { number = 40; values = l ∷ o ∷ [] }
 sessionCode (Judged j) = judgementCode j
 sessionCode LookupFailed = record { number = 23; values = [] }
 sessionCode NoVerdict = record { number = 41; values = [] }
-sessionCode Ended = record { number = 14; values = 0 ∷ [] }

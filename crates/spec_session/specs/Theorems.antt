@@ -7,26 +7,25 @@ use mathlib.Core.List.{List, [], _∷_, _++_, map}
 use mathlib.Core.Option.{Option, none, some}
 use lib.ListN.{length, take, drop, replicate}
 use Rattle.spec_refusal.specs.declared.Refusal.{Refusal}
+use Rattle.spec_refusal.specs.declared.Refusal.the-variants.{SessionEnded}
 use Rattle.spec_octets.specs.Lists.{All}
 use Rattle.spec_octets.specs.Octets.{Octets}
 use Rattle.spec_name.specs.Names.{Name, wire, ancestors}
 use Rattle.spec_request.specs.Request.{isWildcard, base}
 use Rattle.spec_applicant.specs.Applicant.{Applicant}
 use Rattle.spec_record.specs.Records.{records, bookRefusal}
-use Rattle.spec_record.specs.Theorems.{BookRow}
 use Rattle.spec_rule.specs.declared.Judgement.{Judgement}
 use Rattle.spec_rule.specs.declared.Judgement.the-variants.{Refused}
 use Rattle.spec_rule.specs.RelevantSet.{asBook, lookup}
 use Rattle.spec_rule.specs.Verdicts.{verdict}
 use Rattle.spec_rule.specs.Calls.{judge}
 use Rattle.spec_rule.specs.Theorems.{FirstRow, renumberedVerdict}
-use Rattle.spec_session.specs.declared.Text.{Text}
 use Rattle.spec_session.specs.declared.Session.{Session}
 use Rattle.spec_session.specs.declared.SessionAnswer.{SessionAnswer}
 use Rattle.spec_session.specs.declared.SessionAnswer.the-variants.{Asks, Judged, LookupFailed, NoVerdict}
 use Rattle.spec_session.specs.Sessions.{maxTextOctets, held, textOf, isKept, asked, standing, state}
-use Rattle.spec_session.specs.Steps.{sessionEnded, endedSession, opened, decidedFrom, answered, failed, Answer, book, step, after, isRefusal, accepted}
-use Rattle.spec_session.specs.Meaning.{OpenRow, GoodOpening, KeptWell, Agrees, NumberedBy}
+use Rattle.spec_session.specs.Steps.{endedSession, opened, decidedFrom, answered, failed, Answer, book, step, after, isRefusal, accepted}
+use Rattle.spec_session.specs.Meaning.{OpenRow, AnswerRow, OctetsOf, GoodOpening, KeptWell, Agrees, NumberedBy}
 
 -- A text of at most 256 octets is kept whole, with zeros behind it. Every kept text takes 256 octets.
 abbrev pub Texts-kept : Type 0
@@ -57,17 +56,18 @@ Good-opening =
 
 -- "Any answer to an ended session, a bad book or "failed" too, gets refusal 14, place 0, nothing changed"
 abbrev pub Ended-refuses : Type 0
-Ended-refuses = (s : Session) (a : Answer) → asked s ≡ none → step s a ≡ record { answer = sessionEnded; session = s }
+Ended-refuses = (s : Session) (a : Answer) → asked s ≡ none → step s a ≡ record { answer = Judged (Refused SessionEnded); session = s }
 
--- Refusal 14 exactly then. While a name is asked for, a book is refused exactly when the table says so, and that leaves the session alone.
+-- An answer is refused exactly when the table says so: 14 comes first, and then what the book is refused by.
 abbrev pub Answer-refusals : Type 0
 Answer-refusals =
-    (s : Session) (b : List ℕ) → Octets b →
-    ((answered s b .answer ≡ sessionEnded) ↔ (asked s ≡ none))
-    × ((failed s .answer ≡ sessionEnded) ↔ (asked s ≡ none))
-    × ((r : Refusal) → (answered s b .answer ≡ Judged (Refused r)) ↔ ((asked s ≢ none) × FirstRow (BookRow b) r))
-    × ((r : Refusal) → failed s .answer ≢ Judged (Refused r))
+    (s : Session) (a : Answer) → OctetsOf a → (r : Refusal) → (step s a .answer ≡ Judged (Refused r)) ↔ FirstRow (AnswerRow s a) r
 
+-- A refused answer leaves the session alone.
+abbrev pub Refused-answer : Type 0
+Refused-answer = (s : Session) (a : Answer) (r : Refusal) → step s a .answer ≡ Judged (Refused r) → step s a .session ≡ s
+
+-- "A refused book (5, 6, 7) leaves the session alone", and 12 does too: the same name is asked for again.
 abbrev pub Refused-book : Type 0
 Refused-book =
     (s : Session) (b : List ℕ) (r : Refusal) → asked s ≢ none → bookRefusal b ≡ some r →

@@ -43,8 +43,6 @@ pub enum SessionAnswer {
     LookupFailed,
     // Asked for its state: the session is ended and has no verdict.
     NoVerdict,
-    // An answer comes to an ended session: refusal 14.
-    Ended,
 }
 
 // The answer of a step, and the session after it.

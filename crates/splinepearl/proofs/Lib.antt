@@ -1,3 +1,2 @@
-pub mod PackedAnswers
 pub mod ListAnswers
 pub mod LineAnswers

@@ -15,7 +15,3 @@ module _ (r : ℕ) (m : LineAnswer) where
   pub refusal-packed : (q : Refusal) → r ≡ packedRefusal q → m ≡ Refused q → r ≡ packedLine m
   unfolding packedLine lineCode packedRefusal
   refusal-packed q p e = rw e p
-
--- an answer passed on
-pub made-told : (r : ℕ) (m n : LineAnswer) → r ≡ packedLine m → m ≡ n → r ≡ packedLine n
-made-told r m n e f = rw (← f) e

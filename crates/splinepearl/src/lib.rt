@@ -1,22 +1,12 @@
 // The calls for C and Rust. Each returns a word of 64 bits: the number of the answer in bits 0 to 7, and the fields a, b and c above.
+mod sessions;
+
+use judge_word::pack_judgement;
 use spec_line::LineAnswer;
-use spec_rule::Denial;
-use spec_rule::Judgement;
 use spec_rule::PermittedIssuers;
 ghost use mathlib.Core.Path.{_≡_};
-ghost use Rattle.spec_packed.specs.Packed.{packed};
 ghost use Rattle.spec_answers.specs.Door.{caaJudgeFor, caaPermittedIssuersFor, caaWriteLine, caaReadLine};
 ghost use Rattle.spec_answers.specs.LineAnswers.{packedLine};
-
-// A verdict with the numbers of its denial.
-fn pack_denial(number: u64, d: Denial) -> u64
-    ensures { λ r. ⌜ r ≡ packed number (d .name .0) (d .rr .0) (d .up .0) ⌝ }
-{
-    let name = d.name;
-    let rr = d.rr;
-    let up = d.up;
-    spec_packed::pack(number, name.0 as u64, rr.0 as u64, up.0 as u64)
-}
 
 // May this issuer issue, for this account and by this method? 0: permitted. 20, 21 and 22: name number in a, record number in b, labels taken off in c. A refusal: its place (spec_refusal) in a.
 #[no_mangle]
@@ -29,13 +19,7 @@ pub extern "C" fn caa_judge_for(
 ) -> u64
     ensures { λ r. ⌜ r ≡ caaJudgeFor (now (request .entry)) (now (issuer .entry)) (record { account = now (account .entry); method = now (method .entry) }) (now (book .entry)) ⌝ }
 {
-    match judge_call::judge(request, issuer, account, method, book) {
-        Judgement::Permitted => 0,
-        Judgement::UnknownCritical(d) => pack_denial(20, d),
-        Judgement::NotGranted(d) => pack_denial(21, d),
-        Judgement::TooManyAliases(d) => pack_denial(22, d),
-        Judgement::Refused(r) => spec_packed::pack_refusal(r),
-    }
+    pack_judgement(judge_call::judge(request, issuer, account, method, book))
 }
 
 // Who may issue, for this account and by this method? 30: anyone. 31: a list at the start of the buffer, with its octets in a and its count in b. A refusal: place in a.

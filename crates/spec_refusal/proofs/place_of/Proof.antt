@@ -44,6 +44,9 @@ enum-known-r-4 c = search needs
 enum-told-9 : tie.Need-enum-told-9
 enum-told-9 c = search needs
 
+enum-told-10 : tie.Need-enum-told-10
+enum-told-10 c = search needs
+
 returns : tie.Need-returns
 unfolding place maxNames maxRecords
 returns c = search needs
@@ -96,6 +99,10 @@ returns-13 : tie.Need-returns-13
 unfolding place maxNames maxRecords
 returns-13 c = search needs
 
+returns-14 : tie.Need-returns-14
+unfolding place maxNames maxRecords
+returns-14 c = search needs
+
 pub place-of-spec : {M : Type 1} → statement M
 place-of-spec =
     tie.close
@@ -113,6 +120,7 @@ place-of-spec =
     enum-told-8
     enum-known-r-4
     enum-told-9
+    enum-told-10
     returns
     returns-2
     returns-3
@@ -125,4 +133,5 @@ place-of-spec =
     returns-10
     returns-11
     returns-12
-    returns-13)
+    returns-13
+    returns-14)

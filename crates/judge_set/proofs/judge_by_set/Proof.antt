@@ -1,8 +1,8 @@
 -- `judge_by_set` meets its contract.
 use borrow.Author.Needs.{needs}
-use Rattle.judge_call.proofs.AskedLaws.{by-unrestricted, by-critical, by-alias, by-grant, by-no-grant}
-use Rattle.judge_call.proofs.judge_by_set.Statement.{statement}
-use Rattle.judge_call.proofs.judge_by_set.Tie as tie
+use Rattle.judge_set.proofs.SetVerdicts.{by-unrestricted, by-critical, by-alias, by-grant, by-no-grant}
+use Rattle.judge_set.proofs.judge_by_set.Statement.{statement}
+use Rattle.judge_set.proofs.judge_by_set.Tie as tie
 
 set-authorization-requires : tie.Need-set-authorization-requires
 set-authorization-requires c κs = search needs

@@ -1,7 +1,7 @@
 -- `pack_denial` meets its contract.
 use borrow.Author.Needs.{needs}
-use Rattle.splinepearl.proofs.pack_denial.Statement.{statement}
-use Rattle.splinepearl.proofs.pack_denial.Tie as tie
+use Rattle.judge_word.proofs.pack_denial.Statement.{statement}
+use Rattle.judge_word.proofs.pack_denial.Tie as tie
 
 pack-requires : tie.Need-pack-requires
 pack-requires c κs = search needs

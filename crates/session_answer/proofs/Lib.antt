@@ -1,0 +1,2 @@
+pub mod AskedPart
+pub mod AnswerLaws

@@ -1,0 +1,2 @@
+pub mod LookWays
+pub mod RuleLook

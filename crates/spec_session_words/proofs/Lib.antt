@@ -1,0 +1,15 @@
+pub mod SessionUnpacks
+pub mod States
+pub mod WordAnswers
+pub mod ToldNames
+pub mod StateDoor
+pub mod StepFits
+pub mod SessionRows
+pub mod StepWords
+pub mod FailDoor
+pub mod OpenDoor
+pub mod Rulings
+pub mod AnswerWays
+pub mod AnswerDoor
+pub mod RunDoor
+pub mod Table

@@ -1,0 +1,3 @@
+pub mod SessionWords
+pub mod SessionDoor
+pub mod SessionWordEdges
