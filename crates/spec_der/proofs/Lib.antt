@@ -1,1 +1,4 @@
-pub mod Table
+pub mod Forms
+pub mod LengthLaws
+pub mod ElementLaws
+pub mod TbsLaws

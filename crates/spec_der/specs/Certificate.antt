@@ -6,7 +6,7 @@ use mathlib.Core.Option.{Option, none, some}
 use lib.Dec.{eqb, leb}
 use lib.ListN.{length}
 use Rattle.spec_octets.specs.Lists.{flatten}
-use Rattle.spec_octets.specs.Reader.{Reader, pure, ifRead, _>>=_}
+use Rattle.spec_octets.specs.Reader.{Reader, pure, _>>=_}
 use Rattle.spec_der.specs.Elements.{Element, wireElement, element, tagged, elements}
 
 -- Tags: INTEGER, SEQUENCE, and the context-specific tag 0 of the version.
@@ -58,8 +58,12 @@ wireCertificate c =
     wireSequence (wireSequence (wireTbs (c .tbsCertificate)) ++ wireElement (c .signatureAlgorithm) ++ wireElement (c .signatureValue))
 
 -- The version, if the octets begin with an element that has its tag. Otherwise nothing is read.
+abbrev pub asVersion : List ℕ → Option (Element × List ℕ) → Option (Option Element × List ℕ)
+asVersion s none = some (none, s)
+asVersion s (some r) = cond (eqb (r .0 .tag) versionTag) (some (some (r .0), r .1)) (some (none, s))
+
 unfoldable pub version : Reader (Option Element)
-version s = ifRead (some (none, s)) (element s) (λ e rest. cond (eqb (e .tag) versionTag) (some (some e, rest)) (some (none, s)))
+version s = asVersion s (element s)
 
 unfoldable pub tbsCertificate : Reader TbsCertificate
 tbsCertificate = do

@@ -179,8 +179,7 @@ certificateEdges =
     ∷ (long 48 (long 48 (way ++ middle 48 (replicate 255 7)) ++ signed), middle 48 (replicate 255 7))
     ∷ (long 48 (long 48 (way ++ long 48 (replicate 255 7)) ++ signed), [])
     ∷ (longCert 256, longKey 256)
-    -- 16,384 octets, and one more. 65,535 octets.
+    -- 16,384 octets, and one more.
     ∷ (longCert 16358, longKey 16358)
     ∷ (longCert 16359, [])
-    ∷ (longCert 65509, [])
     ∷ []

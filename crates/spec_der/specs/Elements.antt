@@ -18,7 +18,7 @@ pub record Element : Type 0 where
 unfoldable pub wireLength : ℕ → List ℕ
 wireLength n = cond (ltb n 128) (n ∷ []) (cond (ltb n 256) (129 ∷ n ∷ []) (130 ∷ inOctets 2 n))
 
-abbrev pub wireElement : Element → List ℕ
+unfoldable pub wireElement : Element → List ℕ
 wireElement e = e .tag ∷ (wireLength (length (e .contents)) ++ e .contents)
 
 -- X.690 sections 8.1.3.4 and 8.1.3.5. A first length octet x below 128 is the length. Any other says by its low seven bits how many octets follow,
