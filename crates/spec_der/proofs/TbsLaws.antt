@@ -74,6 +74,7 @@ afterVersion t =
     ++ (wireElement (t .subject) ++ (wireElement (t .subjectPublicKeyInfo) ++ wireElements (t .others))))))
 
 pub tbs-fields : (t : TbsCertificate) → wireTbs t ≡ wireVersion (t .version) ++ afterVersion t
+unfolding wireTbs
 tbs-fields t = simp append-assoc
 
 pub tbs-is-its-form :

@@ -48,14 +48,16 @@ wireVersion (some e) = wireElement e
 abbrev pub wireElements : List Element → List ℕ
 wireElements es = flatten (map wireElement es)
 
-abbrev pub wireTbs : TbsCertificate → List ℕ
+unfoldable pub wireTbs : TbsCertificate → List ℕ
 wireTbs t =
     wireVersion (t .version) ++ wireElement (t .serialNumber) ++ wireElement (t .signature) ++ wireElement (t .issuer)
     ++ wireElement (t .validity) ++ wireElement (t .subject) ++ wireElement (t .subjectPublicKeyInfo) ++ wireElements (t .others)
 
+abbrev pub wireContents : Certificate → List ℕ
+wireContents c = wireSequence (wireTbs (c .tbsCertificate)) ++ wireElement (c .signatureAlgorithm) ++ wireElement (c .signatureValue)
+
 abbrev pub wireCertificate : Certificate → List ℕ
-wireCertificate c =
-    wireSequence (wireSequence (wireTbs (c .tbsCertificate)) ++ wireElement (c .signatureAlgorithm) ++ wireElement (c .signatureValue))
+wireCertificate c = wireSequence (wireContents c)
 
 -- The version, if the octets begin with an element that has its tag. Otherwise nothing is read.
 abbrev pub asVersion : List ℕ → Option (Element × List ℕ) → Option (Option Element × List ℕ)

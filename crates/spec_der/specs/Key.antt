@@ -5,7 +5,7 @@ use mathlib.Core.List.{List, [], _∷_, _++_}
 use mathlib.Core.Option.{Option, none, some}
 use lib.ListN.{length}
 use Rattle.spec_der.specs.Elements.{wireLength, wireElement}
-use Rattle.spec_der.specs.Certificate.{sequence, TbsCertificate, Certificate, wireVersion, wireElements, wireSequence, wireTbs, certificate}
+use Rattle.spec_der.specs.Certificate.{sequence, TbsCertificate, Certificate, wireVersion, wireElements, wireTbs, wireContents, certificate}
 
 -- Whether s is laid out as a certificate.
 abbrev pub isRead : Option Certificate → Bool
@@ -27,17 +27,13 @@ keyPart s = keyIn (certificate s)
 abbrev pub header : List ℕ → List ℕ
 header d = sequence ∷ wireLength (length d)
 
-abbrev pub afterTbs : Certificate → List ℕ
-afterTbs c = wireElement (c .signatureAlgorithm) ++ wireElement (c .signatureValue)
-
 abbrev pub beforeInTbs : TbsCertificate → List ℕ
 beforeInTbs t =
     wireVersion (t .version) ++ wireElement (t .serialNumber) ++ wireElement (t .signature) ++ wireElement (t .issuer)
     ++ wireElement (t .validity) ++ wireElement (t .subject)
 
 abbrev pub beforeKey : Certificate → List ℕ
-beforeKey c =
-    header (wireSequence (wireTbs (c .tbsCertificate)) ++ afterTbs c) ++ header (wireTbs (c .tbsCertificate)) ++ beforeInTbs (c .tbsCertificate)
+beforeKey c = header (wireContents c) ++ header (wireTbs (c .tbsCertificate)) ++ beforeInTbs (c .tbsCertificate)
 
 abbrev pub afterKey : Certificate → List ℕ
-afterKey c = wireElements (c .tbsCertificate .others) ++ afterTbs c
+afterKey c = wireElements (c .tbsCertificate .others) ++ (wireElement (c .signatureAlgorithm) ++ wireElement (c .signatureValue))
