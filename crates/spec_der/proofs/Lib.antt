@@ -1,3 +1,4 @@
+pub mod Table
 pub mod Forms
 pub mod LengthLaws
 pub mod ShortestLaws
@@ -5,4 +6,3 @@ pub mod ElementLaws
 pub mod TbsLaws
 pub mod CertificateLaws
 pub mod KeyLaws
-pub mod Table
