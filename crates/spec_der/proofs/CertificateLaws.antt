@@ -71,7 +71,7 @@ module _
     reads = sequence-of;
   }
 
-tbs-fills : (d : List ℕ) (t : TbsCertificate) → (tbsCertificate d ≡ some (t, [])) ↔ ((d ≡ wireTbs t) × TbsGood t)
+pub tbs-fills : (d : List ℕ) (t : TbsCertificate) → (tbsCertificate d ≡ some (t, [])) ↔ ((d ≡ wireTbs t) × TbsGood t)
 tbs-fills d t = (λ h. let k = tbs-is-its-form d t [] .0 h in (k .0, k .2), λ h. tbs-is-its-form d t [] .1 (h .0, refl, h .1))
 
 abbrev tbs-form : Form TbsCertificate
@@ -83,12 +83,12 @@ contents-parts :
     wireContents c ≡ wireSequence (wireTbs (c .tbsCertificate)) ++ (wireElement (c .signatureAlgorithm) ++ wireElement (c .signatureValue))
 contents-parts c = append-assoc (wireSequence (wireTbs (c .tbsCertificate))) (wireElement (c .signatureAlgorithm)) (wireElement (c .signatureValue))
 
-abbrev ContentsGood : Certificate → Type 0
+abbrev pub ContentsGood : Certificate → Type 0
 ContentsGood c =
     (TbsGood (c .tbsCertificate) × (length (wireTbs (c .tbsCertificate)) < 2 ^ 16)) × GoodElement (c .signatureAlgorithm)
     × GoodElement (c .signatureValue)
 
-contents-fill : (d : List ℕ) (c : Certificate) → (certificateContents d ≡ some (c, [])) ↔ ((d ≡ wireContents c) × ContentsGood c)
+pub contents-fill : (d : List ℕ) (c : Certificate) → (certificateContents d ≡ some (c, [])) ↔ ((d ≡ wireContents c) × ContentsGood c)
 unfolding certificateContents
 contents-fill d c = (read, λ h. stand (h .0) (h .1))
   where
