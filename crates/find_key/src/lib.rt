@@ -66,8 +66,8 @@ pub fn key_part(s: &[u8]) -> &[u8]
 pub fn is_certificate(s: &[u8]) -> bool
     ensures { λ r. ⌜ r ≡ isCertificate (now (s .entry)) ⌝ }
 {
-    let KeyRead::At(key) = find_key(s) else {
-        return false;
-    };
-    true
+    match find_key(s) {
+        KeyRead::At(key) => true,
+        KeyRead::Fault => false,
+    }
 }

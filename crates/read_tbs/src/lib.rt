@@ -33,20 +33,20 @@ fn past_tagged(s: &[u8], from: Place, tag: u8) -> Place
     let Place::At(at) = from else {
         return Place::Fault;
     };
-    let ElementRead::Good(e) = read_element::read_tagged(s, at, tag) else {
+    let ElementRead::Good(t) = read_element::read_tagged(s, at, tag) else {
         return Place::Fault;
     };
-    Place::At(e.next)
+    Place::At(t.next)
 }
 
 // The offset after the version, if there is one at the front.
 fn past_version(s: &[u8]) -> Place
     ensures { λ r. ⌜ r ≡ past version (now (s .entry)) start ⌝ }
 {
-    let ElementRead::Good(e) = read_element::read_tagged(s, 0, 0xA0) else {
+    let ElementRead::Good(v) = read_element::read_tagged(s, 0, 0xA0) else {
         return Place::At(0);
     };
-    Place::At(e.next)
+    Place::At(v.next)
 }
 
 // Whether the octets from offset `at` on are elements, one after the other.

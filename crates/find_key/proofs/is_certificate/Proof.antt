@@ -14,17 +14,11 @@ enum-told : tie.Need-enum-told
 enum-told c = search needs
 
 returns : tie.Need-returns
-returns c = search (needs, refused)
+returns c = search (needs, refused, accepted)
 
 returns-2 : tie.Need-returns-2
-returns-2 c = search (needs, accepted)
+returns-2 c = search (needs, refused, accepted)
 
 pub is-certificate-spec : {M : Type 1} → statement M
 is-certificate-spec =
-    tie.close
-    (tie.spec
-    find-key-requires
-    enum-known-key
-    enum-told
-    returns
-    returns-2)
+    tie.close (tie.spec find-key-requires enum-known-key enum-told returns returns-2)

@@ -16,8 +16,8 @@ returns c = search (needs, past-fault)
 read-tagged-requires : tie.Need-read-tagged-requires
 read-tagged-requires c κs = search needs
 
-enum-known-e : tie.Need-enum-known-e
-enum-known-e c = search needs
+enum-known-t : tie.Need-enum-known-t
+enum-known-t c = search needs
 
 enum-told-2 : tie.Need-enum-told-2
 enum-told-2 c = search needs
@@ -36,7 +36,7 @@ past-tagged-spec =
     enum-told
     returns
     read-tagged-requires
-    enum-known-e
+    enum-known-t
     enum-told-2
     returns-2
     returns-3)

@@ -7,8 +7,8 @@ use Rattle.read_tbs.proofs.past_version.Tie as tie
 read-tagged-requires : tie.Need-read-tagged-requires
 read-tagged-requires c κs = search needs
 
-enum-known-e : tie.Need-enum-known-e
-enum-known-e c = search needs
+enum-known-v : tie.Need-enum-known-v
+enum-known-v c = search needs
 
 enum-told : tie.Need-enum-told
 enum-told c = search needs
@@ -21,4 +21,4 @@ returns-2 c = search (needs, version-past)
 
 pub past-version-spec : {M : Type 1} → statement M
 past-version-spec =
-    tie.close (tie.spec read-tagged-requires enum-known-e enum-told returns returns-2)
+    tie.close (tie.spec read-tagged-requires enum-known-v enum-told returns returns-2)
