@@ -222,8 +222,8 @@ module _ (s : List ℕ) where
                           let inner : d ≡ wireTbs t = tbs-fills d t .0 read .0 in
                           let n₀ : p .contents ≡ suc (length (wireLength (length (wireContents (made t a v))))) = rw (← outer) (k .begins) in
                           let n₁ : q .contents ≡ p .contents + suc (length (wireLength (length (wireTbs t)))) = rw (← inner) (b .begins) in
-                          let sum : length (beforeKey (made t a v)) ≡ length (header (wireContents (made t a v))) + length (header (wireTbs t)) + length (beforeInTbs t) 
-                                = length-append (header (wireContents (made t a v)) ++ header (wireTbs t)) (beforeInTbs t) ∙ ap (λ (n : ℕ). n + length (beforeInTbs t)) (length-append (header (wireContents (made t a v))) (header (wireTbs t))) in
+                          let sum : length (beforeKey (made t a v)) ≡ length (header (wireContents (made t a v))) + length (header (wireTbs t)) + length (beforeInTbs t)
+                          = length-append (header (wireContents (made t a v)) ++ header (wireTbs t)) (beforeInTbs t) ∙ ap (λ (n : ℕ). n + length (beforeInTbs t)) (length-append (header (wireContents (made t a v))) (header (wireTbs t))) in
                           record { read = whole; from = omega arith; to = omega arith }
 
                       by :

@@ -137,7 +137,7 @@ module _ (s : List ℕ) (at : ℕ) where
     opened : (e : Element) (rest : List ℕ) → drop at s ≡ wireElement e ++ rest → (getD s at 0 ≡ e .tag) × (drop (at + 1) s ≡ wireLength (length (e .contents)) ++ (e .contents ++ rest))
     opened e rest f =
         let same : getD s at 0 ∷ drop (at + 1) s ≡ e .tag ∷ (wireLength (length (e .contents)) ++ (e .contents ++ rest))
-              = sym (drop-step 0 s at (at + 1) h refl) ∙ f ∙ element-parts e rest in
+        = sym (drop-step 0 s at (at + 1) h refl) ∙ f ∙ element-parts e rest in
         (cc, cc)
 
     pub long-tag : (t : ℕ) → t ≡ getD s at 0 → t % 32 ≡ 31 → Fault ≡ elementAt s at
@@ -177,7 +177,7 @@ module _ (s : List ℕ) (at : ℕ) where
                 let rest : drop (l .value) (drop (l .next) s) ≡ drop (l .next + l .value) s = drop-drop (l .value) (l .next) s in
                 let all : d ++ drop (l .next + l .value) s ≡ drop (l .next) s = rw (← rest) (take-append-drop (l .value) (drop (l .next) s)) in
                 let front : drop at s ≡ wireElement (record { tag = t; contents = d }) ++ drop (l .next + l .value) s
-                      = drop-step 0 s at (at + 1) h refl ∙ rw (← a, element-parts (record { tag = t; contents = d }) (drop (l .next + l .value) s), n, all) (ap (_∷_ t) (w .0)) in
+                = drop-step 0 s at (at + 1) h refl ∙ rw (← a, element-parts (record { tag = t; contents = d }) (drop (l .next + l .value) s), n, all) (ap (_∷_ t) (w .0)) in
                 let e = element-is-its-form (drop at s) (record { tag = t; contents = d }) (drop (l .next + l .value) s) .1 (front, (short, rw n (w .1))) in
                 let next : length s - length (drop (l .next + l .value) s) ≡ l .next + l .value = omega (arith, length-drop (l .next + l .value) s, length-inside) in
                 let begins : l .next + l .value - length d ≡ l .next = omega arith in

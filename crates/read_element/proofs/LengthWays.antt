@@ -140,7 +140,7 @@ module _ (s : List ℕ) (at : ℕ) where
                   (λ p q. omega arith)
                   (λ p q u. e q)
                   (λ p q u. let w : y ∷ drop (at + 1 + 1) s ≡ n / 256 % 256 ∷ n % 256 ∷ rest = sym next ∙ u in
-                      let v : y ≡ n / 256 % 256 = cc in omega arith))
+                  let v : y ≡ n / 256 % 256 = cc in omega arith))
 
               pub three-octets : y ≢ 0 → y < 256 → z < 256 → Good (record { value = y * 256 + z; next = at + 1 + 1 + 1 }) ≡ lengthAt s at
               three-octets l m t =

@@ -132,17 +132,20 @@ module _ (s : List ℕ) where
         passed 48 signature issuer p₂ f₂ k₂ (λ p₁ e₂ k₁ w₂ g₂.
         passed 2 serial signature p₁ f₁ k₁ (λ p₀ e₁ k₀ w₁ g₁.
         first serial p₀ f₀ k₀ (λ v read.
-        let (es, front, good) = are-elements (drop q s) .0 more in
-        (
+        let (es, front, good) = are-elements (drop q s) .0 more in (
           _,
-          bind-some version _ s _ [] .1 (v, drop p₀ s, read,
+          bind-some version _ s _ [] .1 (
+            v,
+            drop p₀ s,
+            read,
             next-stand (tagged-form 2) _ e₁ (drop p₁ s) w₁ g₁
-            (next-stand (tagged-form 48) _ e₂ (drop p₂ s) w₂ g₂
-            (next-stand (tagged-form 48) _ e₃ (drop p₃ s) w₃ g₃
-            (next-stand (tagged-form 48) _ e₄ (drop p₄ s) w₄ g₄
-            (next-stand (tagged-form 48) _ e₅ (drop p₅ s) w₅ g₅
-            (next-stand (tagged-form 48) _ e₆ (drop q s) w₆ g₆
-            (bind-some elements _ (drop q s) _ [] .1 (es, [], elements-end-to-end (drop q s) es [] .1 (front, refl, good), refl)))))))),
+                (next-stand (tagged-form 48) _ e₂ (drop p₂ s) w₂ g₂
+                (next-stand (tagged-form 48) _ e₃ (drop p₃ s) w₃ g₃
+                (next-stand (tagged-form 48) _ e₄ (drop p₄ s) w₄ g₄
+                (next-stand (tagged-form 48) _ e₅ (drop p₅ s) w₅ g₅
+                (next-stand (tagged-form 48) _ e₆ (drop q s) w₆ g₆
+                (bind-some elements _ (drop q s) _ [] .1 (es, [], elements-end-to-end (drop q s) es [] .1 (front, refl, good), refl))))))),
+          ),
         ))))))))
 
     walk : keyBetween s key others ≡ keyInTbs s

@@ -99,8 +99,7 @@ all-of over es rest = (λ h. absurd (Option·none-ne-some _ h), λ h. absurd (Op
 pub elements-end-to-end : Elements-end-to-end
 unfolding elements
 elements-end-to-end s es rest =
-    let law = items-whole wireElement GoodElement full element element-is-its-form s es in
-    (
+    let law = items-whole wireElement GoodElement full element element-is-its-form s es in (
       λ h. let (w, r) = all-of (items element (length s) s) es rest .0 h in
           let (front, good) = law .0 w in
           (front, r, good),

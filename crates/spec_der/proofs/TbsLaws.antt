@@ -122,12 +122,20 @@ tbs-is-its-form s t rest = (read, λ h. stand (h .0) (h .1) (h .2))
     stand : s ≡ wireTbs t → rest ≡ [] → TbsGood t → tbsCertificate s ≡ some (t, rest)
     stand front nil good =
         let (g₁, g₂, g₃, g₄, g₅, g₆, g₇, g₈) = good in
-        bind-some version _ s t rest .1 (t .version, afterVersion t, versioned (front ∙ tbs-fields t) good,
+        bind-some version _ s t rest .1 (
+          t .version,
+          afterVersion t,
+          versioned (front ∙ tbs-fields t) good,
           next-stand (tagged-form integer) _ (t .serialNumber) _ refl g₂
-          (next-stand (tagged-form sequence) _ (t .signature) _ refl g₃
-          (next-stand (tagged-form sequence) _ (t .issuer) _ refl g₄
-          (next-stand (tagged-form sequence) _ (t .validity) _ refl g₅
-          (next-stand (tagged-form sequence) _ (t .subject) _ refl g₆
-          (next-stand (tagged-form sequence) _ (t .subjectPublicKeyInfo) _ refl g₇
-          (bind-some elements _ (wireElements (t .others)) t rest .1 (t .others, [], elements-end-to-end _ (t .others) [] .1 (refl, refl, g₈),
-            pure-some _ t [] rest .1 (refl, sym nil)))))))))
+              (next-stand (tagged-form sequence) _ (t .signature) _ refl g₃
+              (next-stand (tagged-form sequence) _ (t .issuer) _ refl g₄
+              (next-stand (tagged-form sequence) _ (t .validity) _ refl g₅
+              (next-stand (tagged-form sequence) _ (t .subject) _ refl g₆
+              (next-stand (tagged-form sequence) _ (t .subjectPublicKeyInfo) _ refl g₇
+              (bind-some elements _ (wireElements (t .others)) t rest .1 (
+                t .others,
+                [],
+                elements-end-to-end _ (t .others) [] .1 (refl, refl, g₈),
+                pure-some _ t [] rest .1 (refl, sym nil),
+              ))))))),
+        )

@@ -17,9 +17,9 @@ abbrev pub Tbs-form : Type 0
 Tbs-form =
     (wireVersion none ≡ []) × ((e : Element) → wireVersion (some e) ≡ wireElement e)
     × ((t : TbsCertificate) → wireTbs t
-      ≡ wireVersion (t .version) ++ wireElement (t .serialNumber) ++ wireElement (t .signature) ++ wireElement (t .issuer)
-      ++ wireElement (t .validity) ++ wireElement (t .subject) ++ wireElement (t .subjectPublicKeyInfo)
-      ++ flatten (map wireElement (t .others)))
+    ≡ wireVersion (t .version) ++ wireElement (t .serialNumber) ++ wireElement (t .signature) ++ wireElement (t .issuer)
+    ++ wireElement (t .validity) ++ wireElement (t .subject) ++ wireElement (t .subjectPublicKeyInfo)
+    ++ flatten (map wireElement (t .others)))
 
 -- RFC 5280 section 4.1, Certificate: a SEQUENCE of the body, itself a SEQUENCE, and two more elements.
 abbrev pub Certificate-form : Type 0

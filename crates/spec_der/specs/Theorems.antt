@@ -72,7 +72,7 @@ Key-part-tells =
     ((keyPart s ≡ []) ↔ ((c : Certificate) → LaidOut s c → ⊥))
     × ((isCertificate s ≡ true) ↔ ((c : Certificate) × LaidOut s c))
     × ((c : Certificate) → LaidOut s c →
-      (keyPart s ≡ wireElement (c .tbsCertificate .subjectPublicKeyInfo)) × (s ≡ beforeKey c ++ keyPart s ++ afterKey c))
+    (keyPart s ≡ wireElement (c .tbsCertificate .subjectPublicKeyInfo)) × (s ≡ beforeKey c ++ keyPart s ++ afterKey c))
 
 -- The tables of Edges.antt.
 abbrev pub Length-edges : Type 0
