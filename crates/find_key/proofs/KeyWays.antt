@@ -5,10 +5,9 @@ use mir.Syntax.{w64}
 use mir.Val.{Fits}
 use mathlib.Core.Path.{_≡_, refl, sym, ap, _∙_}
 use mathlib.Core.Logic.{_≢_}
-use mathlib.Core.Bool.{Bool, true, false, not, cond, false≢true}
+use mathlib.Core.Bool.{Bool, true, false, not, false≢true}
 use mathlib.Core.List.{List, [], _∷_, _++_, append-assoc}
-use mathlib.Core.Option.{Option, none, some, Option·none-ne-some, Option·some-injective}
-use lib.Dec.{leb}
+use mathlib.Core.Option.{Option, none, some}
 use lib.ListN.{length, take, drop, length-append, length-drop}
 use lib.Seq.{drop-length, take-at, drop-at}
 use borrow.Author.Tests.{le-leb, lt-leb, not-true, not-false}
@@ -66,7 +65,9 @@ module _ (t : TbsCertificate) where
       first none h = refl
       first (some r) h = last (r .0) (element (r .1)) h
 
-  an-ending : (s : List ℕ) → wasRead (filling ((element >>= (λ e. element)) s)) ≡ true → (a : Element) × (v : Element) × (filling (ending s) ≡ some (made a v))
+  an-ending :
+      (s : List ℕ) → wasRead (filling ((element >>= (λ e. element)) s)) ≡ true →
+      (a : Element) × (v : Element) × (filling (ending s) ≡ some (made a v))
   an-ending s = first (element s)
     where
       last :
@@ -89,6 +90,14 @@ certificate-fits s c e =
     let k = wireElement (c .tbsCertificate .subjectPublicKeyInfo) in
     let l : length s ≡ length (beforeKey c ++ k ++ afterKey c) = ap length (certificate-is-its-layout s c .0 e .0 ∙ key-stands c) in
     omega (arith, length-append (beforeKey c ++ k) (afterKey c), length-append (beforeKey c) k)
+
+before-long :
+    (c : Certificate) →
+    length (beforeKey c) ≡ length (header (wireContents c)) + length (header (wireTbs (c .tbsCertificate))) + length (beforeInTbs (c .tbsCertificate))
+before-long c = go (header (wireContents c)) (header (wireTbs (c .tbsCertificate))) (beforeInTbs (c .tbsCertificate))
+  where
+    go : (a b d : List ℕ) → length (a ++ b ++ d) ≡ length a + length b + length d
+    go a b d = rw (length-append (a ++ b) d, length-append a b)
 
 module _ (s : List ℕ) where
   no-certificate : certificate s ≡ none → Fault ≡ keyAt s
@@ -218,12 +227,12 @@ module _ (s : List ℕ) where
                           (a v : Element) → filling (ending t (drop (q .next) s)) ≡ some (made t a v) → Found (made t a v)
                       made-of e k d b t read from to a v last =
                           let whole : certificate s ≡ some (made t a v) = b .same ∙ rw read last in
-                          let outer : e .contents ≡ wireContents (made t a v) = contents-fill (e .contents) (made t a v) .0 (filling-some _ (made t a v) .0 (sym (k .same) ∙ whole)) .0 in
+                          let outer : e .contents ≡ wireContents (made t a v) =
+                          contents-fill (e .contents) (made t a v) .0 (filling-some _ (made t a v) .0 (sym (k .same) ∙ whole)) .0 in
                           let inner : d ≡ wireTbs t = tbs-fills d t .0 read .0 in
                           let n₀ : p .contents ≡ suc (length (wireLength (length (wireContents (made t a v))))) = rw (← outer) (k .begins) in
                           let n₁ : q .contents ≡ p .contents + suc (length (wireLength (length (wireTbs t)))) = rw (← inner) (b .begins) in
-                          let sum : length (beforeKey (made t a v)) ≡ length (header (wireContents (made t a v))) + length (header (wireTbs t)) + length (beforeInTbs t)
-                          = length-append (header (wireContents (made t a v)) ++ header (wireTbs t)) (beforeInTbs t) ∙ ap (λ (n : ℕ). n + length (beforeInTbs t)) (length-append (header (wireContents (made t a v))) (header (wireTbs t))) in
+                          let sum = before-long (made t a v) in
                           record { read = whole; from = omega arith; to = omega arith }
 
                       by :
@@ -301,7 +310,9 @@ module _ (s : List ℕ) where
           by : (c : Certificate) → Stands c → take (k .to - k .from) (drop (k .from) s) ≡ keyIn (certificate s)
           by c t =
               let key = wireElement (c .tbsCertificate .subjectPublicKeyInfo) in
-              let whole : s ≡ beforeKey c ++ (key ++ afterKey c) = certificate-is-its-layout s c .0 (t .read) .0 ∙ key-stands c ∙ append-assoc (beforeKey c) key (afterKey c) in
+              let whole : s ≡ beforeKey c ++ (key ++ afterKey c) =
+              certificate-is-its-layout s c .0 (t .read) .0 ∙ key-stands c ∙ append-assoc (beforeKey c) key (afterKey c) in
               let count : length key ≡ k .to - k .from = omega (arith, t .from, t .to) in
-              let behind : drop (k .from) s ≡ key ++ afterKey c = ap (drop (k .from)) whole ∙ drop-at (beforeKey c) (key ++ afterKey c) (k .from) (sym (t .from)) in
+              let behind : drop (k .from) s ≡ key ++ afterKey c =
+              ap (drop (k .from)) whole ∙ drop-at (beforeKey c) (key ++ afterKey c) (k .from) (sym (t .from)) in
               rw (t .read, behind) (take-at key (afterKey c) (k .to - k .from) count)

@@ -1,8 +1,8 @@
 -- A law for each return of are_two_elements.
-use Prim.Native.Nat.{ℕ, _+_, _-_, _≤_, _<_}
+use Prim.Native.Nat.{ℕ, _+_, _-_}
 use native.Mathlib.Omega.{arith}
-use mathlib.Core.Path.{_≡_, refl, sym, ap, _∙_}
-use mathlib.Core.Bool.{Bool, true, false}
+use mathlib.Core.Path.{_≡_, refl, _∙_}
+use mathlib.Core.Bool.{Bool, false}
 use mathlib.Core.List.{List, [], _∷_, _++_}
 use mathlib.Core.Option.{Option, none, some}
 use lib.Dec.{eqb}
@@ -43,7 +43,8 @@ module _ (s : List ℕ) (at : ℕ) where
 
       first : (e : Element) (mid : List ℕ) → drop at s ≡ wireElement e ++ mid → Told (element mid) (past element s (At (length s - length mid)))
       first e mid f =
-          let place : length s - length mid ≡ at + length (wireElement e) = omega (arith, sum-front s at (wireElement e) mid f (omega (arith, contents-fit e))) in
+          let place : length s - length mid ≡ at + length (wireElement e) =
+          omega (arith, sum-front s at (wireElement e) mid f (omega (arith, contents-fit e))) in
           let here : drop (length s - length mid) s ≡ mid = rw place (drop-front s at (wireElement e) mid f) in
           rw here (second (length s - length mid) mid here (element mid) refl)
 

@@ -4,7 +4,7 @@ use mathlib.Core.Bool.{Bool, true, false}
 use mathlib.Core.List.{List}
 use mathlib.Core.Option.{Option, none, some}
 use lib.ListN.{length}
-use Rattle.spec_octets.specs.Reader.{Reader, _>>=_}
+use Rattle.spec_octets.specs.Reader.{_>>=_}
 use Rattle.spec_der.specs.Elements.{Element, wireElement, element}
 use Rattle.spec_der.specs.Certificate.{Certificate, filling, certificate}
 use Rattle.spec_der.specs.Key.{beforeKey}

@@ -2,10 +2,9 @@
 -- and read_tagged.
 use Prim.Native.Nat.{ℕ, suc, _+_, _%_, _-_, _≤_, _<_, _^_}
 use native.Mathlib.Omega.{arith}
-use mathlib.Core.Path.{_≡_, refl, sym, ap, subst, _∙_}
+use mathlib.Core.Path.{_≡_, refl, sym, ap, _∙_}
 use mathlib.Core.Logic.{_↔_, _≢_}
-use mathlib.Core.Bool.{Bool, true, false}
-use mathlib.Core.List.{List, [], _∷_, _++_}
+use mathlib.Core.List.{List, _∷_, _++_}
 use mathlib.Core.Option.{Option, none, some, Option·none-ne-some}
 use lib.ListN.{length, take, drop, getD, length-append, length-drop, take-append-drop}
 use lib.Seq.{take-at, length-take-le, drop-drop}
@@ -134,7 +133,9 @@ module _ (s : List ℕ) (at : ℕ) where
 
   module _ (h : at < length s) where
     -- behind the tag stand the length octets, then contents
-    opened : (e : Element) (rest : List ℕ) → drop at s ≡ wireElement e ++ rest → (getD s at 0 ≡ e .tag) × (drop (at + 1) s ≡ wireLength (length (e .contents)) ++ (e .contents ++ rest))
+    opened :
+        (e : Element) (rest : List ℕ) → drop at s ≡ wireElement e ++ rest →
+        (getD s at 0 ≡ e .tag) × (drop (at + 1) s ≡ wireLength (length (e .contents)) ++ (e .contents ++ rest))
     opened e rest f =
         let same : getD s at 0 ∷ drop (at + 1) s ≡ e .tag ∷ (wireLength (length (e .contents)) ++ (e .contents ++ rest))
         = sym (drop-step 0 s at (at + 1) h refl) ∙ f ∙ element-parts e rest in
@@ -144,7 +145,9 @@ module _ (s : List ℕ) (at : ℕ) where
     long-tag t a k = unread (λ e rest f good. good .0 (rw (← opened e rest f .0, ← a) k))
 
     module _ (o : LengthRead) (b : o ≡ lengthAt s (at + 1)) where
-      read-length : (e : Element) (rest : List ℕ) → drop at s ≡ wireElement e ++ rest → GoodElement e → elementLength (drop (at + 1) s) ≡ some (length (e .contents), e .contents ++ rest)
+      read-length :
+          (e : Element) (rest : List ℕ) → drop at s ≡ wireElement e ++ rest → GoodElement e →
+          elementLength (drop (at + 1) s) ≡ some (length (e .contents), e .contents ++ rest)
       read-length e rest f good = length-is-its-form (drop (at + 1) s) (length (e .contents)) (e .contents ++ rest) .1 (opened e rest f .1, good .1)
 
       pub length-fault : o ≡ LengthFault → Fault ≡ elementAt s at
@@ -159,7 +162,8 @@ module _ (s : List ℕ) (at : ℕ) where
 
         pub contents-cut-off : length s - l .next < l .value → Fault ≡ elementAt s at
         contents-cut-off k = unread (λ e rest f good.
-            let (n, d) = pure-some (l .value) (length (e .contents)) (drop (l .next) s) (e .contents ++ rest) .0 (sym (there .found) ∙ read-length e rest f good) in
+            let (n, d) =
+            pure-some (l .value) (length (e .contents)) (drop (l .next) s) (e .contents ++ rest) .0 (sym (there .found) ∙ read-length e rest f good) in
             omega (arith, long-front s (l .next) (e .contents) rest d))
 
         pub element-read :
@@ -171,15 +175,19 @@ module _ (s : List ℕ) (at : ℕ) where
             d : List ℕ
             d = take (l .value) (drop (l .next) s)
 
-            stands : (drop (at + 1) s ≡ wireLength (l .value) ++ drop (l .next) s) × (l .value < 2 ^ 16) → Good (record { tag = t; contents = l .next; next = l .next + l .value }) ≡ elementPlaces s (element (drop at s))
+            stands :
+                (drop (at + 1) s ≡ wireLength (l .value) ++ drop (l .next) s) × (l .value < 2 ^ 16) →
+                Good (record { tag = t; contents = l .next; next = l .next + l .value }) ≡ elementPlaces s (element (drop at s))
             stands w =
                 let n : length d ≡ l .value = length-take-le (l .value) (drop (l .next) s) (omega (arith, length-drop (l .next) s)) in
                 let rest : drop (l .value) (drop (l .next) s) ≡ drop (l .next + l .value) s = drop-drop (l .value) (l .next) s in
                 let all : d ++ drop (l .next + l .value) s ≡ drop (l .next) s = rw (← rest) (take-append-drop (l .value) (drop (l .next) s)) in
                 let front : drop at s ≡ wireElement (record { tag = t; contents = d }) ++ drop (l .next + l .value) s
                 = drop-step 0 s at (at + 1) h refl ∙ rw (← a, element-parts (record { tag = t; contents = d }) (drop (l .next + l .value) s), n, all) (ap (_∷_ t) (w .0)) in
-                let e = element-is-its-form (drop at s) (record { tag = t; contents = d }) (drop (l .next + l .value) s) .1 (front, (short, rw n (w .1))) in
-                let next : length s - length (drop (l .next + l .value) s) ≡ l .next + l .value = omega (arith, length-drop (l .next + l .value) s, length-inside) in
+                let e =
+                element-is-its-form (drop at s) (record { tag = t; contents = d }) (drop (l .next + l .value) s) .1 (front, (short, rw n (w .1))) in
+                let next : length s - length (drop (l .next + l .value) s) ≡ l .next + l .value =
+                omega (arith, length-drop (l .next + l .value) s, length-inside) in
                 let begins : l .next + l .value - length d ≡ l .next = omega arith in
                 rw (e, next, begins)
 
@@ -198,7 +206,8 @@ module _ (s : List ℕ) (at : ℕ) where
           by e k = sym (tagged-faults t .1 (nothing-found (tagged t (drop at s)) (λ r h.
               let (front, good) = tagged-is-its-form t (drop at s) (r .0) (r .1) .0 h in
               let mine = element-is-its-form (drop at s) e (drop (p .next) s) .1 (k .front, k .good) in
-              let same = pure-some e (r .0) (drop (p .next) s) (r .1) .0 (sym mine ∙ element-is-its-form (drop at s) (r .0) (r .1) .1 (front, good .0)) .0 in
+              let same =
+              pure-some e (r .0) (drop (p .next) s) (r .1) .0 (sym mine ∙ element-is-its-form (drop at s) (r .0) (r .1) .1 (front, good .0)) .0 in
               other (k .tag ∙ ap (λ (x : Element). x .tag) same ∙ good .1))))
 
       pub that-tag : p .tag ≡ t → Good p ≡ taggedAt t s at

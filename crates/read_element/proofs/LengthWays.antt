@@ -1,11 +1,11 @@
 -- A law of lengthAt for each return of read_length, and what a caller knows.
-use Prim.Native.Nat.{ℕ, suc, _+_, _*_, _/_, _%_, _-_, _≤_, _<_, _^_}
+use Prim.Native.Nat.{ℕ, _+_, _*_, _/_, _%_, _-_, _≤_, _<_, _^_}
 use native.Mathlib.Omega.{arith}
 use mathlib.Core.Path.{_≡_, refl, sym, ap, _∙_}
 use mathlib.Core.Logic.{_≢_}
 use mathlib.Core.List.{List, [], _∷_, _++_}
 use mathlib.Core.Option.{Option, none, some}
-use lib.ListN.{length, drop, getD, length-drop, drop-of-length-le, length-append}
+use lib.ListN.{length, drop, getD, length-drop, length-append}
 use lib.Seq.{drop-drop, drop-append-seam}
 use Rattle.spec_octets.specs.Reader.{inOctets}
 use Rattle.spec_octets.proofs.ReaderLaws.{nothing-found, fault-told}
@@ -50,7 +50,9 @@ module _ (s : List ℕ) (at : ℕ) where
     pub after : at < l .next
     pub inside : l .next ≤ length s
 
-  pub length-to : (n next : ℕ) → elementLength (drop at s) ≡ some (n, drop next s) → next ≤ length s → Good (record { value = n; next = next }) ≡ lengthAt s at
+  pub length-to :
+      (n next : ℕ) → elementLength (drop at s) ≡ some (n, drop next s) → next ≤ length s →
+      Good (record { value = n; next = next }) ≡ lengthAt s at
   unfolding lengthAt
   length-to n next e h =
       let p : length s - length (drop next s) ≡ next = omega (arith, length-drop next s) in
@@ -167,11 +169,14 @@ module _ (s : List ℕ) (at : ℕ) where
     unfolding lengthAt
     length-there l g = go (elementLength (drop at s)) refl (sym f ∙ g)
       where
-        there : (n : ℕ) (rest : List ℕ) → elementLength (drop at s) ≡ some (n, rest) → Good (record { value = n; next = length s - length rest }) ≡ Good l → LengthTo l
+        there :
+            (n : ℕ) (rest : List ℕ) → elementLength (drop at s) ≡ some (n, rest) →
+            Good (record { value = n; next = length s - length rest }) ≡ Good l → LengthTo l
         there n rest e p =
             let front = length-is-its-form (drop at s) n rest .0 e .0 in
             let long = long-front s at (wireLength n) rest front in
-            let some-octets : 0 < length (wireLength n) = by-length n (λ i w. omega (arith, ap length w)) (λ i j w. omega (arith, ap length w)) (λ i w. omega (arith, ap length w)) in
+            let some-octets : 0 < length (wireLength n) =
+            by-length n (λ i w. omega (arith, ap length w)) (λ i j w. omega (arith, ap length w)) (λ i w. omega (arith, ap length w)) in
             let place : at + length (wireLength n) ≡ length s - length rest = omega arith in
             let behind : drop (length s - length rest) s ≡ rest = rw (← place) (drop-front s at (wireLength n) rest front) in
             let same : record { value = n; next = length s - length rest } ≡ l = cc in

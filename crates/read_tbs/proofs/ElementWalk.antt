@@ -3,7 +3,7 @@ use Prim.Native.Nat.{ℕ, _-_, _≤_, _<_}
 use native.Mathlib.Omega.{arith}
 use mathlib.Core.Path.{_≡_, refl, sym, ap, _∙_}
 use mathlib.Core.Logic.{_↔_}
-use mathlib.Core.Bool.{Bool, true, false, false≢true}
+use mathlib.Core.Bool.{true, false, false≢true}
 use mathlib.Core.List.{List, [], _∷_, _++_, map}
 use mathlib.Core.Option.{Option, none, some, Option·none-ne-some}
 use lib.ListN.{length, drop, length-drop, drop-of-length-le}
@@ -11,7 +11,7 @@ use Rattle.spec_octets.specs.Lists.{All, all-nil, all-cons, flatten}
 use Rattle.spec_octets.proofs.ListLaws.{All-head, All-tail, alike, not-passed}
 use Rattle.spec_octets.proofs.ReaderLaws.{pure-some}
 use Rattle.spec_der.specs.Elements.{Element, wireElement, element, elements, GoodElement}
-use Rattle.spec_der.proofs.ElementLaws.{element-is-its-form, elements-end-to-end, full}
+use Rattle.spec_der.proofs.ElementLaws.{element-is-its-form, elements-end-to-end}
 use Rattle.read_element.specs.declared.ElementAt.{ElementAt}
 use Rattle.read_element.specs.declared.ElementRead.{ElementRead}
 use Rattle.read_element.specs.declared.ElementRead.the-variants.{Good, Fault}

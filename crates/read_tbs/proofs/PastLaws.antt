@@ -1,10 +1,10 @@
 -- The offset after an element, by what reading it says; a law for each return of past_element, past_tagged, past_version and key_between.
-use Prim.Native.Nat.{ℕ, _+_, _-_, _≤_}
+use Prim.Native.Nat.{ℕ, _-_}
 use native.Mathlib.Nat.{sub-self}
 use native.Mathlib.Omega.{arith}
-use mathlib.Core.Path.{_≡_, refl, sym, ap, _∙_}
+use mathlib.Core.Path.{_≡_, refl, sym, _∙_}
 use mathlib.Core.Bool.{Bool, true, false, cond}
-use mathlib.Core.List.{List, [], _++_}
+use mathlib.Core.List.{List}
 use mathlib.Core.Option.{Option, none, some}
 use lib.Dec.{eqb}
 use lib.ListN.{length, drop}
@@ -17,7 +17,6 @@ use Rattle.read_element.specs.declared.ElementRead.the-variants.{Good, Fault as
 use Rattle.read_element.specs.Places.{elementPlaces, elementAt, taggedAt}
 use Rattle.read_tbs.specs.declared.Place.{Place}
 use Rattle.read_tbs.specs.declared.Place.the-variants.{At, Fault}
-use Rattle.read_tbs.specs.declared.KeyRead.{KeyRead}
 use Rattle.read_tbs.specs.declared.KeyRead.the-variants.{At as KeyThere, Fault as KeyFault}
 use Rattle.read_tbs.specs.Places.{endPlace, past, start, areElements, keyBetween}
 
@@ -70,7 +69,9 @@ version-by-tag s = go (element s)
     by e rest true = refl
     by e rest false = refl
 
-    go : (r : Option (Element × List ℕ)) → asVersion s r ≡ orNothing s (Rattle.spec_octets.specs.Reader.andThen r (λ e. given (eqb (e .tag) versionTag) e))
+    go :
+        (r : Option (Element × List ℕ)) →
+        asVersion s r ≡ orNothing s (Rattle.spec_octets.specs.Reader.andThen r (λ e. given (eqb (e .tag) versionTag) e))
     go none = refl
     go (some r) = by (r .0) (r .1) (eqb (r .0 .tag) versionTag)
 

@@ -5,8 +5,7 @@ use mathlib.Core.Path.{_≡_, refl, sym, ap, _∙_}
 use mathlib.Core.Bool.{Bool, true, false, cond}
 use mathlib.Core.List.{List, [], _++_}
 use mathlib.Core.Option.{Option, none, some, Option·none-ne-some}
-use lib.ListN.{length, drop, length-drop, length-append}
-use Rattle.spec_octets.specs.Reader.{_>>=_}
+use lib.ListN.{length, drop, length-append}
 use Rattle.spec_octets.proofs.ReaderLaws.{bind-some, pure-some}
 use Rattle.spec_der.specs.Elements.{Element, wireElement, tagged, elements}
 use Rattle.spec_der.specs.Certificate.{TbsCertificate, wireVersion, version, tbsCertificate}
@@ -19,7 +18,7 @@ use Rattle.read_tbs.specs.declared.Place.{Place}
 use Rattle.read_tbs.specs.declared.Place.the-variants.{At, Fault}
 use Rattle.read_tbs.specs.declared.KeyRead.{KeyRead}
 use Rattle.read_tbs.specs.declared.KeyRead.the-variants.{At as KeyThere, Fault as KeyFault}
-use Rattle.read_tbs.specs.Places.{endPlace, past, start, wereRead, areElements, keyBetween, keyPlaces, keyInTbs}
+use Rattle.read_tbs.specs.Places.{endPlace, past, start, areElements, keyBetween, keyPlaces, keyInTbs}
 use Rattle.read_tbs.proofs.ElementWalk.{are-elements}
 
 module _ (s : List ℕ) where
@@ -43,7 +42,9 @@ module _ (s : List ℕ) where
       record { place = f ∙ rw (r .place, read, place); rest = drop-front s p (wireElement e) left here }
 
   -- the version is passed, or there is none
-  pub begun : (o : Place) (v : Option Element) (left : List ℕ) → o ≡ past version s start → version s ≡ some (v, left) → Reached o (length (wireVersion v)) left
+  pub begun :
+      (o : Place) (v : Option Element) (left : List ℕ) → o ≡ past version s start → version s ≡ some (v, left) →
+      Reached o (length (wireVersion v)) left
   begun o v left f read =
       let front = version-read s v left read .0 in
       let place : length s - length left ≡ length (wireVersion v) = omega (arith, ap length front, length-append (wireVersion v) left) in

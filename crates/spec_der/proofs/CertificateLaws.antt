@@ -18,7 +18,7 @@ use Rattle.spec_der.specs.Certificate.{sequence, maxCertificateOctets, T
 use Rattle.spec_der.specs.Theorems.{Short, TbsLayout, Layout, LaidOut, Certificate-is-its-layout}
 use Rattle.spec_der.proofs.Forms.{Form, next-read, next-stand}
 use Rattle.spec_der.proofs.ElementLaws.{GoodTagged, element-form, tagged-form, contents-fit}
-use Rattle.spec_der.proofs.TbsLaws.{GoodVersion, TbsGood, tbs-fields, tbs-is-its-form}
+use Rattle.spec_der.proofs.TbsLaws.{GoodVersion, TbsGood, tbs-is-its-form}
 
 module _ {A : Type 0} where
   pub filling-some : (o : Option (A × List ℕ)) (a : A) → (filling o ≡ some a) ↔ (o ≡ some (a, []))
@@ -170,11 +170,15 @@ certificate-is-its-layout s c = (go (leb (length s) maxCertificateOctets) refl, 
         let (tbs, a, v) = good .0 in
         (front ∙ append-nil (wireCertificate c), (tbs-layout (c .tbsCertificate) (tbs .0), a .0, v .0), leb-true _ _ e)
 
-    stand : s ≡ wireCertificate c → Layout c → length s ≤ maxCertificateOctets → cond (leb (length s) maxCertificateOctets) (filling (sequenceOf certificateContents s)) none ≡ some c
+    stand :
+        s ≡ wireCertificate c → Layout c → length s ≤ maxCertificateOctets →
+        cond (leb (length s) maxCertificateOctets) (filling (sequenceOf certificateContents s)) none ≡ some c
     stand front layout few =
         let whole : length (wireCertificate c) ≤ 16384 = rw (← front) few in
         let inner = sequence-fits (wireContents c) in
-        let parts : length (wireContents c) ≡ length (wireSequence (wireTbs (c .tbsCertificate))) + length (wireElement (c .signatureAlgorithm)) + length (wireElement (c .signatureValue)) = simp length-append in
+        let parts : length (wireContents c) ≡ length (wireSequence (wireTbs (c .tbsCertificate)))
+        + length (wireElement (c .signatureAlgorithm)) + length (wireElement (c .signatureValue)) =
+        simp length-append in
         let body = sequence-fits (wireTbs (c .tbsCertificate)) in
         let (tbs, a, v) = layout in
         rw (le-leb (length s) 16384 few)

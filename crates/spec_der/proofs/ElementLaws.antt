@@ -3,13 +3,12 @@ use Prim.Native.Nat.{ℕ, _%_, _<_, _^_}
 use native.Mathlib.Omega.{arith}
 use mathlib.Core.Path.{_≡_, refl, sym, ap, _∙_}
 use mathlib.Core.Logic.{_↔_, _≢_}
-use mathlib.Core.Bool.{Bool, true, not, true≢false}
-use mathlib.Core.List.{List, [], _∷_, _++_, map, append-assoc, cons≢nil}
-use mathlib.Core.Option.{Option, none, some, Option·none-ne-some}
+use mathlib.Core.Bool.{true}
+use mathlib.Core.List.{List, [], _∷_, _++_, append-assoc, cons≢nil}
+use mathlib.Core.Option.{Option, some, Option·none-ne-some}
 use lib.Dec.{eqb}
 use lib.ListN.{length, length-append}
 use borrow.Author.Tests.{eqb-true, eqb-false, eq-eqb, ne-eqb, not-true}
-use Rattle.spec_octets.specs.Lists.{All, flatten}
 use Rattle.spec_octets.specs.Items.{Items, whole, broken, over, items}
 use Rattle.spec_octets.proofs.ReaderLaws.{given-some, pure-some}
 use Rattle.spec_octets.proofs.ItemLaws.{items-whole}

@@ -1,11 +1,9 @@
 -- The key part is the key of the certificate, where it stands, and is empty if the octets are no certificate.
 use Prim.Native.Nat.{ℕ}
 use mathlib.Core.Path.{_≡_, refl, sym, ap, _∙_}
-use mathlib.Core.Logic.{_↔_}
 use mathlib.Core.Bool.{true, false≢true}
 use mathlib.Core.List.{List, [], _++_, append-assoc}
 use mathlib.Core.Option.{Option, none, some}
-use lib.ListN.{length}
 use Rattle.spec_der.specs.Elements.{wireElement}
 use Rattle.spec_der.specs.Certificate.{TbsCertificate, Certificate, wireSequence, wireElements, wireTbs, wireContents, wireCertificate, certificate}
 use Rattle.spec_der.specs.Key.{isRead, isCertificate, keyIn, keyPart, header, beforeInTbs, beforeKey, afterKey}

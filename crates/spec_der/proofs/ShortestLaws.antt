@@ -1,8 +1,8 @@
 -- The length octets of an element are the shortest that give the length.
 use Prim.Native.Nat.{ℕ, _+_, _/_, _%_, _≤_, _<_, _^_}
 use native.Mathlib.Omega.{arith}
-use mathlib.Core.Path.{_≡_, refl, sym, ap, _∙_}
-use mathlib.Core.Logic.{_↔_, _≢_, _⊎_, inl, inr}
+use mathlib.Core.Path.{_≡_, refl, _∙_}
+use mathlib.Core.Logic.{_↔_, _≢_, inl, inr}
 use mathlib.Core.List.{List, [], _∷_, cons≢nil}
 use lib.ListN.{length}
 use Rattle.spec_octets.specs.Lists.{all-nil, all-cons}

@@ -15,7 +15,8 @@ unfolding wireLength elementLength isShortTag element
 element-edges = refl
 
 pub certificate-edges : Certificate-edges
-unfolding wireLength wireElement elementLength isShortTag element tagged elements maxCertificateOctets version tbsCertificate certificateContents certificate keyPart
+unfolding wireLength wireElement elementLength isShortTag element tagged elements maxCertificateOctets version tbsCertificate
+    certificateContents certificate keyPart
 certificate-edges = refl
 
 pub element-form : Element-form

@@ -1,14 +1,14 @@
 -- The signed body of a certificate is read exactly where it is written.
 use Prim.Native.Nat.{ℕ}
-use mathlib.Core.Path.{_≡_, refl, sym, ap, _∙_}
+use mathlib.Core.Path.{_≡_, refl, sym, _∙_}
 use mathlib.Core.Logic.{_↔_, _≢_, _⊎_, inl, inr}
 use mathlib.Core.Bool.{Bool, true, false, cond}
-use mathlib.Core.List.{List, [], _∷_, _++_, append-assoc}
+use mathlib.Core.List.{List, [], _++_, append-assoc}
 use mathlib.Core.Option.{Option, none, some}
 use lib.Dec.{eqb}
 use borrow.Author.Tests.{eqb-true, eq-eqb, ne-eqb}
 use Rattle.spec_octets.specs.Lists.{All}
-use Rattle.spec_octets.specs.Reader.{pure, _>>=_}
+use Rattle.spec_octets.specs.Reader.{pure}
 use Rattle.spec_octets.proofs.ReaderLaws.{bind-some, pure-some}
 use Rattle.spec_der.specs.Elements.{Element, wireElement, element, elements, GoodElement}
 use Rattle.spec_der.specs.Certificate.{integer, sequence, versionTag, TbsCertificate, wireVersion, wireElements, wireTbs, asVersion, version, tbsCertificate}

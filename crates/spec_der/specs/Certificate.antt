@@ -1,6 +1,6 @@
 -- The layout of a certificate (RFC 5280 section 4.1), as far down as its public key. Of the elements beside that way only tag and length are read.
 use Prim.Native.Nat.{ℕ}
-use mathlib.Core.Bool.{Bool, true, false, cond}
+use mathlib.Core.Bool.{cond}
 use mathlib.Core.List.{List, [], _∷_, _++_, map}
 use mathlib.Core.Option.{Option, none, some}
 use lib.Dec.{eqb, leb}

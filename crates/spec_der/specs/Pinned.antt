@@ -1,7 +1,7 @@
 -- A theorem that reads what was written doesn't fix a format: change reader and writer together, and it still holds. So each format is also
 -- spelled out by an equation. Each is proved under its name in proofs/.
 use mathlib.Core.Path.{_≡_}
-use mathlib.Core.List.{List, [], _∷_, _++_, map}
+use mathlib.Core.List.{[], _∷_, _++_, map}
 use mathlib.Core.Option.{none, some}
 use lib.ListN.{length}
 use Rattle.spec_octets.specs.Lists.{flatten}
