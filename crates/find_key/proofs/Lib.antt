@@ -1,0 +1,2 @@
+pub mod TwoElements
+pub mod KeyWays

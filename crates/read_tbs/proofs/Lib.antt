@@ -1,0 +1,3 @@
+pub mod PastLaws
+pub mod ElementWalk
+pub mod TbsWalk
