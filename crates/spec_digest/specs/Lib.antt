@@ -1,0 +1,7 @@
+pub mod Words
+pub mod Padding
+pub mod Family
+pub mod Members
+pub mod Roots
+pub mod Examples
+pub mod Theorems
