@@ -8,3 +8,4 @@ pub mod RootFractions
 pub mod WrittenWords
 pub mod DigestExamples
 pub mod LoadLaws
+pub mod PinnedForms

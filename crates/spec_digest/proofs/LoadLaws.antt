@@ -34,11 +34,13 @@ pub load-turn :
     at + 16 * suc count ≤ length s → t < 16 → i ≡ at + t * suc count → x ≡ valueFrom 0 (getD s i 0 ∷ listed count 1 i s) →
     take (t + 1) (set ws t x) ≡ map (valueFrom 0) (cut (t + 1) (suc count) (drop at s))
 load-turn count s ws at t i x before h room few place e =
-    words-turn (suc count) (drop at s) ws t x before h
-    (e ∙ ap (valueFrom 0) (sym (rw (drop-drop (t * suc count) at s, ← place) (octets-from count i s within))))
+    words-turn (suc count) (drop at s) ws t x before h (e ∙ ap (valueFrom 0) (sym word))
   where
     within : i + suc count ≤ length s
     within = omega (arith, mul-le-mul-right (suc count) few)
+
+    word : take (suc count) (drop (t * suc count) (drop at s)) ≡ getD s i 0 ∷ listed count 1 i s
+    word = rw (drop-drop (t * suc count) at s, ← place) (octets-from count i s within)
 
 pub load-end :
     (n : ℕ) (b ws : List ℕ) (t : ℕ) → take t ws ≡ map (valueFrom 0) (cut t n b) → t ≤ 16 → 16 ≤ t → take 16 ws ≡ blockWords n b

@@ -4,4 +4,5 @@ pub mod Family
 pub mod Members
 pub mod Roots
 pub mod Examples
+pub mod Pinned
 pub mod Theorems
