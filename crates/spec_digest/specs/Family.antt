@@ -2,7 +2,7 @@
 -- the width of a word, in the amounts of their rotations, and in their constants.
 use Prim.Native.Nat.{ℕ, zero, suc, _-_, _*_}
 use mathlib.Core.List.{List, [], _∷_, _++_, map}
-use lib.ListN.{length, getD}
+use lib.ListN.{length, take, getD}
 use Rattle.spec_octets.specs.Lists.{flatten}
 use Rattle.spec_octets.specs.Reader.{inOctets}
 use Rattle.spec_digest.specs.Words.{majority, plus, choose, rotations, rotationsAndShift}
@@ -99,6 +99,10 @@ module _ (m : Member) where
   -- The message schedule of a block: its 16 words first, in all one word for each round.
   unfoldable pub schedule : List ℕ → List ℕ
   schedule block = scheduled (length (m .constants) - 16) block
+
+  -- The first 16 words of ws, and as many more as give it its length again. At one word for each round this is the message schedule.
+  unfoldable pub extended : List ℕ → List ℕ
+  extended ws = scheduled (length ws - 16) (take 16 ws)
 
   -- Word by word.
   unfoldable pub added : State → State → State
