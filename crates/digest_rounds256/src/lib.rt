@@ -1,5 +1,6 @@
 // The rounds of SHA-256 (FIPS 180-4 section 6.2.2, steps 2 to 4).
 ghost use mathlib.Core.Path.{_≡_};
+ghost use Prim.Native.Nat.{min};
 ghost use Rattle.spec_digest.specs.Family.{temporary1, temporary2, round, rounds, added};
 ghost use Rattle.spec_digest.specs.Members.{sha256};
 ghost use Rattle.digest_rounds256.specs.States.{state};
@@ -119,14 +120,24 @@ fn one_round(s: State256, k: u32, x: u32) -> State256
     }
 }
 
-// The 64 rounds, with the words of the message schedule.
-pub fn all_rounds(start: State256, words: &[u32; 64]) -> State256
+fn shorter(a: usize, b: usize) -> usize
+    ensures { λ r. ⌜ r ≡ min a b ⌝ }
+{
+    if a < b {
+        return a;
+    }
+    b
+}
+
+// The rounds, one for each word of the message schedule, and 64 at most.
+pub fn all_rounds(start: State256, words: &[u32]) -> State256
     ensures { λ r. ⌜ state r ≡ rounds sha256 (state start) (sha256 .constants) (now (words .entry)) ⌝ }
 {
     let constants = &CONSTANTS;
+    let n = shorter(words.len(), 64);
     let mut s = start;
     let mut t: usize = 0;
-    while t < 64 {
+    while t < n {
         s = one_round(s, constants[t], words[t]);
         t += 1;
     }

@@ -1,7 +1,6 @@
 // The message schedule of SHA-256 (FIPS 180-4 section 6.2.2, step 1).
 ghost use mathlib.Core.Path.{_≡_};
-ghost use lib.ListN.{take};
-ghost use Rattle.spec_digest.specs.Family.{nextWord, schedule};
+ghost use Rattle.spec_digest.specs.Family.{nextWord, extended};
 ghost use Rattle.spec_digest.specs.Members.{sha256};
 
 // A word, from those 16, 15, 7 and 2 places before it.
@@ -13,12 +12,12 @@ pub fn next_word(before16: u32, before15: u32, before7: u32, before2: u32) -> u3
     std::num::wrapping_add_u32(far, before16)
 }
 
-// Extends the 16 words at the front to the whole schedule.
-pub fn extend(words: &mut [u32; 64])
-    ensures { λ r. ⌜ now (words .exit) ≡ schedule sha256 (take 16 (now (words .entry))) ⌝ }
+// Extends the 16 words at the front until the slice is full. A slice of 64 words becomes the message schedule.
+pub fn extend(words: &mut [u32])
+    ensures { λ r. ⌜ now (words .exit) ≡ extended sha256 (now (words .entry)) ⌝ }
 {
     let mut t: usize = 16;
-    while t < 64 {
+    while t < words.len() {
         words[t] = next_word(words[t - 16], words[t - 15], words[t - 7], words[t - 2]);
         t += 1;
     }
