@@ -3,7 +3,7 @@ use digest_rounds256::State256;
 ghost use mathlib.Core.Path.{_≡_};
 ghost use mathlib.Core.List.{[], _∷_};
 ghost use Prim.Native.Nat.{_+_, _<_, _≤_};
-ghost use lib.ListN.{length, take, drop};
+ghost use lib.ListN.{length, take, drop, getD};
 ghost use Rattle.spec_octets.specs.Reader.{valueFrom};
 ghost use Rattle.spec_digest.specs.Padding.{blockWords};
 ghost use Rattle.spec_digest.specs.Family.{compress, absorbed};
@@ -23,15 +23,22 @@ fn joined(a: u8, b: u8, c: u8, d: u8) -> u32
     ((wide(a) * 256 + wide(b)) * 256 + wide(c)) * 256 + wide(d)
 }
 
+// The word whose octets begin at i.
+fn word_at(s: &[u8], i: usize) -> u32
+    requires { ⌜ i + 4 ≤ length (now s) ⌝ }
+    ensures { λ r. ⌜ r ≡ valueFrom 0 (getD (now (s .entry)) i 0 ∷ getD (now (s .entry)) (i + 1) 0 ∷ getD (now (s .entry)) (i + 2) 0 ∷ getD (now (s .entry)) (i + 3) 0 ∷ []) ⌝ }
+{
+    joined(s[i], s[i + 1], s[i + 2], s[i + 3])
+}
+
 // Loads the 16 words of the block at an offset.
-fn load(s: &[u8], at: usize, words: &mut [u32; 64])
-    requires { ⌜ at + 64 ≤ length (now s) ⌝ }
+fn load(s: &[u8], at: usize, words: &mut [u32])
+    requires { ⌜ (at + 64 ≤ length (now s)) × (16 ≤ length (now words)) ⌝ }
     ensures { λ r. ⌜ take 16 (now (words .exit)) ≡ blockWords 4 (drop at (now (s .entry))) ⌝ }
 {
     let mut t: usize = 0;
     while t < 16 {
-        let i = at + t * 4;
-        words[t] = joined(s[i], s[i + 1], s[i + 2], s[i + 3]);
+        words[t] = word_at(s, at + t * 4);
         t += 1;
     }
 }

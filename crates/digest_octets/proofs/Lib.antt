@@ -1,1 +1,2 @@
 pub mod NumberWrites
+pub mod WordWrites
