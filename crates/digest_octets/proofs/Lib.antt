@@ -1,0 +1,2 @@
+pub mod NumberWrites
+pub mod WordWrites

@@ -1,0 +1,2 @@
+pub mod PaddingWrites
+pub mod HashTail

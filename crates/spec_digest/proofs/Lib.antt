@@ -1,0 +1,11 @@
+pub mod CutLaws
+pub mod BlockLaws
+pub mod PaddingLaws
+pub mod RoundLaws
+pub mod ScheduleForm
+pub mod Rotations
+pub mod RootFractions
+pub mod WrittenWords
+pub mod DigestExamples
+pub mod LoadLaws
+pub mod PinnedForms
