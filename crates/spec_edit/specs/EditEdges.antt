@@ -4,17 +4,19 @@ use Prim.Native.Char.{code}
 use Prim.Native.String.{String}
 use mathlib.Core.Path.{_≡_}
 use mathlib.Core.List.{List, [], _∷_, _++_, map}
+use mathlib.Core.Option.{some}
 use lib.ListN.{replicate}
 use Rattle.spec_refusal.specs.declared.Refusal.the-variants.{RequestTooLong, BadName, BookTooLong, BadRecord, AliasConflict}
 use Rattle.spec_octets.specs.Octets.{text}
 use Rattle.spec_name.specs.Names.{Name, wire}
 use Rattle.spec_record.specs.Records.{Record}
 use Rattle.spec_record.specs.BookEdges.{ofOctets}
+use Rattle.spec_rule.specs.RelevantSet.{asBook}
 use Rattle.spec_rule.specs.Edges.{dotted, caa, aliased, cname, letters, chain, below, rootIssuing}
 use Rattle.spec_rule.specs.CallEdges.{asking, bookOf, www, both, conflicting}
 use Rattle.spec_edit.specs.declared.Edited.{Edited}
 use Rattle.spec_edit.specs.declared.Edited.the-variants.{MayBeLeft, Redo, Refused, BadOwner}
-use Rattle.spec_edit.specs.Edits.{edited}
+use Rattle.spec_edit.specs.Edits.{byOwner, edited}
 
 -- What the call answers, and what the requirements state.
 pub record EditEdge : Type 0 where
@@ -25,9 +27,9 @@ pub record EditEdge : Type 0 where
 abbrev pub callEdge : List ℕ → List ℕ → List ℕ → Edited → EditEdge
 callEdge request book owner e = record { answered = edited request book owner; stated = e }
 
--- These names, records and owner; and for www.example.com alone.
+-- These names, records and owner, as they are read; and for www.example.com alone.
 abbrev pub namesEdge : List String → List Record → Name → Edited → EditEdge
-namesEdge ns book o e = callEdge (asking ns) (bookOf book) (wire o) e
+namesEdge ns book o e = record { answered = byOwner (asBook book) (map dotted ns) (some o); stated = e }
 
 abbrev pub edge : List Record → String → Edited → EditEdge
 edge book o e = namesEdge ("www.example.com" ∷ []) book (dotted o) e
@@ -110,11 +112,16 @@ editEdges =
     ∷ namesEdge ("www.example.com" ∷ "www.example.org" ∷ []) [] (dotted "com") Redo
     ∷ namesEdge ("www.example.com" ∷ "www.example.org" ∷ []) [] (dotted "org") Redo
     ∷ namesEdge ("www.example.com" ∷ "www.example.org" ∷ []) [] (dotted "net") MayBeLeft
-    -- An owner of 255 octets, the most that a name can have; one of 257, and a label of 64 octets.
+    -- The call on octets: the targets of the 8th and the 9th alias.
+    ∷ callEdge www (bookOf (nine "example.com")) (wire (ofAlias 8)) Redo
+    ∷ callEdge www (bookOf (nine "example.com")) (wire (ofAlias 9)) MayBeLeft
+    -- The root is an owner. An owner of 255 octets, the most that a name can have, and one of 256; labels of 63 and 64 octets.
+    ∷ callEdge www [] (0 ∷ []) MayBeLeft
     ∷ callEdge www [] (wire (below 126)) MayBeLeft
     ∷ callEdge (wire (below 126)) [] (wire (below 126)) Redo
-    ∷ callEdge www [] (wire (below 127)) BadOwner
-    ∷ callEdge www [] (64 ∷ (replicate 64 (code "a") ++ (0 ∷ []))) BadOwner
+    ∷ callEdge www [] (wire (replicate 126 (text "a") ++ dotted "cc")) BadOwner
+    ∷ callEdge www [] (wire (letters (code "a") 63)) MayBeLeft
+    ∷ callEdge www [] (wire (letters (code "a") 64)) BadOwner
     -- No octet at all; cut off within a label, and before the closing zero; one octet after it; a second name; a compression pointer.
     ∷ callEdge www [] [] BadOwner
     ∷ callEdge www [] (3 ∷ text "co") BadOwner
