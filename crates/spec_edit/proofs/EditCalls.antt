@@ -128,8 +128,7 @@ unfolding edited
 edit-refusals request book owner o p =
     let keeps = edit-keeps request book o p in
     let c = firstRefusal (editChecks request book) in
-    let library = asBook (records book) in
-    (
+    let library = asBook (records book) in (
       λ r. Iff·trans (refused library (requestedNames request) c (ownerName owner) r) (first-row keeps r),
       (
         λ e. let (f, g) = bad-owner library (requestedNames request) c (ownerName owner) .0 e in
@@ -149,8 +148,7 @@ unfolding edited
 yes-leaves request old owner e =
     let (o, accepted, f, t) = may-be-left (asBook (records old)) (requestedNames request) (firstRefusal (editChecks request old)) (ownerName owner) e in
     let (whole, good) = owner-read owner o .0 f in
-    let passed = both-pass (requestRefusal request) (bookRefusal old) accepted in
-    (
+    let passed = both-pass (requestRefusal request) (bookRefusal old) accepted in (
       o,
       whole,
       good,
