@@ -1,0 +1,2 @@
+pub mod AliasHeads
+pub mod TouchLaws

@@ -1,0 +1,4 @@
+pub mod Touching
+pub mod Elsewhere
+pub mod EditCalls
+pub mod Table

@@ -1,0 +1,5 @@
+pub mod Edits
+pub mod Meaning
+pub mod Pinned
+pub mod Theorems
+pub mod EditEdges
