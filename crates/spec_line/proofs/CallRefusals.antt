@@ -1,4 +1,4 @@
--- When a call that writes a property to a buffer is refused; and that a refusal leaves the buffer unchanged.
+-- When a call that writes to a buffer what it has found is refused; and that a refusal leaves the buffer unchanged.
 use Prim.Native.Nat.{ℕ, _≤_, _<_}
 use native.Mathlib.Omega.{arith}
 use mathlib.Core.Path.{_≡_, refl, sym, _∙_}
@@ -11,7 +11,6 @@ use lib.ListN.{length, drop}
 use borrow.Author.Tests.{leb-true, leb-false, le-leb, lt-leb}
 use Rattle.spec_refusal.specs.declared.Refusal.{Refusal}
 use Rattle.spec_refusal.specs.declared.Refusal.the-variants.{NoRoom, LineTooLong}
-use Rattle.spec_record.specs.Property.{Property}
 use Rattle.spec_line.specs.declared.LineAnswer.the-variants.{Length, Refused}
 use Rattle.spec_line.specs.Calls.{Output, refused, placed}
 
@@ -32,23 +31,23 @@ placed-refused m buffer r = go (leb (length m) (length buffer)) refl
     go true t h = let z : _≡_ {A = ℕ} 0 1 = cc in absurd (omega arith)
     go false t h = (cc, leb-false _ _ t, refl)
 
--- Of n octets, no more than limit, a property is found, of a size no more than room, and octets are made of it.
-module _ (n limit room : ℕ) (size : Property → ℕ) (made : Property → List ℕ) (bad : Refusal) (buffer : List ℕ) where
-  abbrev pub outcome : Option Property → Output
+-- Of n octets, no more than limit, something is found, of a size no more than room, and octets are made of it: of one kind of data or another.
+module _ {A : Type 0} (n limit room : ℕ) (size : A → ℕ) (made : A → List ℕ) (bad : Refusal) (buffer : List ℕ) where
+  abbrev pub outcome : Option A → Output
   outcome none = refused bad buffer
   outcome (some p) = cond (leb (size p) room) (placed (made p) buffer) (refused LineTooLong buffer)
 
-  abbrev pub call : Option Property → Output
+  abbrev pub call : Option A → Output
   call found = cond (leb n limit) (outcome found) (refused LineTooLong buffer)
 
-  module _ (found : Option Property) where
+  module _ (found : Option A) where
     -- why the call is refused
     data Why (r : Refusal) : Type 0 where
       long : r ≡ LineTooLong → limit < n → Why r
       nothing : r ≡ bad → n ≤ limit → found ≡ none → Why r
-      large : r ≡ LineTooLong → n ≤ limit → (p : Property) → found ≡ some p → room < size p → Why r
+      large : r ≡ LineTooLong → n ≤ limit → (p : A) → found ≡ some p → room < size p → Why r
       tight :
-          (p : Property) → r ≡ NoRoom (length (made p)) → n ≤ limit → found ≡ some p → size p ≤ room →
+          (p : A) → r ≡ NoRoom (length (made p)) → n ≤ limit → found ≡ some p → size p ≤ room →
           length buffer < length (made p) → Why r
 
     why : (r : Refusal) → call found .answer ≡ Refused r → Why r × (call found .buffer ≡ buffer)
@@ -58,14 +57,14 @@ module _ (n limit room : ℕ) (size : Property → ℕ) (made : Property → Lis
         AnswerCode o = o .answer ≡ Refused r → Why r × (o .buffer ≡ buffer)
 
         fitting :
-            (p : Property) → n ≤ limit → found ≡ some p → (t : Bool) → leb (size p) room ≡ t →
+            (p : A) → n ≤ limit → found ≡ some p → (t : Bool) → leb (size p) room ≡ t →
             AnswerCode (cond t (placed (made p) buffer) (refused LineTooLong buffer))
         fitting p short e true t h =
             let (is, less, kept) = placed-refused (made p) buffer r h in
             (tight p is short e (leb-true _ _ t) less, kept)
         fitting p short e false t h = (large (cc) short p e (leb-false _ _ t), refl)
 
-        standing : n ≤ limit → (o : Option Property) → found ≡ o → AnswerCode (outcome o)
+        standing : n ≤ limit → (o : Option A) → found ≡ o → AnswerCode (outcome o)
         standing short none e h = (nothing (cc) short e, refl)
         standing short (some p) e h = fitting p short e (leb (size p) room) refl h
 
@@ -73,18 +72,18 @@ module _ (n limit room : ℕ) (size : Property → ℕ) (made : Property → Lis
         within true t h = standing (leb-true _ _ t) found refl h
         within false t h = (long (cc) (leb-false _ _ t), refl)
 
-    -- the rows, where the octets stand for a property exactly when it is found
+    -- the rows, where the octets stand for what is found exactly when it is found
     module _
-        (Stands : Property → Type 0) (law : (p : Property) → (found ≡ some p) ↔ Stands p)
+        (Stands : A → Type 0) (law : (p : A) → (found ≡ some p) ↔ Stands p)
         (other : bad ≢ LineTooLong) (roomy : (k : ℕ) → bad ≢ NoRoom k) where
       abbrev pub TooLong : Type 0
-      TooLong = (limit < n) ⊎ ((n ≤ limit) × ((p : Property) × Stands p × (room < size p)))
+      TooLong = (limit < n) ⊎ ((n ≤ limit) × ((p : A) × Stands p × (room < size p)))
 
       abbrev pub Nothing : Type 0
-      Nothing = (n ≤ limit) × ((p : Property) → Stands p → ⊥)
+      Nothing = (n ≤ limit) × ((p : A) → Stands p → ⊥)
 
       abbrev pub Tight : ℕ → Type 0
-      Tight k = (n ≤ limit) × ((p : Property) × Stands p × (size p ≤ room) × (length (made p) ≡ k) × (length buffer < k))
+      Tight k = (n ≤ limit) × ((p : A) × Stands p × (size p ≤ room) × (length (made p) ≡ k) × (length buffer < k))
 
       is-long : Why LineTooLong → TooLong
       is-long (long e h) = inl h
@@ -105,7 +104,7 @@ module _ (n limit room : ℕ) (size : Property → ℕ) (made : Property → Lis
       nothing-is : Nothing → call found .answer ≡ Refused bad
       nothing-is h = go found refl
         where
-          go : (o : Option Property) → found ≡ o → call found .answer ≡ Refused bad
+          go : (o : Option A) → found ≡ o → call found .answer ≡ Refused bad
           go none e = rw (le-leb n limit (h .0), e)
           go (some p) e = absurd (h .1 p (law p .0 e))
 

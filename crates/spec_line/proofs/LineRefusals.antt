@@ -22,7 +22,7 @@ use Rattle.spec_line.specs.Theorems.{Writable, Write-refusals, Read-refu
 use Rattle.spec_line.proofs.Lines.{line-is-the-grammar}
 use Rattle.spec_line.proofs.CallRefusals.{outcome, refusals}
 
-apart : _≡_ {A = ℕ} 0 1 → ⊥
+pub apart : _≡_ {A = ℕ} 0 1 → ⊥
 apart e = omega arith
 
 -- Reading: the data made must not exceed its limit.

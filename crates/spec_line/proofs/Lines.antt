@@ -25,7 +25,7 @@ use Rattle.spec_line.proofs.LineValues.{value-field, value-unblank}
 
 -- Flags.
 
-flags-field : (s : List ℕ) (n : ℕ) → (decimalOctet s ≡ some n) ↔ OctetField n s
+pub flags-field : (s : List ℕ) (n : ℕ) → (decimalOctet s ≡ some n) ↔ OctetField n s
 unfolding decimalOctet
 flags-field s n = (λ h. go _ refl h, stand)
   where
@@ -46,7 +46,7 @@ flags-field s n = (λ h. go _ refl h, stand)
         let (low, high, digits, value, small) = k in
         rw (le-leb 1 (length s) low, le-leb (length s) 3 high, all-true isDigit s .1 digits, value, le-leb n 255 small)
 
-flags-blankless : {s : List ℕ} {n : ℕ} → OctetField n s → Blankless s
+pub flags-blankless : {s : List ℕ} {n : ℕ} → OctetField n s → Blankless s
 unfolding isDigit
 flags-blankless k = All-imp (not-blank isDigit refl refl) (k .2)
 
@@ -66,14 +66,14 @@ tag-blankless : {t : List ℕ} → TagField t → Blankless t
 unfolding isLetterOrDigit isUpper isLower isDigit
 tag-blankless k = All-imp (not-blank isLetterOrDigit refl refl) (k .2)
 
-unblank : (t : List ℕ) → 1 ≤ length t → Blankless t → (rest : List ℕ) → begins isBlank (t ++ rest) ≡ false
+pub unblank : (t : List ℕ) → 1 ≤ length t → Blankless t → (rest : List ℕ) → begins isBlank (t ++ rest) ≡ false
 unblank [] long clean rest = absurd (omega arith)
 unblank (x ∷ t) long clean rest = All-head clean
 
 -- The fields together.
 
-fields-some :
-    (o : Option (List ℕ × List ℕ)) (k : List ℕ → List ℕ → Option Property) (p : Property) → ifRead none o k ≡ some p →
+pub fields-some :
+    {A : Type 0} (o : Option (List ℕ × List ℕ)) (k : List ℕ → List ℕ → Option A) (p : A) → ifRead none o k ≡ some p →
     (f rest : List ℕ) × (o ≡ some (f, rest)) × (k f rest ≡ some p)
 fields-some none k p h = absurd (Option·none-ne-some _ h)
 fields-some (some r) k p h = (r .0, r .1, refl, h)

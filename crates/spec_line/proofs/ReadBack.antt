@@ -19,10 +19,10 @@ use Rattle.spec_line.proofs.Lines.{line-is-the-grammar}
 use Rattle.spec_line.proofs.WrittenParts.{line-written}
 
 -- what fits is placed at the front of the buffer
-abbrev at-front : List ℕ → List ℕ → Output
+abbrev pub at-front : List ℕ → List ℕ → Output
 at-front made buffer = record { answer = Length (length made); buffer = made ++ drop (length made) buffer }
 
-placed-fits : (made buffer : List ℕ) → length made ≤ length buffer → placed made buffer ≡ at-front made buffer
+pub placed-fits : (made buffer : List ℕ) → length made ≤ length buffer → placed made buffer ≡ at-front made buffer
 unfolding placed
 placed-fits made buffer fits = rw (le-leb (length made) (length buffer) fits)
 

@@ -59,7 +59,7 @@ value-written (all-cons {x} h hs) =
     let (us, es, goods, are) = value-written hs in
     (u ∷ us, rw (e, es), all-cons good goods, rw (is, are))
 
-a-space : someBlanks (space ∷ [])
+pub a-space : someBlanks (space ∷ [])
 unfolding isBlank
 a-space = (space ∷ [], [], refl, (space, refl, refl), many-none)
 

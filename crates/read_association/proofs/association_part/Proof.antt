@@ -1,0 +1,42 @@
+-- `association_part` meets its contract.
+use borrow.Author.Needs.{needs}
+use Rattle.read_association.proofs.AssociationPlaces.{no-part, part-there}
+use Rattle.read_association.proofs.association_part.Statement.{statement}
+use Rattle.read_association.proofs.association_part.Tie as tie
+
+sub-result : tie.Need-sub-result
+sub-result c = search needs
+
+part-result-start : tie.Need-part-result-start
+part-result-start c = search needs
+
+part-result-end : tie.Need-part-result-end
+part-result-end c = search needs
+
+returns : tie.Need-returns
+returns c = search (needs, no-part)
+
+sub-result-2 : tie.Need-sub-result-2
+sub-result-2 c = search needs
+
+part-result-start-2 : tie.Need-part-result-start-2
+part-result-start-2 c = search needs
+
+part-result-end-2 : tie.Need-part-result-end-2
+part-result-end-2 c = search needs
+
+returns-2 : tie.Need-returns-2
+returns-2 c = search (needs, part-there)
+
+pub association-part-spec : {M : Type 1} → statement M
+association-part-spec =
+    tie.close
+    (tie.spec
+    sub-result
+    part-result-start
+    part-result-end
+    returns
+    sub-result-2
+    part-result-start-2
+    part-result-end-2
+    returns-2)

@@ -1,0 +1,9 @@
+pub mod Association
+pub mod Owners
+pub mod Matches
+pub mod Calls
+pub mod Meaning
+pub mod OwnerEdges
+pub mod MatchEdges
+pub mod Pinned
+pub mod Theorems

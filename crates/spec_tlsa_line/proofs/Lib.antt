@@ -1,0 +1,5 @@
+pub mod HexLaws
+pub mod LineLaws
+pub mod Written
+pub mod CallLaws
+pub mod Table

@@ -1,0 +1,2 @@
+pub mod OwnerParts
+pub mod OwnerWays

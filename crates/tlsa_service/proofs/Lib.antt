@@ -1,0 +1,2 @@
+pub mod PortWalk
+pub mod ServiceTests
