@@ -2,14 +2,11 @@
 use digest_padding::WordWidth;
 use digest_rounds256::State256;
 ghost use mathlib.Core.Path.{_≡_};
-ghost use mathlib.Core.List.{_++_, map};
-ghost use Prim.Native.Nat.{_+_, _≤_};
-ghost use lib.ListN.{length, take, drop};
-ghost use Rattle.spec_octets.specs.Reader.{inOctets};
-ghost use Rattle.spec_octets.specs.Lists.{flatten};
-ghost use Rattle.spec_digest.specs.Family.{stateWords, hashValue, digest};
+ghost use lib.ListN.{length};
+ghost use Rattle.spec_digest.specs.Family.{hashValue, digest};
 ghost use Rattle.spec_digest.specs.Members.{sha256};
 ghost use Rattle.digest_rounds256.specs.States.{state};
+ghost use Rattle.digest_sha256.specs.Digests.{stateOctets};
 
 // The initial hash value.
 fn initial() -> State256
@@ -36,28 +33,31 @@ fn hash(s: &[u8]) -> State256
     digest_blocks256::absorb(front, &tail[..n])
 }
 
-// Writes a word at an offset, the high octet first.
-fn put_word(x: u32, out: &mut [u8; 32], at: usize)
-    requires { ⌜ at + 4 ≤ 32 ⌝ }
-    ensures { λ r. ⌜ now (out .exit) ≡ take at (now (out .entry)) ++ (inOctets 4 x ++ drop (at + 4) (now (out .entry))) ⌝ }
+fn wide(x: u32) -> u64
+    ensures { λ r. ⌜ r ≡ x ⌝ }
 {
-    out[at] = (x / 16777216) as u8;
-    out[at + 1] = (x / 65536 % 256) as u8;
-    out[at + 2] = (x / 256 % 256) as u8;
-    out[at + 3] = (x % 256) as u8;
+    x as u64
+}
+
+// Writes the eight words of a hash value.
+fn put_state(v: State256, out: &mut [u8])
+    requires { ⌜ length (now out) ≡ 32 ⌝ }
+    ensures { λ r. ⌜ now (out .exit) ≡ stateOctets (state v) ⌝ }
+{
+    let words = [v.a, v.b, v.c, v.d, v.e, v.f, v.g, v.h];
+    let mut w: usize = 0;
+    let mut i: usize = 0;
+    while i < 8 {
+        w += digest_octets::put_number(wide(words[i]), 4, &mut out[w..]);
+        i += 1;
+    }
 }
 
 // The digest of a message.
 pub fn sha256(s: &[u8]) -> [u8; 32]
     ensures { λ r. ⌜ r ≡ digest sha256 (now (s .entry)) ⌝ }
 {
-    let v = hash(s);
-    let words = [v.a, v.b, v.c, v.d, v.e, v.f, v.g, v.h];
     let mut out = [0u8; 32];
-    let mut i: usize = 0;
-    while i < 8 {
-        put_word(words[i], &mut out, i * 4);
-        i += 1;
-    }
+    put_state(hash(s), &mut out);
     out
 }
