@@ -35,6 +35,7 @@ pub mod presentation;
 pub mod readers;
 pub mod request;
 pub mod rule;
+pub mod sha2;
 pub mod small_stack;
 pub mod value;
 pub mod word;
