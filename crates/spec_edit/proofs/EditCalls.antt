@@ -38,7 +38,7 @@ may-leave book o ns = (
 )
 
 -- an owner is read exactly when it is the wire form of a valid name
-owner-read : (owner : List ℕ) (o : Name) → (ownerName owner ≡ some o) ↔ ((owner ≡ wire o) × GoodName o)
+pub owner-read : (owner : List ℕ) (o : Name) → (ownerName owner ≡ some o) ↔ ((owner ≡ wire o) × GoodName o)
 unfolding ownerName target
 owner-read owner o = target-is-its-name owner o
 
