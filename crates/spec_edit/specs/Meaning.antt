@@ -48,6 +48,6 @@ pub record SameAnswers (request old new : List ℕ) : Type 0 where
 abbrev pub EditRow : List ℕ → List ℕ → Refusal → Type 0
 EditRow request book r = RequestRow request r ⊎ BookRow book r
 
--- Row 17: "An owner that breaks 01's owner rule, or has octets after it"
+-- Row 17: the owner breaks the rule of owners, or has octets after it. It is not the wire form of one valid name.
 abbrev pub Row-17 : List ℕ → Type 0
 Row-17 owner = (o : Name) → owner ≡ wire o → GoodName o → ⊥
