@@ -28,9 +28,6 @@ module _ (n : ℕ) (ws d x : List ℕ) (i w : ℕ) (p : Written n ws d x i w) wh
     within : w + n ≤ length x
     within = omega (arith, p .place, p .long, mul-le-mul-right n h)
 
-    pub word-from : w ≤ length x
-    word-from = omega (arith, within)
-
     module _ (y : List ℕ) (r : ℕ) (octets : y ≡ filled (inOctets n (getD ws i 0)) (take (length x - w) (drop w x)))
         (answer : r ≡ filledLength (inOctets n (getD ws i 0)) (take (length x - w) (drop w x))) where
       count : r ≡ n
