@@ -3,6 +3,7 @@
 // Proved: put_desk_line makes the line of spec_desk's definition desk_line from the octets given to it, and no read goes past its buffer.
 // Not proved, because no contract can speak about files: that each file goes to its parameter (the runs test it), and that open, read and
 // write do what they should (assumed).
+#![tactic(auto)]
 ghost use Rattle.desk.specs.Files.{Taken};
 
 use libc::STDOUT_FILENO;

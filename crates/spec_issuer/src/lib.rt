@@ -1,1 +1,3 @@
 // Issuer domain names as text: definitions and theorems, no code.
+
+#![tactic(auto)]

@@ -1,1 +1,3 @@
 // Domain names in wire form: definitions and theorems, no code.
+
+#![tactic(auto)]

@@ -55,12 +55,14 @@ module _ {A : Type 0} {P : A → Type 0} where
   module _ {Q : A → Type 0} where
     -- an element of both kinds stands among those selected, and is one of both kinds
     pub any_kept : {xs ys : List A} → Selects P xs ys → Any (λ x. P x × Q x) xs → Any Q ys
+    any_kept selects_nil h = elim h [ ]
     any_kept (selects_take p s) (any_here h) = any_here h.1
     any_kept (selects_take p s) (any_there h) = any_there (any_kept s h)
     any_kept (selects_pass n s) (any_here h) = absurd (n h.0)
     any_kept (selects_pass n s) (any_there h) = any_kept s h
 
     pub any_of_kept : {xs ys : List A} → Selects P xs ys → Any Q ys → Any (λ x. P x × Q x) xs
+    any_of_kept selects_nil h = elim h [ ]
     any_of_kept (selects_take p s) (any_here h) = any_here (p, h)
     any_of_kept (selects_take p s) (any_there h) = any_there (any_of_kept s h)
     any_of_kept (selects_pass n s) h = any_there (any_of_kept s h)

@@ -1,1 +1,3 @@
 // Octets: classes, letter case, comparison, labels, splitting and joining, sequences of items, readers. Definitions and theorems, no code.
+
+#![tactic(auto)]

@@ -1,6 +1,7 @@
 // Resource records and CAA data: definitions and theorems.
 
 // The property tags that RFC 8659 defines; any other tag is unknown.
+#![tactic(auto)]
 #[derive(Drop)]
 pub enum PropertyTag {
     Issue,

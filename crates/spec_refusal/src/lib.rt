@@ -1,4 +1,5 @@
 // Refusals: an input breaks a rule, so nothing is decided.
+#![tactic(auto)]
 ghost use Rattle.std.specs.Prelude.{◌≡◌};
 ghost use Rattle.spec_refusal.specs.Refusal.{number, place};
 

@@ -1,4 +1,6 @@
 // ASCII: the classes of an octet, and its lower case.
+#![tactic(auto)]
+
 ghost use Rattle.std.specs.Prelude.{◌≡◌};
 ghost use Rattle.spec_octets.specs.Octets.{is_letter_or_digit, is_blank, is_digit, lower};
 ghost use Rattle.spec_octets.specs.Label.{is_letter_digit_hyphen};
