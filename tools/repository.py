@@ -86,7 +86,7 @@ def rt_declarations(crate, path):
             continue
         if line[0] == "}":
             owner = None
-        if "#[unsafe(no_mangle)]" in line:
+        if "#[no_mangle]" in line:
             exported = True
             continue
         function, a_type, impl, const = (p.match(line) for p in (RT_FUNCTION, RT_TYPE, RT_IMPL, RT_CONST))
@@ -110,9 +110,8 @@ def rt_declarations(crate, path):
     return found
 
 
-def is_law_of(law, statement):
-    """Whether a law has the name of a statement, in small letters: wire_form of WireForm, or wire_form_lem where wire_form is a definition."""
-    return law.replace("_", "").removesuffix("lem") == statement.lower().removesuffix("lem")
+def lower_first(name):
+    return name[0].lower() + name[1:]
 
 
 class Repository:
@@ -141,8 +140,7 @@ class Repository:
                 name, colon, of = line.partition(":")
                 if not colon:
                     raise ValueError(f"crates.txt line {number}: expected NAME: DEP DEP ..")
-                # a static library's line has a word after its name
-                needs[name.split()[0]] = of.split()
+                needs[name.strip()] = of.split()
         return needs
 
     def files(self, crate, part):
@@ -165,9 +163,9 @@ class Repository:
         return [c for c in self.crates if c not in wanted and wanted & set(self.below([c]))]
 
     def proof_of(self, statement):
-        """The proof of a statement of specs/: the law of the same name in small letters, in proofs/ of the same crate."""
+        """The proof of a statement of specs/: the law of the same name with its first letter small, in proofs/ of the same crate."""
         for law in self.proofs[statement.crate]:
-            if is_law_of(law.name, statement.name):
+            if law.name == lower_first(statement.name):
                 text = law.path.read_text().splitlines()[law.line - 1]
                 if re.search(rf":\s*{re.escape(statement.name)}\s*$", text):
                     return law
