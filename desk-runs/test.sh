@@ -11,8 +11,9 @@ usage() {
 usage: bash desk-runs/test.sh [PROGRAM]
 
 Runs PROGRAM (crates/desk/out/desk, which `rt ci` builds, and `rt run` in crates/desk) on folders made
-here, and checks each line against the one that the requirements give. Then checks the exit statuses of examples/run.sh, and what
-every script does with --help and with unknown arguments. Takes about 15 seconds.
+here, and checks each line against the one that the requirements give. Then checks the exit statuses of
+examples/run.sh, and what every script does with --help and with unknown arguments. Takes about 15
+seconds.
 
 Exit status: 0 all as expected; 1 a run failed; 2 wrong use, or no program.
 end
