@@ -137,6 +137,7 @@ fn print_answer(rt: &impl Print, packed: u64) -> io::Result<()> {
 }
 
 // The packed answer of the call with this number: 1 judges, 2 lists, 3 writes a line, 4 reads one.
+#[tactic(auto, unfolding(crate::specs::Answers::answer_of, crate::specs::Answers::buffer_after))]
 fn answer(
     call: usize,
     request: &[u8],
