@@ -1,9 +1,7 @@
 -- `count_unescaped` meets its contract. The loop's invariant: the count so far and the remaining written octets give the result.
 use Prim.Native.Nat.{◌-◌}
 use lib.ListN.{length}
-use borrow.Author.Rules.{rules}
-use Rattle.line_octet.proofs.UnitWalk.{unit_less}
-use Rattle.line_data.proofs.UnitLoops.{Counted, count_start, count_fault, count_turn, count_end}
+use Rattle.line_data.proofs.UnitLoops.{Counted}
 use Rattle.line_data.proofs.count_unescaped.Given as goal
 
 abbrev pub invariant-loop-at : goal.invariant-loop-at

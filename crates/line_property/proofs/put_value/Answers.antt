@@ -1,11 +1,6 @@
 -- `put_value` meets its contract. The loop's invariant: the octets before offset i are written, and the remaining ones fit.
-use Prim.Native.Nat.{◌+◌, ◌≤◌, ◌-◌}
-use mathlib.Core.Path.{◌≡◌}
-use lib.ListN.{drop, length, take}
 use borrow.Author.Rules.{rules}
-use Rattle.spec_octets.specs.Buffer.{Put}
 use Rattle.text_buffer.proofs.LentRest.{put_nothing}
-use Rattle.line_property.specs.Places.{escaped_value}
 use Rattle.line_property.proofs.ValueLoops.{sum_fits, room_turn, value_turn, value_end}
 use Rattle.line_property.proofs.put_value.Goals as goal
 

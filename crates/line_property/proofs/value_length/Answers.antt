@@ -1,9 +1,5 @@
 -- `value_length` meets its contract. The loop's invariant: the count so far and the length of the remaining octets are the whole length.
-use Prim.Native.Nat.{◌+◌, ◌-◌}
-use mathlib.Core.Path.{◌≡◌}
-use lib.ListN.{length, drop}
 use borrow.Author.Rules.{rules}
-use Rattle.line_property.specs.Places.{escaped_value}
 use Rattle.line_property.proofs.Measures.{measure_end, measure_turn, measure_fits}
 use Rattle.line_property.proofs.value_length.Goals as goal
 

@@ -2,9 +2,7 @@
 use Prim.Native.Nat.{◌+◌, ◌-◌}
 use mathlib.Core.Path.{◌≡◌}
 use lib.ListN.{length, drop}
-use borrow.Author.Rules.{rules}
 use Rattle.line_property.specs.Places.{escaped_value}
-use Rattle.line_property.proofs.Measures.{measure_end, measure_turn, measure_fits}
 use Rattle.line_property.proofs.value_length.Given as goal
 
 abbrev pub invariant-loop-i : goal.invariant-loop-i

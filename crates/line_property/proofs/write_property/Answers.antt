@@ -1,11 +1,6 @@
 -- `write_property` meets its contract: a law of write_property for each return.
 use Rattle.std.proofs.Common.{ap, sym, arith}
 use borrow.Author.Rules.{rules}
-use Rattle.spec_refusal.specs.declared.Refusal.TheVariants.{NoRoom, LineTooLong}
-use Rattle.spec_line.specs.declared.LineAnswer.TheVariants.{Length}
-use Rattle.spec_line.specs.Calls.{refused}
-use Rattle.spec_line.proofs.Placed.{told}
-use Rattle.line_property.specs.Places.{write_property}
 use Rattle.line_property.proofs.PropertyWays.{part_short, tag_too_long, value_too_long, no_room, line_stands}
 use Rattle.line_property.proofs.write_property.Goals as goal
 
