@@ -4,6 +4,7 @@
 // Not proved, because no contract can speak about files: that each file goes to its parameter (the runs test it), and that open, read and
 // write do what they should (assumed).
 #![tactic(auto)]
+
 ghost use Rattle.desk.specs.Files.{Taken};
 
 use libc::STDOUT_FILENO;

@@ -1,5 +1,6 @@
 // The line of the desk program, from the contents of its files.
 #![tactic(auto)]
+
 ghost use Rattle.spec_octets.specs.Buffer.{Put};
 ghost use Rattle.spec_desk.specs.Lines.{desk_line};
 

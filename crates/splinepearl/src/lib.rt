@@ -1,5 +1,6 @@
 // The calls for C and Rust. Each returns a word of 64 bits: the number of the answer in bits 0 to 7, and the fields a, b and c above.
 #![tactic(auto)]
+
 mod sessions;
 
 ghost use Rattle.std.specs.Prelude.{◌≡◌};

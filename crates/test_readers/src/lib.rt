@@ -1,6 +1,7 @@
 // The readers, exported as one call, so that the independent implementation can be compared with them. Offsets are returned modulo the
 // size of their field: 2^24 in a, 2^16 in b and c.
 #![tactic(auto)]
+
 ghost use Rattle.std.specs.Prelude.{◌≡◌};
 ghost use Rattle.spec_octets.specs.Octets.{equal_ignoring_case};
 ghost use Rattle.read_name.specs.Places.{name_end};

@@ -7,6 +7,7 @@
 //
 // Proved: the program is memory-safe and terminates, and `answer` makes the call with the given number on its inputs in order.
 #![tactic(auto)]
+
 ghost use Rattle.std.specs.Prelude.{◌<◌, ◌≡◌};
 ghost use Rattle.io.specs.Counts.{IsPrefixLen};
 ghost use Rattle.test_runs.specs.Answers.{answer_of, buffer_after};
