@@ -25,6 +25,7 @@ pub fn caa_judge_for(
 }
 
 // Who may issue, for this account and by this method? 30: anyone. 31: a list at the start of the buffer, with its octets in a and its count in b. A refusal: place in a.
+#[tactic(auto, unfolding(spec_answers::specs::ListAnswers::packed_issuers, spec_rule::specs::Calls::permitted_issuers_code, spec_packed::specs::Packed::packed_refusal))]
 pub fn caa_permitted_issuers_for(
     request: &[u8],
     account: &[u8],
@@ -48,6 +49,7 @@ pub fn caa_permitted_issuers_for(
 }
 
 // 0 with the length of the output in a, or a refusal with its place in a.
+#[tactic(auto, unfolding(spec_answers::specs::LineAnswers::packed_line, spec_answers::specs::LineAnswers::line_code, spec_packed::specs::Packed::packed_refusal))]
 fn pack_made(m: LineAnswer) -> u64
     ensures { result ≡ packed_line m }
 {

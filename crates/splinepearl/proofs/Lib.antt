@@ -1,2 +1,0 @@
-pub mod ListAnswers
-pub mod LineAnswers
