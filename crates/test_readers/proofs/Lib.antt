@@ -1,2 +1,1 @@
-pub mod AnswerCode
 pub mod Examples
