@@ -1,4 +1,4 @@
--- `by_tags_lem` meets its contract.
+-- `by_tags` meets its contract.
 use borrow.Author.Rules.{rules}
 use borrow.Author.Tests.{not-true, not-false}
 use Rattle.book_authorization.proofs.Ways.{plain_by_issue, star_by_issue, issuewild_governs}
