@@ -23,21 +23,21 @@ pub const SHORT_TABLE: usize = 6 * FEW_RECORDS;
 pub const END: u16 = 65535;
 
 // Which records a walk along a chain looks for.
-#[derive(Drop)]
+#[derive(Clone, Copy)]
 pub enum Kind {
     Caa,
     CaaOrAlias,
 }
 
 // The first record that a search found, if there is one.
-#[derive(Drop)]
+#[derive(Clone, Copy)]
 pub enum FirstRecord {
     At(RecordNo),
     Nothing,
 }
 
 // The end of a climb: the record found, if there is one, and how many labels were taken off the name.
-#[derive(Drop)]
+#[derive(Clone, Copy)]
 pub struct Nearest {
     pub found: FirstRecord,
     pub up: usize,
@@ -45,7 +45,7 @@ pub struct Nearest {
 
 // The records that govern a name: those of the relevant set with one tag. `set` is the first record of the set, `first` the first record that
 // governs.
-#[derive(Drop)]
+#[derive(Clone, Copy)]
 pub struct Governing {
     pub set: RecordNo,
     pub first: RecordNo,
@@ -53,7 +53,7 @@ pub struct Governing {
 }
 
 // What CAA says about one requested name.
-#[derive(Drop)]
+#[derive(Clone, Copy)]
 pub enum NameAuthorization {
     Unrestricted,
     // The first critical record with an unknown tag.

@@ -21,7 +21,7 @@ const ACCOUNT_ROOM: usize = MAX_ACCOUNT_OCTETS + 1;
 const BOOK_ROOM: usize = MAX_BOOK_OCTETS + 1;
 
 // The result of reading a file: whether it could be read, and how many of its octets are at the start of the buffer.
-#[derive(Drop)]
+#[derive(Clone, Copy)]
 struct FileRead {
     pub found: bool,
     pub length: usize,

@@ -7,7 +7,7 @@ ghost use Rattle.spec_digest.specs.Padding.{zeros, padding};
 ghost use Rattle.digest_padding.specs.Tails.{octets_of, tail};
 
 // The width of a word.
-#[derive(Drop)]
+#[derive(Clone, Copy)]
 pub enum WordWidth {
     Bits32,
     Bits64,

@@ -6,7 +6,7 @@ ghost use Rattle.spec_digest.specs.Members.{sha256};
 ghost use Rattle.digest_rounds256.specs.States.{state};
 
 // Eight words: a hash value, or the working variables.
-#[derive(Drop)]
+#[derive(Clone, Copy)]
 pub struct State256 {
     pub a: u32,
     pub b: u32,

@@ -6,7 +6,7 @@ ghost use Rattle.spec_digest.specs.Members.{sha512};
 ghost use Rattle.digest_rounds512.specs.States.{state};
 
 // Eight words: a hash value, or the working variables.
-#[derive(Drop)]
+#[derive(Clone, Copy)]
 pub struct State512 {
     pub a: u64,
     pub b: u64,

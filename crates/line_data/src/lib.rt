@@ -11,7 +11,7 @@ use spec_line::LineAnswer;
 use spec_refusal::Refusal;
 
 // How many octets the value has.
-#[derive(Drop)]
+#[derive(Clone, Copy)]
 enum UnescapedCount {
     Units(usize),
     Fault,

@@ -18,13 +18,13 @@ fn field_end(s: &[u8], at: usize) -> usize
 }
 
 // Where a field ends, and where the next begins, after the white space.
-#[derive(Drop)]
+#[derive(Clone, Copy)]
 pub struct FieldAt {
     pub end: usize,
     pub next: usize,
 }
 
-#[derive(Drop)]
+#[derive(Clone, Copy)]
 pub enum FieldRead {
     Good(FieldAt),
     Fault,

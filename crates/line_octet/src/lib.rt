@@ -7,7 +7,7 @@ ghost use Rattle.line_octet.specs.Places.{plain_in, escape_at, written_octet_at}
 use text_decimal::OctetRead;
 
 // How a value is written: in quotes, or bare.
-#[derive(Drop)]
+#[derive(Clone, Copy)]
 pub enum Style {
     Quoted,
     Bare,
@@ -57,13 +57,13 @@ fn stands_for_itself(b: u8, style: Style) -> bool
 }
 
 // The octet that a written octet stands for, and the offset after it.
-#[derive(Drop)]
+#[derive(Clone, Copy)]
 pub struct WrittenOctetAt {
     pub octet: u8,
     pub next: usize,
 }
 
-#[derive(Drop)]
+#[derive(Clone, Copy)]
 pub enum WrittenOctetRead {
     Good(WrittenOctetAt),
     Fault,

@@ -24,7 +24,7 @@ fn is_line_tag(t: &[u8]) -> bool
 }
 
 // The flags of a line, the offsets where its tag begins and ends, and the offset of its value.
-#[derive(Drop)]
+#[derive(Clone, Copy)]
 pub struct LineAt {
     pub flags: u8,
     pub tag: usize,
@@ -32,7 +32,7 @@ pub struct LineAt {
     pub value: usize,
 }
 
-#[derive(Drop)]
+#[derive(Clone, Copy)]
 pub enum LineRead {
     Good(LineAt),
     Fault,
@@ -66,14 +66,14 @@ pub fn read_fields(s: &[u8]) -> LineRead
 }
 
 // The offsets in a value where its written octets begin and end, and how it is written.
-#[derive(Drop)]
+#[derive(Clone, Copy)]
 pub struct LineValueAt {
     pub from: usize,
     pub end: usize,
     pub style: Style,
 }
 
-#[derive(Drop)]
+#[derive(Clone, Copy)]
 pub enum LineValueRead {
     Good(LineValueAt),
     Fault,

@@ -9,7 +9,7 @@ ghost use Rattle.list_entry.specs.Entries.{entry_of, EntryLength, entries_of, si
 use spec_limits::MAX_RECORDS;
 
 // The number of names, and the number of octets that their entries take.
-#[derive(Drop)]
+#[derive(Clone, Copy)]
 pub struct ListSize {
     pub count: usize,
     pub octets: usize,

@@ -3,14 +3,14 @@
 ghost use Rattle.std.specs.Prelude.{◌≡◌};
 ghost use Rattle.read_association.specs.Places.{association_at, association_part};
 
-#[derive(Drop)]
+#[derive(Clone, Copy)]
 pub struct AssociationAt {
     pub usage: u8,
     pub selector: u8,
     pub matching: u8,
 }
 
-#[derive(Drop)]
+#[derive(Clone, Copy)]
 pub enum AssociationRead {
     Good(AssociationAt),
     Fault,

@@ -12,13 +12,13 @@ fn octet_at(s: &[u8], at: usize) -> usize
 }
 
 // The length of an element's contents, and the offset after the length octets.
-#[derive(Drop)]
+#[derive(Clone, Copy)]
 pub struct LengthAt {
     pub value: usize,
     pub next: usize,
 }
 
-#[derive(Drop)]
+#[derive(Clone, Copy)]
 pub enum LengthRead {
     Good(LengthAt),
     Fault,
@@ -70,14 +70,14 @@ fn read_length(s: &[u8], at: usize) -> LengthRead
 }
 
 // An element by its tag and its offsets: where the contents begin and where they end.
-#[derive(Drop)]
+#[derive(Clone, Copy)]
 pub struct ElementAt {
     pub tag: u8,
     pub contents: usize,
     pub next: usize,
 }
 
-#[derive(Drop)]
+#[derive(Clone, Copy)]
 pub enum ElementRead {
     Good(ElementAt),
     Fault,

@@ -6,7 +6,7 @@ ghost use Rattle.read_grantee.specs.Places.{issuer_at, grantee_at};
 use read_value::{NameAt, ValueRead};
 
 // The offsets of an issuer domain name in the data, and of the parameters after it; or nobody.
-#[derive(Drop)]
+#[derive(Clone, Copy)]
 pub enum GranteeRead {
     At(NameAt),
     Nobody,

@@ -7,14 +7,14 @@ ghost use Rattle.read_parameters.specs.Parameters.{parameters_behind};
 ghost use Rattle.read_limits.specs.Limits.{limit_step};
 
 // Which of the two limits the parameters so far have set.
-#[derive(Drop)]
+#[derive(Clone, Copy)]
 pub struct Seen {
     pub account: bool,
     pub methods: bool,
 }
 
 // What a parameter says of an applicant: the limits seen with it, or that the applicant is not admitted.
-#[derive(Drop)]
+#[derive(Clone, Copy)]
 pub enum LimitStep {
     Admitted(Seen),
     NotAdmitted,

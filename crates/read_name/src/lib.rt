@@ -6,7 +6,7 @@ ghost use Rattle.read_name.specs.Places.{name_end, parent_place};
 use spec_limits::{MAX_LABEL_OCTETS, MAX_NAME_OCTETS};
 
 // The offset after the closing zero of a name, or a fault.
-#[derive(Drop)]
+#[derive(Clone, Copy)]
 pub enum NameEnd {
     At(usize),
     Fault,
@@ -35,7 +35,7 @@ pub fn name_end(s: &[u8], at: usize) -> NameEnd
 }
 
 // The offset of a label in a name. The search for the relevant set goes up the DNS tree label by label (the requirements' "climb").
-#[derive(Drop)]
+#[derive(Clone, Copy)]
 pub struct Climb {
     pub at: usize,
 }

@@ -24,13 +24,13 @@ pub fn tag_of(t: &[u8]) -> PropertyTag
 }
 
 // The flags, and the offset of the value. The tag is the octets from offset 2 up to there.
-#[derive(Drop)]
+#[derive(Clone, Copy)]
 pub struct PropertyAt {
     pub flags: u8,
     pub value: usize,
 }
 
-#[derive(Drop)]
+#[derive(Clone, Copy)]
 pub enum PropertyRead {
     Good(PropertyAt),
     Fault,

@@ -65,7 +65,7 @@ fn two_octets(s: &[u8], at: usize) -> usize
 }
 
 // A record by its offsets: `owner_end`, where the owner ends and the type begins; type and class; where the data begins and where it ends.
-#[derive(Drop)]
+#[derive(Clone, Copy)]
 pub struct RecordAt {
     pub owner_end: usize,
     pub rtype: usize,
@@ -74,7 +74,7 @@ pub struct RecordAt {
     pub next: usize,
 }
 
-#[derive(Drop)]
+#[derive(Clone, Copy)]
 pub enum RecordRead {
     Good(RecordAt),
     Fault,
@@ -123,7 +123,7 @@ pub fn read_record(s: &[u8], at: usize) -> RecordRead
 }
 
 // The result of checking the records of a book: refused, or well formed without or with aliases.
-#[derive(Drop)]
+#[derive(Clone, Copy)]
 pub enum BookLayout {
     Refused(Refusal),
     WithoutAliases,

@@ -13,14 +13,14 @@ use spec_limits::{MAX_NAMES, MAX_REQUEST_OCTETS};
 use spec_refusal::{Check, NameNo, Refusal};
 
 // A requested name X or *.X: the offset of X, and the offset after the closing zero.
-#[derive(Drop)]
+#[derive(Clone, Copy)]
 pub struct Requested {
     pub wildcard: bool,
     pub base: usize,
     pub next: usize,
 }
 
-#[derive(Drop)]
+#[derive(Clone, Copy)]
 pub enum RequestedRead {
     Good(Requested),
     Fault,

@@ -8,7 +8,7 @@ ghost use Rattle.read_tbs.specs.Places.{past, start, are_elements, key_between, 
 use read_element::{ElementAt, ElementRead};
 
 // An offset, or a fault that was found on the way to it.
-#[derive(Drop)]
+#[derive(Clone, Copy)]
 pub enum Place {
     At(usize),
     Fault,
@@ -65,13 +65,13 @@ fn are_elements(s: &[u8], at: usize) -> bool
 }
 
 // The key from its first octet up to the one after its last.
-#[derive(Drop)]
+#[derive(Clone, Copy)]
 pub struct KeyAt {
     pub from: usize,
     pub to: usize,
 }
 
-#[derive(Drop)]
+#[derive(Clone, Copy)]
 pub enum KeyRead {
     At(KeyAt),
     Fault,

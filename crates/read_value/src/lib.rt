@@ -6,14 +6,14 @@ ghost use Rattle.read_value.specs.Places.{name_places, value_at};
 
 // The issuer domain name in a value: the offset of its first octet, and the offset after its last. And where the parameters begin:
 // the offset after the first semicolon, or the end of the value.
-#[derive(Drop)]
+#[derive(Clone, Copy)]
 pub struct NameAt {
     pub from: usize,
     pub to: usize,
     pub parameters: usize,
 }
 
-#[derive(Drop)]
+#[derive(Clone, Copy)]
 pub enum ValueRead {
     // The value doesn't match the grammar.
     Malformed,

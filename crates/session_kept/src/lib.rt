@@ -10,28 +10,28 @@ use read_request::RequestedRead;
 use spec_session::{MAX_TEXT_OCTETS, Text};
 
 // A part of a text.
-#[derive(Drop)]
+#[derive(Clone, Copy)]
 pub struct Part {
     pub offset: usize,
     pub length: usize,
 }
 
 // The name that is left when labels are taken off, or nothing but the root.
-#[derive(Drop)]
+#[derive(Clone, Copy)]
 pub enum Above {
     Label(Part),
     Top,
 }
 
 // The name asked for: its part of the kept name, and whether the requested name is a wildcard.
-#[derive(Drop)]
+#[derive(Clone, Copy)]
 pub struct Place {
     pub offset: usize,
     pub length: usize,
     pub wildcard: bool,
 }
 
-#[derive(Drop)]
+#[derive(Clone, Copy)]
 pub enum KeptName {
     At(Place),
     Broken,

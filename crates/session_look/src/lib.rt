@@ -11,7 +11,7 @@ use spec_refusal::NameNo;
 use spec_rule::{Judgement, LabelsOff};
 
 // What a book says of one name alone: nothing is found at it, or what is found decides.
-#[derive(Drop)]
+#[derive(Clone, Copy)]
 pub enum Looked {
     Empty,
     Decides(Judgement),

@@ -9,13 +9,13 @@ use spec_session::{Session, Stepped};
 
 // The session that a caller keeps in memory and lends for each call. It is the session of the definitions, and nothing more: the crate of a type alone can give it methods.
 #[repr(C)]
-#[derive(Drop)]
+#[derive(Clone, Copy)]
 pub struct LentSession {
     pub kept: Session,
 }
 
 // The session after a call, and the word that the call returns.
-#[derive(Drop)]
+#[derive(Clone, Copy)]
 pub struct Called {
     pub session: LentSession,
     pub word: u64,

@@ -2,7 +2,7 @@
 #![tactic(auto)]
 use spec_refusal::Refusal;
 
-#[derive(Drop)]
+#[derive(Clone, Copy)]
 pub enum Edited {
     // The verdict may be left: no edit of that owner's records can change it.
     MayBeLeft,

@@ -1,5 +1,6 @@
 // The limits of specs/Limits.antt as constants. A function that used another number would not meet its contract.
 #![tactic(auto)]
+
 pub const MAX_LABEL_OCTETS: usize = 63;
 
 pub const MAX_NAME_OCTETS: usize = 255;

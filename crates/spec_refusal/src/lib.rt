@@ -6,15 +6,15 @@ ghost use Rattle.spec_refusal.specs.Refusal.{number, place};
 use spec_limits::{MAX_NAMES, MAX_RECORDS};
 
 // The number of a name in a request, from 0.
-#[derive(Drop)]
+#[derive(Clone, Copy)]
 pub struct NameNo(pub usize);
 
 // The number of a record in the book, from 0. All records count, CAA or not.
-#[derive(Drop)]
+#[derive(Clone, Copy)]
 pub struct RecordNo(pub usize);
 
 // One case for each row of the requirements' table of refusals. specs/Refusal.antt gives each its number and place.
-#[derive(Drop)]
+#[derive(Clone, Copy)]
 pub enum Refusal {
     RequestTooLong,
     BadName(NameNo),
@@ -38,7 +38,7 @@ pub enum Refusal {
 }
 
 // The result of checking an input.
-#[derive(Drop)]
+#[derive(Clone, Copy)]
 pub enum Check {
     Accepted,
     Refused(Refusal),

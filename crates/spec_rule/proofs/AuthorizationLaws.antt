@@ -115,7 +115,7 @@ module _ (who : Applicant) where
       go none e m rest = any_there (rest m)
       go (some n) e m rest = ⊎_elim (λ k. any_here ((grantee_exactly g d).0 (rw k e))) (λ l. any_there (rest l)) (Memᴰ.cases_cons m)
 
-  granted_listed : {gs : List CaaRecord} (d : List ℕ) → Any (Grants who d) gs → Memᴰ d (grantees who gs)
+  granted_listed : (d : List ℕ) {gs : List CaaRecord} → Any (Grants who d) gs → Memᴰ d (grantees who gs)
   granted_listed d (any_here {x = g} h) = rw ((grantee_exactly g d).1 h) (Memᴰ.head refl)
   granted_listed d (any_there {x = g} h) = past (grantee who g) (granted_listed d h)
     where

@@ -5,7 +5,7 @@ use mathlib.Core.Path.{◌≡◌, refl, ap}
 use mathlib.Core.Logic.{◌⊎◌, inl, inr}
 use mathlib.Core.Bool.{Bool, false, and-false}
 use mathlib.Core.List.{List, [], ◌∷◌, map}
-use Rattle.spec_octets.specs.Lists.{all, select, All, all_cons, Any, any_here, any_there}
+use Rattle.spec_octets.specs.Lists.{all, select, All, all_cons, Any, any_here, any_there, all_nil}
 use Rattle.spec_octets.proofs.SelectLaws.{selects_none}
 use Rattle.spec_name.specs.Names.{Name}
 use Rattle.spec_request.specs.Request.{is_wildcard, requested_names}
@@ -21,6 +21,7 @@ use Rattle.spec_rule.proofs.AuthorizationLaws.{critical_selects, unresolved_exac
 use Rattle.spec_rule.proofs.BufferLaws.{list_in_the_buffer}
 
 none_of : {A : Type 0} {P : A → Type 0} {xs : List A} → All (λ x. P x → ⊥) xs → Any P xs → ⊥
+none_of all_nil x3 = elim x3 [ ]
 none_of (all_cons n ns) (any_here h) = n h
 none_of (all_cons n ns) (any_there h) = none_of ns h
 
@@ -41,6 +42,7 @@ forbids who book n rs e u = rw e (go (select is_unknown_critical rs) refl)
     go (c ∷ cs) i = (c.number, inl refl)
 
 none_permitted : (d : List ℕ) (says : List Authorization) → Any Closed says → all (permits d) says ≡ false
+none_permitted d [] x' = elim x' [ ]
 none_permitted d (a ∷ says) (any_here (r, inl e)) = rw e refl
 none_permitted d (a ∷ says) (any_here (r, inr e)) = rw e refl
 none_permitted d (a ∷ says) (any_there h) = rw (none_permitted d says h) (and-false (permits d a))
@@ -50,6 +52,7 @@ nobody_kept p h [] = refl
 nobody_kept p h (n ∷ ns) = rw (h n) (nobody_kept p h ns)
 
 nobody : (says : List Authorization) → Any Closed says → issuers says ≡ listed []
+nobody [] h = elim h [ ]
 nobody (unrestricted ∷ says) (any_here (r, inl e)) = let z : ◌≡◌ {A = ℕ} 0 1 = cc in absurd (omega arith)
 nobody (unrestricted ∷ says) (any_here (r, inr e)) = let z : ◌≡◌ {A = ℕ} 0 1 = cc in absurd (omega arith)
 nobody (unrestricted ∷ says) (any_there h) = nobody says h
@@ -64,6 +67,7 @@ any_forbidden :
     (who : Applicant) (book : Book) (ns : List Name) →
     Any (λ n. (rs : List CaaRecord) × Relevant book n rs × Any UnknownCriticalRecord rs) ns →
     Any Closed (map (authorization who book) ns)
+any_forbidden who book [] x' = elim x' [ ]
 any_forbidden who book (n ∷ ns) (any_here (rs, e, u)) = any_here (forbids who book n rs e u)
 any_forbidden who book (n ∷ ns) (any_there h) = any_there (any_forbidden who book ns h)
 
@@ -75,6 +79,7 @@ unknown_critical_lists_nobody request who book buffer r a b h =
 any_unresolved :
     (who : Applicant) (book : Book) (ns : List Name) → Any (λ n. (r : ℕ) × UnresolvedFrom book n r) ns →
     Any Closed (map (authorization who book) ns)
+any_unresolved who book [] x' = elim x' [ ]
 any_unresolved who book (n ∷ ns) (any_here (r, e)) = any_here (r, inr ((unresolved_exactly who book n r).1 e))
 any_unresolved who book (n ∷ ns) (any_there h) = any_there (any_unresolved who book ns h)
 

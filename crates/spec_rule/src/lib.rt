@@ -3,11 +3,11 @@
 use spec_refusal::{NameNo, RecordNo, Refusal};
 
 // How many labels are taken off X to reach the name that decides: 0 at X itself.
-#[derive(Drop)]
+#[derive(Clone, Copy)]
 pub struct LabelsOff(pub usize);
 
 // Why issuance is not permitted: the requested name, the record that decides, and how far up it was found.
-#[derive(Drop)]
+#[derive(Clone, Copy)]
 pub struct Denial {
     pub name: NameNo,
     pub rr: RecordNo,
@@ -15,7 +15,7 @@ pub struct Denial {
 }
 
 // May this issuer issue for this request?
-#[derive(Drop)]
+#[derive(Clone, Copy)]
 pub enum Judgement {
     Permitted,
     // A critical property has an unknown tag.
@@ -28,7 +28,7 @@ pub enum Judgement {
 }
 
 // Who may issue for this request? (The requirements' "who may issue".)
-#[derive(Drop)]
+#[derive(Clone, Copy)]
 pub enum PermittedIssuers {
     Anyone,
     // A list at the start of the buffer: how many names, and how many octets with the length octet of each.

@@ -79,6 +79,8 @@ same_lookups whole part x (chain, sets) = go
     go :
         (o p : Option Name) → followed max_aliases part.aliases x ≡ o → followed max_aliases whole.aliases x ≡ p → SameEnd o p →
         Alike (looked_up part.caa (aliases_of part.aliases x) o) (looked_up whole.caa (aliases_of whole.aliases x) p)
+    go none (some v) e f h = elim h [ ]
+    go (some u) none e f h = elim h [ ]
     go (some u) (some v) e f (each h) = as_lookups
         (caa_at part.caa u)
         (caa_at whole.caa v)

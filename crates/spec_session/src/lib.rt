@@ -12,7 +12,7 @@ pub const DECIDED: usize = 2;
 
 // A text of at most 256 octets: the first `length` of them.
 #[repr(C)]
-#[derive(Drop)]
+#[derive(Clone, Copy)]
 pub struct Text {
     pub length: usize,
     pub octets: [u8; MAX_TEXT_OCTETS],
@@ -20,7 +20,7 @@ pub struct Text {
 
 // What a caller keeps between two calls. Numbers come first, so that the layout has no gaps: 1,088 octets.
 #[repr(C)]
-#[derive(Drop)]
+#[derive(Clone, Copy)]
 pub struct Session {
     // 1 while it asks for a name, 2 once a verdict stands. Any other number is an ended session without a verdict.
     pub phase: usize,
@@ -37,7 +37,7 @@ pub struct Session {
 }
 
 // What a call on a session answers.
-#[derive(Drop)]
+#[derive(Clone, Copy)]
 pub enum SessionAnswer {
     // A name is to be looked up: `length` octets of the kept name, from `offset`.
     Asks { offset: usize, length: usize },
@@ -50,7 +50,7 @@ pub enum SessionAnswer {
 }
 
 // The answer of a step, and the session after it.
-#[derive(Drop)]
+#[derive(Clone, Copy)]
 pub struct Stepped {
     pub answer: SessionAnswer,
     pub session: Session,

@@ -1,4 +1,5 @@
 -- The word of caa_session_state: what a session in memory says.
+use mathlib.Core.List.Memᴰ.{tail}
 use Prim.Native.Nat.{ℕ, ◌<◌}
 use mathlib.Core.Path.{◌≡◌, refl, ap, sym, ◌∙◌}
 use mathlib.Core.Logic.{◌↔◌, ◌≢◌, ◌⊎◌, inl, inr}
@@ -111,6 +112,7 @@ module _ (s : Session) where
   unfolding session_code judgement_code
   b_unused (Memᴰ.head e) = (saying _ (word_0 _ _ _ _ (state s) (state_word s) e)).1.2
   b_unused (Memᴰ.tail (Memᴰ.head e)) = (saying _ (word_23 _ _ _ _ (state s) (state_word s) e)).1.2
+  b_unused (tail (tail (tail x12))) = elim x12 [ ]
   b_unused (Memᴰ.tail (Memᴰ.tail (Memᴰ.head e))) = (saying _ (word_41 _ _ _ _ (state s) (state_word s) e)).1.2
 
   c_unused : Memᴰ (number_in w) (0 ∷ 23 ∷ 40 ∷ 41 ∷ []) → field_c w ≡ 0
@@ -118,6 +120,7 @@ module _ (s : Session) where
   c_unused (Memᴰ.head e) = (saying _ (word_0 _ _ _ _ (state s) (state_word s) e)).1.3
   c_unused (Memᴰ.tail (Memᴰ.head e)) = (saying _ (word_23 _ _ _ _ (state s) (state_word s) e)).1.3
   c_unused (Memᴰ.tail (Memᴰ.tail (Memᴰ.head e))) = (saying _ (word_40 _ _ _ _ (state s) (state_word s) e)).1.3
+  c_unused (tail (tail (tail (tail x16)))) = elim x16 [ ]
   c_unused (Memᴰ.tail (Memᴰ.tail (Memᴰ.tail (Memᴰ.head e)))) = (saying _ (word_41 _ _ _ _ (state s) (state_word s) e)).1.3
 
   pub nothing_said : (asked s ≡ none) × (standing s ≡ none) → number_in w ≡ 41
@@ -144,6 +147,7 @@ module _ (s : Session) where
       λ e. let h = (saying _ (word_0 _ _ _ _ (state s) (state_word s) e)).0 in (h.in_phase, rules.0 h.keeps, h.kept_verdict),
       λ (phase, kept, e). (saying _ (verdict_said phase (rules.1 kept) (Judged Permitted) (rw e))).1.0,
     )
+    settled_exactly v (tail (tail x8)) = elim x8 [ ]
     settled_exactly v (Memᴰ.tail (Memᴰ.head z)) = rw z (
       λ e. let h = (saying _ (word_23 _ _ _ _ (state s) (state_word s) e)).0 in (h.in_phase, rules.0 h.keeps, h.kept_verdict),
       λ (phase, kept, e). (saying _ (verdict_said phase (rules.1 kept) LookupFailed (rw e))).1.0,
@@ -176,6 +180,7 @@ module _ (s : Session) where
         (λ r u few. rw (lt-ltb r max_records few) refl) (λ r u h. (h.0, h.2, h.3)) r u)
     denied_exactly v r u (Memᴰ.tail (Memᴰ.head z)) = rw z (denied_as 21 NotGranted (word_21 _ _ _ _ (state s) (state_word s)) (λ d k. k)
         (λ r u few. rw (lt-ltb r max_records few) refl) (λ r u h. (h.0, h.2, h.3)) r u)
+    denied_exactly v r u (tail (tail (tail x12))) = elim x12 [ ]
     denied_exactly v r u (Memᴰ.tail (Memᴰ.tail (Memᴰ.head z))) = rw z (denied_as 22 TooManyAliases (word_22 _ _ _ _ (state s) (state_word s)) (λ d k. k)
         (λ r u few. rw (lt-ltb r max_records few) refl) (λ r u h. (h.0, h.2, h.3)) r u)
 

@@ -64,6 +64,7 @@ module _ {A : Type 0} {P : A → Type 0} where
   some_selected (selects_pass n s) = any_there (some_selected s)
 
   none_of : {xs : List A} → All (λ x. P x → ⊥) xs → Any P xs → ⊥
+  none_of all_nil x3 = elim x3 [ ]
   none_of (all_cons n ns) (any_here h) = n h
   none_of (all_cons n ns) (any_there h) = none_of ns h
 

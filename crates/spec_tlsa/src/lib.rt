@@ -3,7 +3,7 @@
 use spec_refusal::{RecordNo, Refusal};
 
 // Does a TLSA record of the service match the certificate or its key?
-#[derive(Drop)]
+#[derive(Clone, Copy)]
 pub enum Matching {
     // The first record that matches.
     Match(RecordNo),

@@ -30,7 +30,7 @@ const SHOWN: usize = 64;
 const CUT_OFF: usize = 16777216;
 
 // The result of reading a part: whether it is complete, and how many octets of it are at the start of the buffer.
-#[derive(Drop)]
+#[derive(Clone, Copy)]
 struct Part {
     pub whole: bool,
     pub length: usize,

@@ -6,7 +6,7 @@ ghost use Rattle.spec_octets.specs.Octets.{trim_start, trim_end, is_parameter_oc
 ghost use Rattle.text_classes.specs.Classes.{in_class};
 
 // Classes of octets: of labels, tags and values, and white space (Blank: space or tab, RFC 5234 WSP).
-#[derive(Drop)]
+#[derive(Clone, Copy)]
 pub enum Class {
     Blank,
     LetterOrDigit,

@@ -6,7 +6,7 @@ ghost use Rattle.spec_octets.specs.Buffer.{Put, filled, filled_length};
 ghost use Rattle.text_decimal.specs.Places.{decimal_in};
 
 // The number read, or a fault.
-#[derive(Drop)]
+#[derive(Clone, Copy)]
 pub enum OctetRead {
     Good(u8),
     Fault,

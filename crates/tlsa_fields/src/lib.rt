@@ -4,10 +4,10 @@ ghost use Rattle.std.specs.Prelude.{◌≡◌};
 ghost use Rattle.tlsa_fields.specs.Fields.{usage_of, selector_of, matching_type_of};
 
 // RFC 6698 section 2.1.1: how the certificate association is to be used.
-#[derive(Drop)]
+#[derive(Clone, Copy)]
 pub struct Usage(pub u8);
 
-#[derive(Drop)]
+#[derive(Clone, Copy)]
 pub enum UsageRead {
     Known(Usage),
     Unknown,
@@ -42,10 +42,10 @@ impl Usage {
 }
 
 // RFC 6698 section 2.1.2: which part of the certificate is matched.
-#[derive(Drop)]
+#[derive(Clone, Copy)]
 pub struct Selector(pub u8);
 
-#[derive(Drop)]
+#[derive(Clone, Copy)]
 pub enum SelectorRead {
     Known(Selector),
     Unknown,
@@ -70,10 +70,10 @@ impl Selector {
 }
 
 // RFC 6698 section 2.1.3: how the association data is presented.
-#[derive(Drop)]
+#[derive(Clone, Copy)]
 pub struct MatchingType(pub u8);
 
-#[derive(Drop)]
+#[derive(Clone, Copy)]
 pub enum MatchingTypeRead {
     Known(MatchingType),
     Unknown,

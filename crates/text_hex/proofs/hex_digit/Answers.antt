@@ -1,0 +1,10 @@
+-- `hex_digit` meets its contract.
+use borrow.Author.Rules.{rules}
+use Rattle.text_hex.proofs.HexTests.{low_digit, high_digit}
+use Rattle.text_hex.proofs.hex_digit.Goals as goal
+
+pub returns-then-d-lt10 : goal.returns-then-d-lt10
+returns-then-d-lt10 c = search (rules, low_digit)
+
+pub returns : goal.returns
+returns c = search (rules, high_digit)
