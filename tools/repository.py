@@ -179,6 +179,16 @@ class Repository:
                 left += self.needs[crate]
         return [c for c in self.crates if c in seen]
 
+    def in_order(self, crates):
+        """These crates, each behind those that it needs: crates.txt may have them in any order."""
+        height = {}
+
+        def of(crate):
+            if crate not in height:
+                height[crate] = 1 + max([of(c) for c in self.needs[crate] if c in self.needs], default=0)
+            return height[crate]
+        return sorted(crates, key=of)
+
     def above(self, crates):
         """The crates that need one of these, these left out."""
         wanted = set(crates)
