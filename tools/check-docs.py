@@ -68,6 +68,7 @@ NOT_NAMES = [
     (r"issue|issuewild|iodef", "tags"),
     (r"[a-z]+--[a-z]*", "a label, or the front of one"),
     (r"[A-Z]::[A-Z]", "letters that stand for types"),
+    (r"[a-z]\.(?:now|old|new|\d)", "a lent value before or after a call, or a part of a pair"),
 ]
 SUFFIX = r"\.(?:antt|rt|md|sh|py|txt|bin|c|h|rs|edit|a|toml|json)"
 PATH = re.compile(rf"(?:\.\.)?[\w.*-]*(?:/[\w.*-]*)+|[\w.*-]+{SUFFIX}|\.\.\w+{SUFFIX}")
@@ -381,7 +382,7 @@ class Checker:
         for k, word in enumerate(words):
             if fraud and re.fullmatch(r"\w+/\w+", word) and word.split("/")[0] != "tools":
                 self.edit_named(document, number, *word.split("/"))
-            elif words[0] == "rt" and k > 1 and re.fullmatch(r"[a-z_]+", word):
+            elif words[0] == "rt" and k > 1 and words[1] != "all" and re.fullmatch(r"[a-z_]+", word):
                 if word not in self.tree.crates:
                     self.error(document, number, f"`{' '.join(words)}`: no crate {word}{self.similar(word)}")
             elif PATH.fullmatch(word) and re.search(r"[a-z]", word) and (word.split("/")[0] in self.tops() or "/" not in word):
