@@ -1,5 +1,6 @@
 // What CAA says about a requested name, given its relevant set: unrestricted, forbidden, or governed by certain records.
 #![tactic(auto)]
+
 ghost use Rattle.std.specs.Prelude.{◌≡◌};
 ghost use Rattle.book_places.specs.NameAuthorizations.{question_number, by_issue, by_tags, set_authorization, answer_to};
 

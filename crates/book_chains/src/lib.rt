@@ -1,6 +1,7 @@
 // Chains through the records of a book: a chain holds the records whose owners have the same key, in the book's order. Every function accepts
 // any numbers: reading past the end of a slice gives 0, and writing past it does nothing.
 #![tactic(auto)]
+
 ghost use Rattle.std.specs.Prelude.{◌≡◌, get_or, set};
 ghost use Rattle.spec_limits.specs.Limits.{max_records};
 ghost use Rattle.book_places.specs.Chains.{Chains, at_most, linked_below, behind};

@@ -1,5 +1,6 @@
 // Checks a whole book: its records (refusals 5, 6 and 7), and then conflicts between aliases and CAA records (refusal 12).
 #![tactic(auto)]
+
 ghost use Rattle.std.specs.Prelude.{◌≡◌, ◌≤◌, ◌<◌, length};
 ghost use Rattle.spec_refusal.specs.Checks.{checked};
 ghost use Rattle.spec_record.specs.Records.{conflict_at, book_refusal};

@@ -1,6 +1,7 @@
 // The climb of RFC 8659, section 3: from a name upward, it finds the nearest name whose lookup finds CAA records. It gives the first of these
 // records, and how many labels were taken off.
 #![tactic(auto)]
+
 ghost use Rattle.std.specs.Prelude.{◌≡◌};
 ghost use Rattle.book_places.specs.Sets.{nearest_record, labels_off_at};
 

@@ -1,5 +1,6 @@
 // Conflicts between aliases and CAA records of one owner (refusal 12), found by the table and the chains of a book.
 #![tactic(auto)]
+
 ghost use Rattle.std.specs.Prelude.{◌≡◌, ◌||◌, length};
 ghost use Rattle.spec_refusal.specs.Checks.{checked};
 ghost use Rattle.spec_record.specs.Records.{conflict_at};

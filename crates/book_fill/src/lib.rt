@@ -1,5 +1,6 @@
 // Fills the table of a book: one row for each record whose fields can be read.
 #![tactic(auto)]
+
 ghost use Rattle.std.specs.Prelude.{◌≡◌, ◌++◌, ◌+◌, ◌*◌, ◌≤◌, length, take, drop};
 ghost use Rattle.book_fill.specs.Filled.{RowFits, row_at, filled_table, filled_rows};
 

@@ -1,5 +1,6 @@
 // Reads a book once, and makes the table of its records, the chains through them, and the column of aliases.
 #![tactic(auto)]
+
 ghost use Rattle.std.specs.Prelude.{◌≡◌};
 ghost use Rattle.book_fill.specs.Filled.{filled_table};
 ghost use Rattle.book_index.specs.Indexes.{indexed_chains, indexed_onward};

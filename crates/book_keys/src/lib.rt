@@ -1,5 +1,6 @@
 // The key of an owner: a hash of its octets, below `MAX_RECORDS`. Names that are equal, letter case ignored, have the same key.
 #![tactic(auto)]
+
 ghost use Rattle.std.specs.Prelude.{◌≡◌, ◌-◌, ◌<◌};
 ghost use Rattle.book_places.specs.Keys.{mixed, key_of};
 

@@ -1,5 +1,6 @@
 // The records of a name in a book: its CAA records, or its CAA records and aliases, found along the chain of its key.
 #![tactic(auto)]
+
 ghost use Rattle.std.specs.Prelude.{◌≡◌};
 ghost use Rattle.book_places.specs.Table.{owner_at};
 ghost use Rattle.book_places.specs.Sets.{is_of_kind, is_owned_of, owned_of, owned_from, first_of, first_owned};

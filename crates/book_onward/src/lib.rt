@@ -1,5 +1,6 @@
 // Aliases in a book: for each alias the first CAA record or alias of its target, found once for a call; and lookups that follow them.
 #![tactic(auto)]
+
 ghost use Rattle.std.specs.Prelude.{◌≡◌, ◌%◌};
 ghost use Rattle.book_places.specs.declared.Kind.TheVariants.{CaaOrAlias};
 ghost use Rattle.book_places.specs.Sets.{first_owned, onward_at, resolved_from, looked_up_at};

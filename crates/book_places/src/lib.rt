@@ -1,6 +1,7 @@
 // Types and sizes for finding records in a book. A call reads the book once, into a table with a row for each record, and then works with
 // record numbers and offsets. The definitions are in specs/.
 #![tactic(auto)]
+
 use spec_limits::MAX_RECORDS;
 use spec_record::PropertyTag;
 use spec_refusal::RecordNo;

@@ -1,5 +1,6 @@
 // Searches in a set of CAA records with one owner. A set is named by its first record; its chain leads to the others.
 #![tactic(auto)]
+
 ghost use Rattle.std.specs.Prelude.{◌≡◌};
 ghost use Rattle.book_places.specs.Sets.{first_unknown_critical, first_tagged, set_grants};
 

@@ -1,6 +1,7 @@
 // What the table of a book says about a record: its owner, its data, and whether it is a CAA record or an alias. Every function accepts any numbers:
 // reading past the end of the table gives 0, and past the end of the book there are no octets.
 #![tactic(auto)]
+
 ghost use Rattle.std.specs.Prelude.{◌≡◌, ◌<◌};
 ghost use Rattle.book_places.specs.Table.{cell, octets_at, owner_at, data_at, is_caa_at, is_alias_at};
 

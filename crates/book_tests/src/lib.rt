@@ -1,6 +1,7 @@
 // Tests on CAA data: whether it is critical with an unknown tag, whether it has a tag, and whether it grants an issuer to an applicant. Malformed data passes
 // none of them.
 #![tactic(auto)]
+
 ghost use Rattle.std.specs.Prelude.{◌≡◌};
 ghost use Rattle.book_places.specs.Sets.{data_is_unknown_critical, data_has_tag, data_grants};
 ghost use Rattle.book_tests.specs.TagNumbers.{tag_number};

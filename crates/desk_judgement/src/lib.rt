@@ -1,5 +1,6 @@
 // Writes the line of a judgement at the start of the buffer.
 #![tactic(auto)]
+
 ghost use Rattle.std.specs.Prelude.{◌++◌, ◌+◌, ◌≤◌, length};
 ghost use Rattle.spec_octets.specs.Buffer.{Put};
 ghost use Rattle.spec_octets.specs.WrittenDecimal.{decimal};

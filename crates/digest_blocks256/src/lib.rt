@@ -1,5 +1,6 @@
 // The hash computation of SHA-256 over blocks (FIPS 180-4 section 6.2.2).
 #![tactic(auto)]
+
 ghost use Rattle.std.specs.Prelude.{◌≡◌, [], ◌∷◌, ◌+◌, ◌<◌, ◌≤◌, length, take, drop, get_or};
 ghost use Rattle.spec_octets.specs.Reader.{value_from};
 ghost use Rattle.spec_digest.specs.Padding.{block_words};

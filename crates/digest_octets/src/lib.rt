@@ -1,5 +1,6 @@
 // Numbers written as octets, the high octet first.
 #![tactic(auto)]
+
 ghost use Rattle.std.specs.Prelude.{◌≡◌};
 ghost use Rattle.spec_octets.specs.Reader.{in_octets};
 ghost use Rattle.spec_octets.specs.Buffer.{filled, filled_length};

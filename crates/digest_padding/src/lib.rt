@@ -1,5 +1,6 @@
 // The end of a padded message (FIPS 180-4 section 5.1), for both widths of a word.
 #![tactic(auto)]
+
 ghost use Rattle.std.specs.Prelude.{◌≡◌, ◌∷◌, ◌+◌, ◌*◌, ◌%◌, ◌<◌, ◌≤◌, length, replicate};
 ghost use Rattle.spec_octets.specs.Reader.{in_octets};
 ghost use Rattle.spec_octets.specs.Buffer.{Put, filled, filled_length};

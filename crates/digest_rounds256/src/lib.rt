@@ -1,5 +1,6 @@
 // The rounds of SHA-256 (FIPS 180-4 section 6.2.2, steps 2 to 4).
 #![tactic(auto)]
+
 ghost use Rattle.std.specs.Prelude.{◌≡◌, min};
 ghost use Rattle.spec_digest.specs.Family.{temporary1, temporary2, round, rounds, added};
 ghost use Rattle.spec_digest.specs.Members.{sha256};

@@ -1,5 +1,6 @@
 // The message schedule of SHA-256 (FIPS 180-4 section 6.2.2, step 1).
 #![tactic(auto)]
+
 ghost use Rattle.std.specs.Prelude.{◌≡◌};
 ghost use Rattle.spec_digest.specs.Family.{next_word, extended};
 ghost use Rattle.spec_digest.specs.Members.{sha256};

@@ -1,5 +1,6 @@
 // The functions of SHA-512 on words of 64 bits (FIPS 180-4 section 4.1.3).
 #![tactic(auto)]
+
 ghost use Rattle.std.specs.Prelude.{◌≡◌};
 ghost use Rattle.spec_digest.specs.Words.{choose, majority};
 ghost use Rattle.spec_digest.specs.Family.{big_sigma0, big_sigma1, small_sigma0, small_sigma1};

@@ -1,5 +1,6 @@
 // Whether an owner touches a name: it is the name, or a name above it, or an alias leads to it from one of these.
 #![tactic(auto)]
+
 ghost use Rattle.std.specs.Prelude.{◌≡◌};
 ghost use Rattle.book_places.specs.Sets.{onward_at};
 ghost use Rattle.edit_places.specs.Reach.{leads_to, touches_at, name_touched};

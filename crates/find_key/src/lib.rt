@@ -1,5 +1,6 @@
 // The public key of a certificate (RFC 5280 section 4.1): where it is, as a part of the octets, and whether the octets are a certificate.
 #![tactic(auto)]
+
 ghost use Rattle.std.specs.Prelude.{◌≡◌, drop};
 ghost use Rattle.spec_der.specs.Key.{is_certificate, key_part};
 ghost use Rattle.find_key.specs.Places.{two_elements, key_at};

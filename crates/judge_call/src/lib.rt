@@ -1,5 +1,6 @@
 // May this issuer issue for every name of the request, for this account and by this method? This is the call that judges.
 #![tactic(auto)]
+
 ghost use Rattle.std.specs.Prelude.{◌≡◌, ◌≤◌, ◌<◌, length};
 ghost use Rattle.std.proofs.Math.Option.{none};
 ghost use Rattle.spec_rule.specs.Calls.{first_refusal, judge_checks, judge};

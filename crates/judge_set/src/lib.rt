@@ -1,5 +1,6 @@
 // Judges one name by its relevant set. The call that judges and the sessions share this.
 #![tactic(auto)]
+
 ghost use Rattle.std.specs.Prelude.{◌≡◌};
 ghost use Rattle.judge_set.specs.BySet.{verdict_by_set};
 

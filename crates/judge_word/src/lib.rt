@@ -1,5 +1,6 @@
 // A judgement as the word that a call returns.
 #![tactic(auto)]
+
 ghost use Rattle.std.specs.Prelude.{◌≡◌};
 ghost use Rattle.spec_packed.specs.Packed.{packed};
 ghost use Rattle.spec_answers.specs.Answers.{packed_judgement};

@@ -1,5 +1,6 @@
 // Writes the CAA data of a property, given its flags, its tag and the written octets of its value.
 #![tactic(auto)]
+
 ghost use Rattle.std.specs.Prelude.{◌≡◌, true, ◌+◌, ◌≤◌, length};
 ghost use Rattle.spec_limits.specs.Limits.{max_tag_octets};
 ghost use Rattle.spec_octets.specs.Buffer.{Put};

@@ -1,5 +1,6 @@
 // How one octet of a value is written in quotes: as itself, as \X (a backslash and the octet), or as \DDD.
 #![tactic(auto)]
+
 ghost use Rattle.std.specs.Prelude.{◌≡◌, length};
 ghost use Rattle.spec_octets.specs.Buffer.{filled, filled_length};
 ghost use Rattle.spec_line.specs.Written.{escaped};

@@ -1,5 +1,6 @@
 // The fields of a line, separated by white space: where each ends, and where the next begins.
 #![tactic(auto)]
+
 ghost use Rattle.std.specs.Prelude.{◌≡◌};
 ghost use Rattle.line_fields.specs.Places.{field_end, field_at};
 

@@ -1,5 +1,6 @@
 // Written octets: what stands for one octet of a value in a line. It is the octet itself, \X (a backslash and a character) or \DDD.
 #![tactic(auto)]
+
 ghost use Rattle.std.specs.Prelude.{◌≡◌};
 ghost use Rattle.spec_line.specs.Read.{is_in_quotes, is_bare};
 ghost use Rattle.line_octet.specs.Places.{plain_in, escape_at, written_octet_at};

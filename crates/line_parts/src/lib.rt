@@ -1,5 +1,6 @@
 // The parts of a line, as offsets into it: flags, tag and value.
 #![tactic(auto)]
+
 ghost use Rattle.std.specs.Prelude.{◌≡◌};
 ghost use Rattle.spec_line.specs.Read.{is_line_tag};
 ghost use Rattle.line_parts.specs.Places.{line_at, line_value_at};

@@ -1,5 +1,6 @@
 // Writes the line of a property, given its flags, tag and value: the presentation format of RFC 8659 section 4.1.1.
 #![tactic(auto)]
+
 ghost use Rattle.std.specs.Prelude.{◌≡◌, ◌≤◌, length};
 ghost use Rattle.spec_limits.specs.Limits.{max_data_octets};
 ghost use Rattle.spec_octets.specs.Buffer.{Put};

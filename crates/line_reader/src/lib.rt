@@ -1,5 +1,6 @@
 // Reads a line of text as CAA data: the presentation format of RFC 8659 section 4.1.1.
 #![tactic(auto)]
+
 ghost use Rattle.std.specs.Prelude.{◌≡◌};
 ghost use Rattle.spec_line.specs.Calls.{parse_line};
 

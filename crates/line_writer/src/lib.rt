@@ -1,5 +1,6 @@
 // Writes CAA data as a line of text: the presentation format of RFC 8659 section 4.1.1.
 #![tactic(auto)]
+
 ghost use Rattle.std.specs.Prelude.{◌≡◌};
 ghost use Rattle.spec_line.specs.Calls.{write_line};
 

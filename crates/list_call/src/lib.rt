@@ -1,5 +1,6 @@
 // Who may issue for every name of the request, for this account and by this method? This is the call that lists the permitted issuers.
 #![tactic(auto)]
+
 ghost use Rattle.std.specs.Prelude.{◌≡◌, ◌≤◌, ◌<◌, length};
 ghost use Rattle.spec_rule.specs.Calls.{list_issuers};
 ghost use Rattle.book_places.specs.Table.{short_book};

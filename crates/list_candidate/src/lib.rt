@@ -1,6 +1,7 @@
 // Candidates: issuer names that may get onto the list. Each is kept as its offset and its length in the book. Every function accepts any
 // numbers: reading past the end of the array gives 0, and a candidate without room is not added.
 #![tactic(auto)]
+
 ghost use Rattle.std.specs.Prelude.{◌≡◌};
 ghost use Rattle.list_places.specs.Candidates.{candidate_at, is_candidate, pushed};
 

@@ -1,6 +1,7 @@
 // Goes through the issuers that the records of a tagged set grant to an applicant. Either they become the candidates, or they decide which of the present
 // candidates stay.
 #![tactic(auto)]
+
 ghost use Rattle.std.specs.Prelude.{◌≡◌};
 ghost use Rattle.list_places.specs.Candidates.{collected};
 ghost use Rattle.list_places.specs.Rounds.{narrowed};

@@ -1,5 +1,6 @@
 // Writes the list of issuers into the caller's buffer: one entry for each candidate that is in round t.
 #![tactic(auto)]
+
 ghost use Rattle.std.specs.Prelude.{◌≡◌, ◌≤◌, length};
 ghost use Rattle.spec_octets.specs.Octets.{lowered};
 ghost use Rattle.spec_octets.specs.Buffer.{Put, filled};

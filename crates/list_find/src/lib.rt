@@ -1,6 +1,7 @@
 // Finds who may issue for all names of a request, by the table of the book. The answer is the candidates, and the last round: the candidates
 // in it are the list.
 #![tactic(auto)]
+
 ghost use Rattle.std.specs.Prelude.{◌≡◌};
 ghost use Rattle.list_places.specs.PermittedBy.{permitted_in};
 

@@ -1,5 +1,6 @@
 // The grants of the records of a set with one tag. The set is named by its first record; its chain leads to the others.
 #![tactic(auto)]
+
 ghost use Rattle.std.specs.Prelude.{◌≡◌, ◌≤◌};
 ghost use Rattle.list_places.specs.Grants.{grant_in, grants_from, first_grant};
 

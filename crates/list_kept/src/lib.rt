@@ -1,6 +1,7 @@
 // Asks the relevant sets, one after the other. The issuers that the first restricting set grants become the candidates. After each further
 // restricting set, only those candidates stay that it grants too.
 #![tactic(auto)]
+
 ghost use Rattle.std.specs.Prelude.{◌≡◌, take};
 ghost use Rattle.list_places.specs.PermittedBy.{governed_in, all_asked};
 

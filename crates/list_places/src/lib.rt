@@ -1,5 +1,6 @@
 // Types for finding who may issue, by the table of a book. The definitions are in specs/.
 #![tactic(auto)]
+
 use spec_record::PropertyTag;
 
 // A tagged set: the records of a set that have one tag. The set is named by its first record.

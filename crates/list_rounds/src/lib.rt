@@ -1,5 +1,6 @@
 // The rounds of the candidates. A candidate that a further set grants is moved on to the next round.
 #![tactic(auto)]
+
 ghost use Rattle.std.specs.Prelude.{◌≡◌};
 ghost use Rattle.list_places.specs.Rounds.{marked};
 

@@ -1,6 +1,7 @@
 // The questions that a request asks, one for each name: what does the relevant set of this name say about X, or about *.X? Each is noted as one
 // number.
 #![tactic(auto)]
+
 ghost use Rattle.std.specs.Prelude.{◌≡◌, ◌++◌, length, take, drop};
 ghost use Rattle.list_places.specs.Questions.{questions, noted, once};
 

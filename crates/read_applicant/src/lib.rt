@@ -1,5 +1,6 @@
 // Checks the account and the method that come with a request (RFC 8657).
 #![tactic(auto)]
+
 ghost use Rattle.std.specs.Prelude.{◌≡◌};
 ghost use Rattle.spec_refusal.specs.Checks.{checked};
 ghost use Rattle.spec_applicant.specs.Applicant.{is_account, is_method, applicant_refusal};

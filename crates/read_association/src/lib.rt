@@ -1,5 +1,6 @@
 // TLSA data (RFC 6698 section 2.1): its three fields, and the association data as a slice of it.
 #![tactic(auto)]
+
 ghost use Rattle.std.specs.Prelude.{◌≡◌};
 ghost use Rattle.read_association.specs.Places.{association_at, association_part};
 

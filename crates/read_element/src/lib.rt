@@ -1,5 +1,6 @@
 // DER elements (X.690 section 8.1): reading one at an offset.
 #![tactic(auto)]
+
 ghost use Rattle.std.specs.Prelude.{◌≡◌, ◌<◌, length, get_or};
 ghost use Rattle.read_element.specs.Places.{length_at, element_at, tagged_at};
 

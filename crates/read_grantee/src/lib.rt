@@ -1,5 +1,6 @@
 // The issuer that CAA data grants, as offsets into the data.
 #![tactic(auto)]
+
 ghost use Rattle.std.specs.Prelude.{◌≡◌};
 ghost use Rattle.read_grantee.specs.Places.{issuer_at, grantee_at};
 

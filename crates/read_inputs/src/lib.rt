@@ -1,5 +1,6 @@
 // Checks the inputs of a call in their order. The first refusal is the answer.
 #![tactic(auto)]
+
 ghost use Rattle.std.specs.Prelude.{◌≡◌, [], ◌∷◌};
 ghost use Rattle.spec_refusal.specs.Checks.{checked};
 ghost use Rattle.spec_request.specs.Request.{request_refusal};

@@ -1,5 +1,6 @@
 // Checks issuer domain names given as text.
 #![tactic(auto)]
+
 ghost use Rattle.std.specs.Prelude.{◌≡◌};
 ghost use Rattle.spec_refusal.specs.Checks.{checked};
 ghost use Rattle.spec_issuer.specs.Issuer.{is_issuer, issuer_refusal};

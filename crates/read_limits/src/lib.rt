@@ -1,5 +1,6 @@
 // The limits that the parameters of an issue value set (RFC 8657): the account, and the validation methods.
 #![tactic(auto)]
+
 ghost use Rattle.std.specs.Prelude.{◌≡◌};
 ghost use Rattle.spec_value.specs.Parameters.{parameter_in};
 ghost use Rattle.spec_applicant.specs.Admission.{admits};

@@ -1,5 +1,6 @@
 // The list of methods in the value of a validationmethods parameter (RFC 8657 section 4).
 #![tactic(auto)]
+
 ghost use Rattle.std.specs.Prelude.{◌≡◌};
 ghost use Rattle.read_methods.specs.Methods.{names_method_in};
 

@@ -1,5 +1,6 @@
 // Domain names in wire form (RFC 1035 section 3.1): where one ends, and the way up to its parent.
 #![tactic(auto)]
+
 ghost use Rattle.std.specs.Prelude.{◌≡◌};
 ghost use Rattle.read_name.specs.Places.{name_end, parent_place};
 

@@ -1,5 +1,6 @@
 // Parameters of issue and issuewild values (RFC 8659 section 4.2).
 #![tactic(auto)]
+
 ghost use Rattle.std.specs.Prelude.{◌≡◌};
 ghost use Rattle.spec_value.specs.IssueValues.{is_parameter};
 ghost use Rattle.read_parameters.specs.Parameters.{are_parameters_in};

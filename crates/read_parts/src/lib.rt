@@ -1,5 +1,6 @@
 // The tag and the value of one parameter of an issue value (RFC 8659 section 4.2), as slices of its text.
 #![tactic(auto)]
+
 ghost use Rattle.std.specs.Prelude.{◌≡◌};
 ghost use Rattle.spec_value.specs.Parameters.{parameter_in};
 

@@ -1,5 +1,6 @@
 // CAA data (RFC 8659 section 4.1): its property, tag and value, and whether it is well formed.
 #![tactic(auto)]
+
 ghost use Rattle.std.specs.Prelude.{◌≡◌};
 ghost use Rattle.spec_record.specs.Property.{property, tag_of};
 ghost use Rattle.spec_record.specs.Records.{is_caa_data};

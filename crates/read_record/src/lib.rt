@@ -1,5 +1,6 @@
 // Resource records (RFC 1035 section 3.2.1): reading one at an offset, and checking a whole book.
 #![tactic(auto)]
+
 ghost use Rattle.std.specs.Prelude.{◌≡◌, ◌+◌, ◌≤◌, length, take, drop, ◌||◌};
 ghost use Rattle.spec_octets.specs.Reader.{value_from};
 ghost use Rattle.spec_record.specs.Records.{is_caa, is_alias, target, is_some, is_laid_out};

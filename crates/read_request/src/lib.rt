@@ -1,5 +1,6 @@
 // Requests: reading the requested name at an offset, and checking a whole request.
 #![tactic(auto)]
+
 ghost use Rattle.std.specs.Prelude.{◌≡◌, not, ◌&&◌};
 ghost use Rattle.spec_refusal.specs.Checks.{checked};
 ghost use Rattle.spec_octets.specs.Lists.{all, is_empty};

@@ -1,5 +1,6 @@
 // The signed body of a certificate (TBSCertificate, RFC 5280 section 4.1): the way to its key, one element after the other.
 #![tactic(auto)]
+
 ghost use Rattle.std.specs.Prelude.{◌≡◌, drop};
 ghost use Rattle.spec_der.specs.Elements.{element, tagged};
 ghost use Rattle.spec_der.specs.Certificate.{version};

@@ -1,5 +1,6 @@
 // The issuer domain name in a value of an issue or issuewild property, and where its parameters begin (RFC 8659 section 4.2).
 #![tactic(auto)]
+
 ghost use Rattle.std.specs.Prelude.{◌≡◌};
 ghost use Rattle.spec_value.specs.IssueValues.{trim, name_in};
 ghost use Rattle.read_value.specs.Places.{name_places, value_at};

@@ -1,5 +1,6 @@
 // An answer to a session: a book with the records of the name asked for.
 #![tactic(auto)]
+
 ghost use Rattle.std.specs.Prelude.{◌≡◌, true, drop};
 ghost use Rattle.std.proofs.Math.Option.{none, some};
 ghost use Rattle.spec_name.specs.Names.{Name, wire};

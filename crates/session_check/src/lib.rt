@@ -1,5 +1,6 @@
 // Whether a kept session keeps the rules, and where its name asked for begins.
 #![tactic(auto)]
+
 ghost use Rattle.std.specs.Prelude.{◌≡◌};
 ghost use Rattle.spec_issuer.specs.Issuer.{is_issuer};
 ghost use Rattle.spec_applicant.specs.Applicant.{is_applicant};

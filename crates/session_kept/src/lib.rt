@@ -1,5 +1,6 @@
 // The texts of a session: how they are kept, and where in the kept name the name asked for begins.
 #![tactic(auto)]
+
 ghost use Rattle.std.specs.Prelude.{◌≡◌, length, drop};
 ghost use Rattle.spec_name.specs.Names.{Name, wire, GoodName};
 ghost use Rattle.spec_session.specs.Sessions.{text_of};

@@ -1,5 +1,6 @@
 // Looks up one name in a book, and judges by what is found there. Nothing is looked up above the name.
 #![tactic(auto)]
+
 ghost use Rattle.std.specs.Prelude.{◌≡◌, ◌≤◌, ◌<◌, length};
 ghost use Rattle.book_places.specs.Table.{short_book};
 ghost use Rattle.book_index.specs.Indexes.{Blank};

@@ -1,5 +1,6 @@
 // Opening a session: the checks of its inputs, and the session that asks for X.
 #![tactic(auto)]
+
 ghost use Rattle.std.specs.Prelude.{◌≡◌};
 ghost use Rattle.spec_refusal.specs.Checks.{checked};
 ghost use Rattle.spec_rule.specs.Calls.{first_refusal};

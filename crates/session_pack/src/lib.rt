@@ -1,5 +1,6 @@
 // The answer of a session as the word that a call returns.
 #![tactic(auto)]
+
 ghost use Rattle.std.specs.Prelude.{◌≡◌};
 ghost use Rattle.spec_session_words.specs.SessionWords.{packed_session};
 

@@ -1,5 +1,6 @@
 // What a session says of itself: the name to be looked up next, the verdict that stands, or neither.
 #![tactic(auto)]
+
 ghost use Rattle.std.specs.Prelude.{◌≡◌};
 ghost use Rattle.spec_session.specs.Sessions.{verdict_of, state};
 ghost use Rattle.session_state.specs.Verdicts.{or_no_verdict};

@@ -1,5 +1,6 @@
 // Steps of a session, by value: where it goes, how it ends, and a lookup that failed.
 #![tactic(auto)]
+
 ghost use Rattle.std.specs.Prelude.{◌≡◌};
 ghost use Rattle.spec_session.specs.Sessions.{is_asking};
 ghost use Rattle.spec_session.specs.Steps.{goes_to, closed_with, failed};

@@ -1,5 +1,6 @@
 // The calls on a session, by value: the session after the call, and the word that the call returns.
 #![tactic(auto)]
+
 ghost use Rattle.std.specs.Prelude.{◌≡◌};
 ghost use Rattle.spec_session_words.specs.SessionWords.{worded, caa_session_open, caa_session_answer, caa_session_fail, caa_session_state};
 ghost use Rattle.session_words.specs.Called.{called};

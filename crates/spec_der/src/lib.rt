@@ -2,4 +2,5 @@
 
 // The octets of a certificate, at most.
 #![tactic(auto)]
+
 pub const MAX_CERTIFICATE_OCTETS: usize = 16384;

@@ -1,5 +1,6 @@
 // The answer to the question whether a verdict may be left as it is when the records of one owner are edited. The rules for it are in specs/.
 #![tactic(auto)]
+
 use spec_refusal::Refusal;
 
 #[derive(Clone, Copy)]

@@ -1,5 +1,5 @@
 -- No element of a list occurs twice exactly when none stands at two positions.
-use mathlib.Core.Path.{◌≡◌, refl, sym, ap}
+use mathlib.Core.Path.{sym, ap}
 use mathlib.Core.Logic.{◌≢◌}
 use mathlib.Core.List.{List, [], ◌∷◌, ◌++◌, cons-eq-cons, cons≢nil}
 use Rattle.spec_octets.specs.Lists.{All, all_nil, all_cons, Distinct, distinct_nil, distinct_cons}

@@ -1,14 +1,13 @@
 -- The octets of a parameter's value; a number in three digits; a buffer with octets written at its start.
-use Prim.Native.Nat.{ℕ, ◌/◌, ◌%◌, ◌≤◌, ◌<◌}
+use Prim.Native.Nat.{◌/◌, ◌%◌}
 use native.Mathlib.Omega.{arith}
-use mathlib.Core.Path.{◌≡◌, refl}
+use mathlib.Core.Path.{refl}
 use mathlib.Core.Bool.{not, and-eq-true_iff}
 use lib.Dec.{leb, eqb}
 use lib.ListN.{length}
 use borrow.Author.Tests.{leb-true, le-leb, lt-leb, eqb-false, ne_eqb, not-true}
 use Rattle.spec_octets.specs.Lists.{all_nil, all_cons}
 use Rattle.spec_octets.specs.Octets.{between, is_parameter_octet}
-use Rattle.spec_octets.specs.WrittenDecimal.{digit, three_digits}
 use Rattle.spec_octets.specs.Buffer.{filled, filled_length}
 use Rattle.spec_octets.specs.Theorems.{ParameterOctets, ThreeDigits}
 use Rattle.spec_octets.specs.Pinned.{BufferFilled}

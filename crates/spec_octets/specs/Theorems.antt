@@ -2,7 +2,6 @@
 use Rattle.std.specs.Prelude.{ℕ, ◌+◌, ◌*◌, ◌^◌, ◌≤◌, ◌<◌, ◌≡◌, ◌↔◌, ◌≢◌, ◌⊎◌, Bool, true, false, eqb, length}
 use Prim.Native.Char.{Char, code}
 use Prim.Native.String.{String}
-use Prim.Native.String
 use mathlib.Core.List.{List, [], ◌∷◌, ◌++◌, map, Memᴰ}
 use Rattle.std.proofs.Math.Option.{none, some}
 use Rattle.spec_octets.specs.Lists.{any, all, select, is_empty, begins, ends, flatten, All, Selects, Distinct}

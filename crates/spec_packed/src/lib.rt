@@ -1,5 +1,6 @@
 // An answer packed into one number of 64 bits, so that a call needs no output parameter for it.
 #![tactic(auto)]
+
 ghost use Rattle.std.specs.Prelude.{◌≡◌};
 ghost use Rattle.spec_packed.specs.Packed.{packed, packed_refusal};
 

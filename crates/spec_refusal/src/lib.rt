@@ -1,5 +1,6 @@
 // Refusals: an input breaks a rule, so nothing is decided.
 #![tactic(auto)]
+
 ghost use Rattle.std.specs.Prelude.{◌≡◌};
 ghost use Rattle.spec_refusal.specs.Refusal.{number, place};
 

@@ -1,6 +1,6 @@
 -- A request: the names to be certified, in wire form (RFC 1035 section 3.1), one after the other.
 use Rattle.std.specs.Prelude.{ℕ, Bool, false, cond, not, ◌&&◌, List, [], ◌∷◌, ltb, length, ◌≡◌, ◌≢◌, ◌⊎◌}
-use Rattle.std.proofs.Math.Option.{Option, none, some}
+use Rattle.std.proofs.Math.Option.{Option, some}
 use Rattle.spec_limits.specs.Limits.{max_request_octets, max_names}
 use Rattle.spec_refusal.specs.declared.Refusal.{Refusal}
 use Rattle.spec_refusal.specs.declared.Refusal.TheVariants.{RequestTooLong, BadName, TooManyNames}

@@ -1,5 +1,6 @@
 // The answers of the two calls. The rules for them are in specs/.
 #![tactic(auto)]
+
 use spec_refusal::{NameNo, RecordNo, Refusal};
 
 // How many labels are taken off X to reach the name that decides: 0 at X itself.

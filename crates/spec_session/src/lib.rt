@@ -1,5 +1,6 @@
 // A session: a request for one name, decided as the records of one name after the other come in. The rules for it are in specs/.
 #![tactic(auto)]
+
 use spec_rule::Judgement;
 
 // How many octets a text has room for.

@@ -14,7 +14,7 @@ use Rattle.spec_octets.proofs.Runs.{Blank, many_of}
 use Rattle.spec_octets.proofs.TrimEnds.{trim_end_leaves}
 use Rattle.spec_value.specs.IssueValues.{trim, is_parameter_tag, is_parameter, is_blank_alone}
 use Rattle.spec_value.specs.Parameters.{Parameter, parameter_in, behind_name, parameters_in}
-use Rattle.spec_value.specs.Productions.{blanks, parameter, parameters, more, last, parameter_part, value_with_name, parameter_of, parameters_of, parameter_part_of, value_of}
+use Rattle.spec_value.specs.Productions.{blanks, parameter, parameters, more, last, parameter_part, parameter_of, parameters_of, parameter_part_of, value_of}
 use Rattle.spec_value.specs.Theorems.{ParametersByTheGrammar, ProductionsAgree}
 use Rattle.spec_value.proofs.Classes.{Free}
 use Rattle.spec_value.proofs.Blanks.{trim_leaves}

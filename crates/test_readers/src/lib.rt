@@ -1,6 +1,7 @@
 // The readers, exported as one call, so that the independent implementation can be compared with them. Offsets are returned modulo the
 // size of their field: 2^24 in a, 2^16 in b and c.
 #![tactic(auto)]
+
 ghost use Rattle.std.specs.Prelude.{◌≡◌};
 ghost use Rattle.spec_octets.specs.Octets.{equal_ignoring_case};
 ghost use Rattle.read_name.specs.Places.{name_end};
@@ -96,8 +97,7 @@ fn value(v: &[u8]) -> u64
 }
 
 // The answer of the reader with this number. Reader 1 compares s and t; 2, 3 and 6 read s from offset `at` on; the others read s.
-#[unsafe(no_mangle)]
-pub extern "C" fn readers_answer(number: usize, s: &[u8], t: &[u8], at: usize) -> u64
+pub fn readers_answer(number: usize, s: &[u8], t: &[u8], at: usize) -> u64
     ensures { result ≡ reader_answer number s.now t.now at }
 {
     match number {

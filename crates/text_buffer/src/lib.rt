@@ -1,5 +1,6 @@
 // Writes octets at the start of the caller's buffer and returns how many. If they don't all fit, nothing is written and 0 is returned.
 #![tactic(auto)]
+
 ghost use Rattle.std.specs.Prelude.{◌≡◌};
 ghost use Rattle.spec_octets.specs.Octets.{lowered};
 ghost use Rattle.spec_octets.specs.Buffer.{filled, filled_length};

@@ -1,5 +1,6 @@
 // Tests of all octets of a text against a class, and removal of white space at either end.
 #![tactic(auto)]
+
 ghost use Rattle.std.specs.Prelude.{◌≡◌};
 ghost use Rattle.spec_octets.specs.Lists.{all};
 ghost use Rattle.spec_octets.specs.Octets.{trim_start, trim_end, is_parameter_octet};

@@ -1,5 +1,6 @@
 // Texts of octets: comparing without regard to letter case.
 #![tactic(auto)]
+
 ghost use Rattle.std.specs.Prelude.{◌≡◌, ◌&&◌, ◌≤◌, ◌<◌, eqb, length};
 ghost use Rattle.spec_octets.specs.Octets.{lower, equal_ignoring_case};
 

@@ -1,5 +1,6 @@
 // Numbers in decimal, read and written.
 #![tactic(auto)]
+
 ghost use Rattle.std.specs.Prelude.{◌≡◌, ◌≤◌, length};
 ghost use Rattle.spec_octets.specs.WrittenDecimal.{decimal, three_digits};
 ghost use Rattle.spec_octets.specs.Buffer.{Put, filled, filled_length};

@@ -1,5 +1,6 @@
 // Texts of octets: the comparison octet for octet, for texts in which letter case matters.
 #![tactic(auto)]
+
 ghost use Rattle.std.specs.Prelude.{◌≡◌};
 ghost use Rattle.spec_octets.specs.Octets.{same};
 

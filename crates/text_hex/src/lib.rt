@@ -1,5 +1,6 @@
 // Octets in hexadecimal (RFC 6698 section 2.2): two digits written in lower case; the value of one digit in either case.
 #![tactic(auto)]
+
 ghost use Rattle.std.specs.Prelude.{◌≡◌, ◌<◌};
 ghost use Rattle.spec_octets.specs.Buffer.{filled, filled_length};
 ghost use Rattle.spec_tlsa_line.specs.Hex.{hex_digit, hex_octet, is_hex_digit, hex_value};

@@ -1,5 +1,6 @@
 // Labels: testing one, finding the end of a piece, and labels joined by dots, as in issuer domain names and the names in issue values.
 #![tactic(auto)]
+
 ghost use Rattle.std.specs.Prelude.{◌≡◌};
 ghost use Rattle.spec_octets.specs.Label.{is_label};
 ghost use Rattle.text_labels.specs.Places.{piece_end};

@@ -1,5 +1,6 @@
 // The fields of TLSA data (RFC 6698 section 2.1) and their known values. A field of any other value makes its record unusable.
 #![tactic(auto)]
+
 ghost use Rattle.std.specs.Prelude.{◌≡◌};
 ghost use Rattle.tlsa_fields.specs.Fields.{usage_of, selector_of, matching_type_of};
 

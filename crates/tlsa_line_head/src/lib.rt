@@ -1,5 +1,6 @@
 // The number fields of a TLSA line (RFC 6698 section 2.2), written: usage, selector and matching type, each with a space behind it.
 #![tactic(auto)]
+
 ghost use Rattle.std.specs.Prelude.{◌≡◌, ◌≤◌, length};
 ghost use Rattle.spec_octets.specs.Buffer.{Put, filled, filled_length};
 ghost use Rattle.tlsa_line_head.specs.Places.{number_field, two_numbers, line_head};

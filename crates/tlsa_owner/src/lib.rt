@@ -1,5 +1,6 @@
 // Writes the owner of the TLSA records of a service (RFC 6698 section 3): _443._tcp. and the host, in wire form.
 #![tactic(auto)]
+
 ghost use Rattle.std.specs.Prelude.{◌≡◌, ◌≤◌, length};
 ghost use Rattle.spec_limits.specs.Limits.{max_name_octets};
 ghost use Rattle.spec_octets.specs.Buffer.{Put};

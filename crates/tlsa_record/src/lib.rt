@@ -1,5 +1,6 @@
 // Whether TLSA data is usable, and whether it matches a certificate or its key (RFC 6698 section 2.1).
 #![tactic(auto)]
+
 ghost use Rattle.std.specs.Prelude.{◌≡◌};
 ghost use Rattle.tlsa_record.specs.Places.{is_usable_data, is_match_data, presented};
 

@@ -1,5 +1,6 @@
 // The parts of a TLS service (RFC 6698 section 3): whether host, port and transport keep their rules.
 #![tactic(auto)]
+
 ghost use Rattle.std.specs.Prelude.{◌≡◌};
 ghost use Rattle.spec_record.specs.Records.{is_some};
 ghost use Rattle.spec_tlsa.specs.Owners.{is_port, is_transport, host_name};
