@@ -92,9 +92,10 @@ class Patches(unittest.TestCase):
         return str(path)
 
     def test_a_change_that_is_no_fraud_is_told(self):
-        path = next(p for p in TREE.files(self.crate, "specs") if p.read_text().startswith("-- "))
+        path = next(p for part in ("specs", "src") for p in TREE.files(self.crate, part) if re.match("(?:--|//) ", p.read_text()))
         comment = path.read_text().splitlines()[0]
-        patch = self.written("own.edit", f"# Another comment.\nfile: specs/{path.name}\nold: {comment}\nnew: -- {comment[3:]}!\n")
+        file = path.relative_to(ROOT / "crates" / self.crate)
+        patch = self.written("own.edit", f"# Another comment.\nfile: {file}\nold: {comment}\nnew: {comment}!\n")
         status, out, err = run("--patch", patch, "--crate", self.crate)
         self.assertEqual(1, status, out + err)
         self.assertIn("NOT REFUSED", out)
