@@ -29,6 +29,7 @@ stands in backquotes is looked up by its form:
   checked (f b)        an expression: each name in it
   specs/A.antt, a/*/b  a path of the repository, from its top, from crates/ or, by its last name, anywhere
   rt check NAME        a command: the paths and crates in it
+  rattle-kit-..        the version of the Rattle kit: it must be that of kit-version.txt
 
 Numbers, octets, DNS names, records as text, options (looked up in the scripts) and answers of the desk
 program are no names. tools/check-docs-words.txt lists what no rule tells apart, each with its reason.
@@ -230,7 +231,7 @@ class Checker:
     def path(self, text, beside=None):
         """A path of the repository. `beside` is a folder that was named before it."""
         text = text.strip("/") if text != "/" else text
-        built = re.fullmatch(r"target(?:/bin/(\w+)|/staticlib/lib(\w+)\.a|/.*)?|lib(\w+)\.a", text)
+        built = re.fullmatch(r"target(?:/staticlib/lib(\w+)\.a|/.*)?|lib(\w+)\.a|crates/(\w+)/out(?:/.*)?", text)
         if built:
             crate = built[1] or built[2] or built[3]
             return [Place(self.root / "target")] if crate is None or crate in self.tree.crates else []
@@ -330,6 +331,11 @@ class Checker:
     def look_up(self, document, number, span, beside):
         """The places of what stands in one pair of backquotes. None where it is no name, or is told by an error."""
         if self.allowed(span) or not_a_name(span):
+            return None
+        if span.startswith("rattle-kit-"):
+            now = (self.root / "kit-version.txt").read_text().strip()
+            if span != now:
+                self.error(document, number, f"`{span}`: kit-version.txt has {now}")
             return None
         if re.fullmatch(r"--[a-z-]+", span):
             if span not in self.options:

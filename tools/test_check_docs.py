@@ -229,6 +229,12 @@ class Copy(unittest.TestCase):
         self.assertEqual(1, len(found), found)
         self.assertIn(f"{self.tree.crates[0]}/no_such_edit: no such edit", found[0])
 
+    def test_the_version_of_the_kit(self):
+        self.changed(self.root / "kit-version.txt", "rattle-kit-0 logic 0\n")
+        found = self.new_errors()
+        self.assertTrue(found)
+        self.assertTrue(all("kit-version.txt has rattle-kit-0 logic 0" in e for e in found), found)
+
     def test_a_word_that_no_document_has(self):
         words = self.root / check_docs.WORDS
         self.changed(words, words.read_text() + "neverSaid  a reason\n")
