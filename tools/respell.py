@@ -6,8 +6,9 @@ usage: python3 tools/respell.py [ROOT]
 It was run once, right after the kit's port.py, when the repository came to the kit of kit-version.txt. It collects the names that
 crates/*/specs and the lemma files of crates/*/proofs declare, and turns `isLabel` to `is_label`, `host-label` to `host_label` and
 `Host-label` to `HostLabel`, where they are declared and wherever they are used: in specs, proofs, clauses, and between backquotes in the
-documents. A lemma that would get the name of a definition ends in `_lem`. Names from Rattle source, names that Rattle makes and names of
-the kit's library keep their spelling. Two names that would fall together stop it before anything is written.
+documents. A lemma that would get the name of a definition ends in `_lem`; one that is named after a type keeps its dash, as `All-head`.
+Names from Rattle source, names that Rattle makes and names of the kit's library keep their spelling. Two names that would fall together
+stop it before anything is written.
 """
 import collections
 import glob
@@ -63,6 +64,11 @@ def declared(files):
     return found
 
 
+def is_type(name, file):
+    """Whether a lemma file declares this name as a type."""
+    return re.search(r"^\s*(?:\w+ )*" + re.escape(name) + r" .*Type \d$", open(file, encoding="utf-8").read(), re.M)
+
+
 def mapping(root):
     specs = sorted(glob.glob(root + "/crates/*/specs/**/*.antt", recursive=True))
     of_specs, of_proofs = declared(specs), declared(sorted(lemma_files(root)))
@@ -70,6 +76,10 @@ def mapping(root):
     for n in list(of_specs) + list(of_proofs):
         if n in CHOSEN:
             turned[n] = CHOSEN[n]
+        elif n[0].isupper() and n not in of_specs and not is_type(n, of_proofs[n]):
+            head, dash, rest = n.partition("-")
+            if "-" in rest:
+                turned[n] = head + dash + snake(rest)
         elif n[0].isupper():
             if "-" in n:
                 turned[n] = camel(n)

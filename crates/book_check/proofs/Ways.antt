@@ -12,7 +12,7 @@ use Rattle.spec_refusal.specs.declared.Refusal.{Refusal}
 use Rattle.spec_refusal.specs.declared.Check.{Check}
 use Rattle.spec_refusal.specs.declared.Check.TheVariants.{Accepted, Refused}
 use Rattle.spec_octets.specs.Lists.{any}
-use Rattle.spec_octets.proofs.ListLaws.{or_eq_false, any_false, AllImp}
+use Rattle.spec_octets.proofs.ListLaws.{or_eq_false, any_false, All-imp}
 use Rattle.spec_record.specs.Records.{Record, records, layout_refusal, counts, clashes, clash_from, conflict_at, conflict_refusal, or_refusal, book_refusal}
 use Rattle.read_record.specs.declared.BookLayout.{BookLayout}
 use Rattle.read_record.specs.declared.BookLayout.TheVariants.{Refused as NotLaidOut, WithoutAliases, WithAliases}
@@ -44,7 +44,7 @@ by_index book table₀ links₀ heads₀ blank table links heads n rows count l 
 none_before : (r : Record) (before : List Record) → is_alias_record r ≡ false → any is_alias_record before ≡ false → clashes r before ≡ false
 unfolding clashes
 none_before r before e f =
-    rw ((any_false _ before).1 (AllImp (λ p g. off (counts p) _ _ _ e g) ((any_false is_alias_record before).0 f))) (and-false (counts r))
+    rw ((any_false _ before).1 (All-imp (λ p g. off (counts p) _ _ _ e g) ((any_false is_alias_record before).0 f))) (and-false (counts r))
   where
     off : (c s x y : Bool) → x ≡ false → y ≡ false → c && ((x || y) && s) ≡ false
     off c s x y e f = rw (e, f) (and-false c)

@@ -8,7 +8,7 @@ use mathlib.Core.Option.{none}
 use lib.ListN.{length, drop, length-append}
 use borrow.Author.Tests.{eq-eqb, ne_eqb}
 use Rattle.spec_octets.specs.Lists.{All, all_nil, all_cons}
-use Rattle.spec_octets.proofs.ListLaws.{AllHead}
+use Rattle.spec_octets.proofs.ListLaws.{All-head}
 use Rattle.spec_octets.proofs.SelectedLists.{selects_all}
 use Rattle.spec_name.specs.Names.{Label, Name, wire, ancestors, GoodName}
 use Rattle.spec_name.proofs.NameLaws.{fewer_labels}
@@ -60,7 +60,7 @@ module _ (book table links heads onward : List ℕ) (rule : Book) where
         let there : drop at s ≡ wire (l ∷ ls) ++ [] = rw append-nil here in
         let behind : drop (at + 1 + length l) s ≡ wire ls = rw append-nil at (behind_label s at l ls [] there) in
         let rest = climb s steps (at + 1 + length l) ls behind (good_parent l ls good) (omega arith) in
-        rw (label_passed s at l ls [] there (AllHead good.0).0, ne_eqb (at + 1 + length l) at (λ z. omega arith), here)
+        rw (label_passed s at l ls [] there (All-head good.0).0, ne_eqb (at + 1 + length l) at (λ z. omega arith), here)
         (first_place (lookup rule (l ∷ ls)) _ _ _ (map (lookup rule) (ancestors ls)) (look (l ∷ ls) good) rest (never_bare (l ∷ ls)))
       where
         never_bare : (x : Name) → lookup rule x ≡ found [] → ⊥

@@ -15,7 +15,7 @@ use Rattle.spec_limits.specs.Limits.{max_book_octets, max_records}
 use Rattle.spec_refusal.specs.declared.Refusal.{Refusal}
 use Rattle.spec_refusal.specs.declared.Refusal.TheVariants.{BookTooLong}
 use Rattle.spec_octets.specs.Lists.{cons_if, select, begins, All}
-use Rattle.spec_octets.proofs.ListLaws.{true_or_false, alike, AllHead, AllTail}
+use Rattle.spec_octets.proofs.ListLaws.{true_or_false, alike, All-head, All-tail}
 use Rattle.spec_name.specs.Names.{Name, wire, same_name, GoodName}
 use Rattle.spec_name.proofs.WholeNames.{whole_names}
 use Rattle.spec_record.specs.Records.{Record, is_caa, is_alias, record_items, record_refusal, records, layout_refusal, counts, clashes}
@@ -69,8 +69,8 @@ module _ (book table : List ℕ) (r : Record) (good : GoodName r.owner) (countin
       All (λ p. GoodName p.owner) (before ++ (r ∷ after)) →
       clashes_with table i (first_of (select owned (numbers_from k (length (before ++ (r ∷ after)))))) ≡ begins (with_alias r) (select (is_rival r) before)
   first_among [] k e t g =
-      rw (owned_rival k r t.0 (AllHead g) ∙ ap₂ ◌&&◌ counting (same_self r.owner), le-ltb k i (omega arith))
-  first_among (p ∷ before) k e t g = go (true_or_false (is_rival r p)) (first_among before (suc k) (omega arith) t.1 (AllTail g))
+      rw (owned_rival k r t.0 (All-head g) ∙ ap₂ ◌&&◌ counting (same_self r.owner), le-ltb k i (omega arith))
+  first_among (p ∷ before) k e t g = go (true_or_false (is_rival r p)) (first_among before (suc k) (omega arith) t.1 (All-tail g))
     where
       rest : List ℕ
       rest = numbers_from (suc k) (length (before ++ (r ∷ after)))
@@ -80,8 +80,8 @@ module _ (book table : List ℕ) (r : Record) (good : GoodName r.owner) (countin
           clashes_with table i (first_of (select owned rest)) ≡ begins (with_alias r) (select (is_rival r) before) →
           clashes_with table i (first_of (cons_if (owned k) k (select owned rest))) ≡ begins (with_alias r) (cons_if (is_rival r p) p (select (is_rival r) before))
       go (inl f) later =
-          rw (owned_rival k p t.0 (AllHead g) ∙ f, f, lt-ltb k i (omega arith)) (ap₂ ◌||◌ alias t.0.alias)
-      go (inr f) later = rw (owned_rival k p t.0 (AllHead g) ∙ f, f) later
+          rw (owned_rival k p t.0 (All-head g) ∙ f, f, lt-ltb k i (omega arith)) (ap₂ ◌||◌ alias t.0.alias)
+      go (inr f) later = rw (owned_rival k p t.0 (All-head g) ∙ f, f) later
 
 module _ (book table : List ℕ) where
   row_at :
@@ -91,8 +91,8 @@ module _ (book table : List ℕ) where
   row_at (p ∷ before) r after k t = let there : k + suc (length before) ≡ suc k + length before = omega arith in rw there (row_at before r after (suc k) t.1)
 
   good_at : (before : List Record) (r : Record) (after : List Record) → All (λ p. GoodName p.owner) (before ++ (r ∷ after)) → GoodName r.owner
-  good_at [] r after g = AllHead g
-  good_at (p ∷ before) r after g = good_at before r after (AllTail g)
+  good_at [] r after g = All-head g
+  good_at (p ∷ before) r after g = good_at before r after (All-tail g)
 
 -- the test of record i is right where none before it clashes
 right :

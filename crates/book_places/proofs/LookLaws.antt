@@ -13,7 +13,7 @@ use Rattle.spec_limits.specs.Limits.{max_book_octets, max_aliases}
 use Rattle.spec_refusal.specs.declared.RecordNo.{RecordNo}
 use Rattle.spec_refusal.specs.declared.Refusal.TheVariants.{BookTooLong}
 use Rattle.spec_octets.specs.Lists.{cons_if, select, All, all_nil, all_cons}
-use Rattle.spec_octets.proofs.ListLaws.{AllJoin, true_or_false, not_passed}
+use Rattle.spec_octets.proofs.ListLaws.{All-join, true_or_false, not_passed}
 use Rattle.spec_octets.specs.Octets.{lowered}
 use Rattle.spec_name.specs.Names.{Name, wire, same_name, GoodName}
 use Rattle.spec_name.proofs.WholeNames.{whole_names}
@@ -60,7 +60,7 @@ module _ (book table : List ℕ) where
 
   caa_hold : (k : ℕ) (rs : List Record) → TellsFrom book table k rs → All Holds (caa_records_from k rs)
   caa_hold k [] t = all_nil
-  caa_hold k (r ∷ rs) t = AllJoin (one (is_caa r.type r.class) (property r.rdata) refl) (caa_hold (suc k) rs t.1)
+  caa_hold k (r ∷ rs) t = All-join (one (is_caa r.type r.class) (property r.rdata) refl) (caa_hold (suc k) rs t.1)
     where
       one : (b : Bool) (o : Option Property) → property r.rdata ≡ o → All Holds (cond b (kept (as_caa k r.owner) o) [])
       one true none e = all_nil

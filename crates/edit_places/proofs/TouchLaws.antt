@@ -13,7 +13,7 @@ use Rattle.spec_limits.specs.Limits.{max_aliases}
 use Rattle.spec_refusal.specs.declared.RecordNo.{RecordNo}
 use Rattle.spec_octets.specs.Lists.{any}
 use Rattle.spec_octets.specs.Octets.{equal_ignoring_case}
-use Rattle.spec_octets.proofs.ListLaws.{AllHead}
+use Rattle.spec_octets.proofs.ListLaws.{All-head}
 use Rattle.spec_name.specs.Names.{Name, wire, same_name, ancestors, GoodName}
 use Rattle.spec_name.proofs.NameLaws.{fewer_labels}
 use Rattle.spec_name.proofs.WholeNames.{whole_names}
@@ -98,7 +98,7 @@ module _ (book : List ℕ) (accepted : book_refusal book ≡ none) (o : Name) (o
       let behind : drop (at + 1 + length l) s ≡ wire ls = rw append-nil at (behind_label s at l ls [] there) in
       let rest = climb s steps (at + 1 + length l) ls behind (good_parent l ls good) (omega arith) in
       rw (
-        label_passed s at l ls [] there (AllHead good.0).0,
+        label_passed s at l ls [] there (All-head good.0).0,
         ne_eqb (at + 1 + length l) at (λ z. omega arith),
         here,
         touches_told (l ∷ ls) good,

@@ -11,7 +11,7 @@ use lib.ListN.{length, take, drop}
 use denote.Enum.Declared.{tag_of as variant}
 use Rattle.spec_limits.specs.Limits.{max_names}
 use Rattle.spec_octets.specs.Lists.{All}
-use Rattle.spec_octets.proofs.ListLaws.{AllHead, AllTail}
+use Rattle.spec_octets.proofs.ListLaws.{All-head, All-tail}
 use Rattle.spec_refusal.specs.Checks.{checked}
 use Rattle.spec_refusal.proofs.Checked.{refused, accepted}
 use Rattle.spec_refusal.specs.declared.RecordNo.{RecordNo}
@@ -98,13 +98,13 @@ module _ (who : Applicant) (request issuer book table links heads onward : List 
     passes = none_refuses (judge_checks request issuer who book) ready.accepted
 
     book_passes : book_refusal book ≡ none
-    book_passes = AllHead (AllTail (AllTail (AllTail passes)))
+    book_passes = All-head (All-tail (All-tail (All-tail passes)))
 
     pub names_start : (at k : ℕ) → at ≡ 0 → k ≡ 0 → Judged at k
     unfolding judge decisions verdict
     names_start at k a b = rw (a, b) (record {
       names = requested_names request;
-      left = all_names request (AllHead passes);
+      left = all_names request (All-head passes);
       answer = rw ready.accepted;
       ready = ready;
     })

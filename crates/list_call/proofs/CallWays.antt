@@ -15,7 +15,7 @@ use Rattle.spec_refusal.specs.declared.Refusal.TheVariants.{NoRoom}
 use Rattle.spec_refusal.specs.Checks.{checked}
 use Rattle.spec_refusal.proofs.Checked as checks
 use Rattle.spec_octets.specs.Lists.{All}
-use Rattle.spec_octets.proofs.ListLaws.{AllImp, AllHead, AllTail}
+use Rattle.spec_octets.proofs.ListLaws.{All-imp, All-head, All-tail}
 use Rattle.spec_octets.specs.Buffer.{filled}
 use Rattle.spec_request.specs.Request.{request_refusal}
 use Rattle.spec_applicant.specs.Applicant.{Applicant, applicant_refusal}
@@ -67,7 +67,7 @@ module _ (who : Applicant) (request book : List ℕ) (c : Check)
   pub heads_lent : c ≡ Accepted → (heads : List ℕ) → heads ≡ replicate max_records no_record → HeadsLent who request book heads
   heads_lent g heads e =
       let good = none_refuses inputs (checks.accepted (first_refusal inputs) f g) in
-      record { names_good = AllHead good; applicant_good = AllHead (AllTail good); records_good = AllHead (AllTail (AllTail good)); headed = e }
+      record { names_good = All-head good; applicant_good = All-head (All-tail good); records_good = All-head (All-tail (All-tail good)); headed = e }
 
 -- by the sizes of the arrays
 module _ (who : Applicant) (request book heads : List ℕ) (lent : HeadsLent who request book heads) (m k n : ℕ) where
@@ -142,7 +142,7 @@ module _ (book names rounds buffer : List ℕ) (p : Permitted) (who : Applicant)
 
     names_short : All (λ n. length n < 256) kept
     unfolding max_issuer_octets
-    names_short = AllImp (λ n w. omega (arith, w.0.1)) ((permitted_issuers_exactly request who book good.0 good.1 good.2).well_formed kept may_sign)
+    names_short = All-imp (λ n w. omega (arith, w.0.1)) ((permitted_issuers_exactly request who book good.0 good.1 good.2).well_formed kept may_sign)
 
     -- s is the size of the list, and the buffer behind the call of put_entries is `after`
     module _ (s : ListSize) (h : s ≡ size_of (kept_names book names p.count rounds p.round)) (after : List ℕ)

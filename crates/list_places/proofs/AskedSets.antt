@@ -10,7 +10,7 @@ use lib.Seq.{take_all}
 use Rattle.spec_limits.specs.Limits.{max_book_octets, max_records}
 use Rattle.spec_octets.specs.Lists.{all, any, cons_if, select, All, all_nil, all_cons}
 use Rattle.spec_octets.specs.Octets.{same, lowered}
-use Rattle.spec_octets.proofs.ListLaws.{AllImp, AllMap}
+use Rattle.spec_octets.proofs.ListLaws.{All-imp, All-map}
 use Rattle.spec_octets.proofs.SelectTests.{select_twice}
 use Rattle.spec_octets.proofs.SmallLetters.{lowered_twice}
 use Rattle.spec_applicant.specs.Applicant.{Applicant}
@@ -78,7 +78,7 @@ module _ (who : Applicant) (book table links : List ℕ) (small : length book �
   lower_grantees : (s : TaggedSet) → All (λ m. lowered m ≡ m) (grantees s)
   lower_grantees s =
       rw (← grants_by_offset who book table links small s)
-      (AllMap {P = λ g. Unit} (λ g. lowered (grant_octets book g)) (λ g h. lowered_twice (grant_octets book g)) (anything (grants_by who book table links s)))
+      (All-map {P = λ g. Unit} (λ g. lowered (grant_octets book g)) (λ g h. lowered_twice (grant_octets book g)) (anything (grants_by who book table links s)))
     where
       anything : (gs : List Grant) → All (λ g. Unit) gs
       anything [] = all_nil
@@ -168,7 +168,7 @@ module _ (who : Applicant) (book table links : List ℕ) (small : length book �
               ∙ select_alike
               (λ m. any (same m) (grantees set) && all (permits m) ys)
               (λ m. any (same (lowered m)) (grantees set) && all (permits m) ys)
-              (AllImp (λ m j. rw j) (kept_lower book p.names p.answer.count p.rounds p.answer.round))))
+              (All-imp (λ m j. rw j) (kept_lower book p.names p.answer.count p.rounds p.answer.round))))
           go false e =
               ap (λ ns. listed (select (λ m. all (permits m) ys) ns))
               (ap (λ rs. kept_names book (collected who book table links set p.names).names (collected who book table links set p.names).count rs 0) (h.fresh e)

@@ -6,7 +6,7 @@ use mathlib.Core.Bool.{Bool, true, false, ◌&&◌}
 use mathlib.Core.List.{List, [], ◌∷◌, ◌++◌, append_assoc}
 use Rattle.spec_octets.specs.Lists.{all, any, select, All, all_nil, all_cons}
 use Rattle.spec_octets.specs.Octets.{same, lowered}
-use Rattle.spec_octets.proofs.ListLaws.{or_eq_true, AllImp}
+use Rattle.spec_octets.proofs.ListLaws.{or_eq_true, All-imp}
 use Rattle.spec_octets.proofs.SelectLaws.{selected}
 use Rattle.spec_octets.proofs.SelectTests.{select_every, select_nothing, select_twice}
 use Rattle.spec_octets.proofs.SelectedLists.{selects_have, selects_all}
@@ -88,7 +88,7 @@ Absorbed (listed ms) a = All (λ m. permits m a ≡ true) ms
 
 pub absorbs : (i : Issuers) (a : Authorization) (ys : List Authorization) → Absorbed i a → left i (a ∷ ys) ≡ left i ys
 absorbs anyone a ys e = rw e
-absorbs (listed ms) a ys h = ap listed (select_alike (λ m. permits m a && all (permits m) ys) (λ m. all (permits m) ys) (AllImp (λ m e. rw e) h))
+absorbs (listed ms) a ys h = ap listed (select_alike (λ m. permits m a && all (permits m) ys) (λ m. all (permits m) ys) (All-imp (λ m e. rw e) h))
 
 -- and leaves them so once they are narrowed
 pub still_absorbed : (i : Issuers) (a b : Authorization) → Absorbed i b → Absorbed (left i (a ∷ [])) b
@@ -117,7 +117,7 @@ among : (ns : List (List ℕ)) → All (λ n. lowered n ≡ n) ns → All (λ m.
 among [] all_nil = all_nil
 among (n ∷ ns) (all_cons e h) = all_cons
     ((or_eq_true (same (lowered n) n) (any (same (lowered n)) ns)).1 (inl ((same_equal (lowered n) n).1 e)))
-    (AllImp (λ m j. (or_eq_true (same (lowered m) n) (any (same (lowered m)) ns)).1 (inr j)) (among ns h))
+    (All-imp (λ m j. (or_eq_true (same (lowered m) n) (any (same (lowered m)) ns)).1 (inr j)) (among ns h))
 
 -- what was said once is absorbed from then on
 pub absorbs_itself : (i : Issuers) (a : Authorization) → Lower a → Absorbed (left i (a ∷ [])) a
@@ -125,7 +125,7 @@ absorbs_itself anyone unrestricted l = refl
 absorbs_itself anyone (forbidden r) l = all_nil
 absorbs_itself anyone (unresolved r) l = all_nil
 absorbs_itself anyone (granted r ns) l = select_all (λ n. true) (distinct_all (among ns l))
-absorbs_itself (listed ms) a l = AllImp (λ m e. go (permits m a) e) (select_have (λ m. all (permits m) (a ∷ [])) ms)
+absorbs_itself (listed ms) a l = All-imp (λ m e. go (permits m a) e) (select_have (λ m. all (permits m) (a ∷ [])) ms)
   where
     go : (t : Bool) → t && true ≡ true → t ≡ true
     go true e = e

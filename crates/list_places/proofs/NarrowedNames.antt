@@ -10,7 +10,7 @@ use borrow.Author.Tests.{eq-eqb, ne_eqb}
 use Rattle.spec_limits.specs.Limits.{max_records}
 use Rattle.spec_octets.specs.Lists.{any, cons_if, select, All, all_nil, all_cons}
 use Rattle.spec_octets.specs.Octets.{same, lowered}
-use Rattle.spec_octets.proofs.ListLaws.{AllImp}
+use Rattle.spec_octets.proofs.ListLaws.{All-imp}
 use Rattle.list_places.specs.declared.Grant.{Grant}
 use Rattle.list_places.specs.Grants.{grants_by, grant_octets}
 use Rattle.list_places.specs.Candidates.{candidate_at}
@@ -18,10 +18,10 @@ use Rattle.list_places.specs.Rounds.{kept_from, kept_names, next_round, moved_fr
 use Rattle.list_places.specs.Theorems.{NarrowedByOffset}
 use Rattle.list_places.proofs.GrantNames.{grants_by_offset}
 
-AllTake : {P : ℕ → Type 0} (k : ℕ) {rounds : List ℕ} → All P rounds → All P (take k rounds)
-AllTake zero h = all_nil
-AllTake (suc k) all_nil = all_nil
-AllTake (suc k) (all_cons h more) = all_cons h (AllTake k more)
+All-take : {P : ℕ → Type 0} (k : ℕ) {rounds : List ℕ} → All P rounds → All P (take k rounds)
+All-take zero h = all_nil
+All-take (suc k) all_nil = all_nil
+All-take (suc k) (all_cons h more) = all_cons h (All-take k more)
 
 module _ (book names : List ℕ) (t : ℕ) (small : t < 65535) where
   next_is : next_round t ≡ suc t
@@ -109,7 +109,7 @@ module _ (book names : List ℕ) (t : ℕ) (small : t < 65535) where
   moved_front p (suc k) (suc n) i (r ∷ rounds) = rw (moved_front p k n (suc i) rounds)
 
   moved_within : (p : List ℕ → Bool) (n i : ℕ) (rounds : List ℕ) → All (λ r. r ≤ t) rounds → All (λ r. r ≤ suc t) (moved_from book names p t n i rounds)
-  moved_within p zero i rounds h = AllImp (λ r k. omega arith) h
+  moved_within p zero i rounds h = All-imp (λ r k. omega arith) h
   moved_within p (suc n) i [] all_nil = all_nil
   moved_within p (suc n) i (r ∷ rounds) (all_cons h more) =
       all_cons (go (eqb r t && p (lowered (candidate_at book names i)))) (moved_within p n (suc i) rounds more)
@@ -123,6 +123,6 @@ unfolding kept_names narrowed
 narrowed_by_offset who book table links names rounds fits count t small h s =
     rw (marked_by_lem book names t small count (grants_by who book table links s) rounds, ← grants_by_offset who book table links fits s) (
       rw (moved_front book names t small _ max_records count 0 rounds)
-          (moved_kept book names t small _ count 0 (take max_records rounds) (AllTake max_records h)),
+          (moved_kept book names t small _ count 0 (take max_records rounds) (All-take max_records h)),
       moved_within book names t small _ count 0 rounds h,
     )

@@ -13,7 +13,7 @@ use Rattle.spec_refusal.specs.Checks.{checked}
 use Rattle.spec_refusal.specs.declared.Refusal.TheVariants.{BadAccountOrMethod}
 use Rattle.spec_refusal.specs.declared.Check.TheVariants.{Accepted, Refused}
 use Rattle.spec_octets.specs.Lists.{all}
-use Rattle.spec_octets.proofs.ListLaws.{all_true, AllHead, AllImp, not_passed}
+use Rattle.spec_octets.proofs.ListLaws.{all_true, All-head, All-imp, not_passed}
 use Rattle.spec_octets.proofs.PieceLaws.{pieces_join}
 use Rattle.text_classes.specs.declared.Class.TheVariants.{ParameterOctet}
 use Rattle.text_classes.specs.Classes.{in_class}
@@ -40,10 +40,10 @@ module _ (t : List ℕ) where
   no_comma = all (λ x. not (eqb x (code ","))) t
 
   comma_free : (no_comma ≡ true) → Free (code ",") t
-  comma_free h = AllImp (λ x n. eqb-false x (code ",") (not-true (eqb x (code ",")) n)) ((all_true (λ x. not (eqb x (code ","))) t).0 h)
+  comma_free h = All-imp (λ x n. eqb-false x (code ",") (not-true (eqb x (code ",")) n)) ((all_true (λ x. not (eqb x (code ","))) t).0 h)
 
   free_comma : Free (code ",") t → no_comma ≡ true
-  free_comma h = (all_true (λ x. not (eqb x (code ","))) t).1 (AllImp (λ x n. rw (ne_eqb x (code ",") n)) h)
+  free_comma h = (all_true (λ x. not (eqb x (code ","))) t).1 (All-imp (λ x n. rw (ne_eqb x (code ",") n)) h)
 
   -- e is the offset of the first comma
   module _ (e : ℕ) (cut : e ≡ piece_end (code ",") t 0) where
@@ -58,7 +58,7 @@ module _ (t : List ℕ) where
     unfolding is_method
     method_plain h r told =
         let (made, some, free) = (pieces_join (code ",") t _).0 (cut_last (code ",") t e cut h) in
-        told ∙ rw (free_comma (rw (← made) at (AllHead free)), and-true)
+        told ∙ rw (free_comma (rw (← made) at (All-head free)), and-true)
 
 module _ (a m : List ℕ) (s : Bool) (account : s ≡ is_account a) where
   pub account_refused : s ≡ false → Refused BadAccountOrMethod ≡ checked (applicant_refusal (record { account = a; method = m }))

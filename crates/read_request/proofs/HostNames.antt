@@ -10,7 +10,7 @@ use borrow.Author.Tests.{lt-ltb, le-leb}
 use Rattle.spec_octets.specs.Lists.{All, all, is_empty}
 use Rattle.spec_limits.specs.Limits.{max_label_octets}
 use Rattle.spec_octets.specs.Label.{is_label, is_host_label}
-use Rattle.spec_octets.proofs.ListLaws.{AllHead, AllTail}
+use Rattle.spec_octets.proofs.ListLaws.{All-head, All-tail}
 use Rattle.spec_name.specs.Names.{Label, Name, wire, GoodName}
 use Rattle.read_name.specs.Places.{parent_place}
 use Rattle.spec_name.proofs.NameLaws.{GoodLabel}
@@ -36,7 +36,7 @@ module _ (x : List ℕ) (n : Name) where
       where
         go : (left : Name) → drop at x ≡ wire left ++ [] → All GoodLabel left → (ltb 0 at || not (is_empty left)) && all is_host_label left ≡ ltb 0 at
         go [] e g = rw (or-false, and-true)
-        go (l ∷ ls) e g = absurd (omega (arith, label_passed x at l ls [] e (AllHead g).0))
+        go (l ∷ ls) e g = absurd (omega (arith, label_passed x at l ls [] e (All-head g).0))
 
     -- r is what is said of the label there, which the name's wire form keeps within its limit
     module _ (h : at < next) (part : List ℕ) (r : Bool) (is : part ≡ take (next - (at + 1)) (drop (at + 1) x)) (told : r ≡ is_label part) where
@@ -52,7 +52,7 @@ module _ (x : List ℕ) (n : Name) where
         where
           go : (left : Name) → drop at x ≡ wire left ++ [] → All GoodLabel left → (ltb 0 at || not (is_empty left)) && all is_host_label left ≡ false
           go [] e g = absurd (omega (arith, root_stays x at [] e))
-          go (l ∷ ls) e g = rw ((label l ls e (AllHead g)).1, t, and-false)
+          go (l ∷ ls) e g = rw ((label l ls e (All-head g)).1, t, and-false)
 
       pub labels_turn : r ≡ true → LabelsLeft x n next
       labels_turn t = go w.left w.stands w.good w.same
@@ -61,10 +61,10 @@ module _ (x : List ℕ) (n : Name) where
               is_host_name n ≡ (ltb 0 at || not (is_empty left)) && all is_host_label left → LabelsLeft x n next
           go [] e g f = absurd (omega (arith, root_stays x at [] e))
           go (l ∷ ls) e g f =
-              let (place, told) = label l ls e (AllHead g) in
+              let (place, told) = label l ls e (All-head g) in
               record {
                 left = ls;
                 stands = rw place (behind_label x at l ls [] e);
-                good = AllTail g;
+                good = All-tail g;
                 same = f ∙ rw (told, t, or-true, lt-ltb 0 next (omega arith));
               }

@@ -10,7 +10,7 @@ use lib.ListN.{length, drop, take, length-drop, length-append}
 use lib.Seq.{drop-drop, take_at, drop-append_seam, length-take-le}
 use Rattle.spec_octets.specs.Octets.{text}
 use Rattle.spec_octets.specs.Reader.{given}
-use Rattle.spec_octets.proofs.ListLaws.{AllTail}
+use Rattle.spec_octets.proofs.ListLaws.{All-tail}
 use Rattle.spec_octets.proofs.Texts.{same_equal}
 use Rattle.spec_octets.proofs.ReaderLaws.{fault_told, bind_some, given_some}
 use Rattle.spec_name.specs.Names.{Name, wire, name, GoodName}

@@ -8,7 +8,7 @@ use mathlib.Core.List.{List, [], ◌∷◌, ◌++◌, map}
 use mathlib.Core.Option.{Option, none, some, none-ne-some}
 use lib.ListN.{length, drop, length-drop, drop_of_length-le}
 use Rattle.spec_octets.specs.Lists.{All, all_nil, all_cons, flatten}
-use Rattle.spec_octets.proofs.ListLaws.{AllHead, AllTail, alike, not_passed}
+use Rattle.spec_octets.proofs.ListLaws.{All-head, All-tail, alike, not_passed}
 use Rattle.spec_octets.proofs.ReaderLaws.{pure_some}
 use Rattle.spec_der.specs.Elements.{Element, wire_element, element, elements, GoodElement}
 use Rattle.spec_der.proofs.ElementLaws.{element_is_its_form, elements_end_to_end}
@@ -41,7 +41,7 @@ module _ (s : List ℕ) (at p : ℕ) (left : are_elements (drop at s) ≡ are_el
         (e : Element) × (rest : List Element) × (element (drop p s) ≡ some (e, flatten (map wire_element rest))) × All GoodElement rest
     first [] front good = absurd (omega (arith, ap length front, length-drop p s))
     first (e ∷ es) front good =
-        (e, es, (element_is_its_form (drop p s) e (flatten (map wire_element es))).1 (front, AllHead good), AllTail good)
+        (e, es, (element_is_its_form (drop p s) e (flatten (map wire_element es))).1 (front, All-head good), All-tail good)
 
     pub elements_broken : o ≡ Fault → false ≡ are_elements (drop at s)
     elements_broken g = sym (left ∙ not_passed (are_elements (drop p s)) (λ t.

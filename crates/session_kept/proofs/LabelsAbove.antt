@@ -7,7 +7,7 @@ use lib.Dec.{ltb}
 use lib.ListN.{length, drop, length-drop}
 use borrow.Author.Tests.{lt-ltb, le-ltb}
 use Rattle.spec_octets.specs.Lists.{All}
-use Rattle.spec_octets.proofs.ListLaws.{AllHead, AllTail}
+use Rattle.spec_octets.proofs.ListLaws.{All-head, All-tail}
 use Rattle.spec_name.specs.Names.{Name, wire, GoodName}
 use Rattle.spec_name.proofs.NameLaws.{GoodLabel}
 use Rattle.read_name.specs.Places.{parent_place}
@@ -37,7 +37,7 @@ module _ (s : List ℕ) (x : Name) (up : ℕ) where
       where
         go : (rest : Name) → drop at s ≡ wire rest ++ [] → All GoodLabel rest → above_at (length s) rest left ≡ Top
         go [] e g = rw (le-ltb left 0 (omega arith))
-        go (l ∷ ls) e g = absurd (omega (arith, label_passed s at l ls [] e (AllHead g).0))
+        go (l ∷ ls) e g = absurd (omega (arith, label_passed s at l ls [] e (All-head g).0))
 
     module _ (h : at < next) where
       pub at_label : left ≡ 0 → (k : ℕ) → k ≡ length s - at → Label (record { offset = at; length = k }) ≡ above_at (length s) x up
@@ -59,9 +59,9 @@ module _ (s : List ℕ) (x : Name) (up : ℕ) where
           go : (rest : Name) → drop at s ≡ wire rest ++ [] → All GoodLabel rest → above_at (length s) x up ≡ above_at (length s) rest left → LabelsLeft s x up next left'
           go [] e g same = absurd (omega (arith, root_stays s at [] e))
           go (l ∷ ls) e g same =
-              let place : next ≡ at + 1 + length l = is ∙ label_passed s at l ls [] e (AllHead g).0 in
+              let place : next ≡ at + 1 + length l = is ∙ label_passed s at l ls [] e (All-head g).0 in
               let more : left ≡ suc left' = omega arith in
-              record { rest = ls; stands = rw place (behind_label s at l ls [] e); good = AllTail g; same = same ∙ rw (more, one_less left' (length ls)) refl }
+              record { rest = ls; stands = rw place (behind_label s at l ls [] e); good = All-tail g; same = same ∙ rw (more, one_less left' (length ls)) refl }
             where
               one_less : (m n : ℕ) → ltb (suc m) (suc n) ≡ ltb m n
               one_less m n = lib.Dec.leb-suc-suc (suc m) n

@@ -12,7 +12,7 @@ use Rattle.spec_refusal.specs.declared.Refusal.TheVariants.{RequestTooLong, BadN
 use Rattle.spec_refusal.specs.Refusal.{number, place}
 use Rattle.spec_refusal.specs.Order.{order, stands_at, rank}
 use Rattle.spec_octets.specs.Lists.{all, any}
-use Rattle.spec_octets.proofs.ListLaws.{AllMember, all_true, any_true}
+use Rattle.spec_octets.proofs.ListLaws.{All-member, all_true, any_true}
 use Rattle.spec_request.specs.Theorems.{RequestRow}
 use Rattle.spec_issuer.specs.Theorems.{IssuerRow}
 use Rattle.spec_record.specs.Theorems.{BookRow}
@@ -115,7 +115,7 @@ one_of n ns e = let (m, there, same) = (any_true (eqb n) ns).0 e in rw (eqb-true
 
 -- one of ms is one of ns, if all of them are
 pub among : {m : ℕ} (ms ns : List ℕ) → all (λ n. any (eqb n) ns) ms ≡ true → Memᴰ m ms → Memᴰ m ns
-among {m} ms ns e there = one_of m ns (AllMember ((all_true (λ n. any (eqb n) ns) ms).0 e) there)
+among {m} ms ns e there = one_of m ns (All-member ((all_true (λ n. any (eqb n) ns) ms).0 e) there)
 
 -- where no row is the first to hold, none holds
 no_first : (rows : Refusal → Type 0) → ((r : Refusal) → FirstRow rows r → ⊥) → (m : ℕ) (r : Refusal) → rank r < m → rows r → ⊥

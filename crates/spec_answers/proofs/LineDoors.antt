@@ -14,7 +14,7 @@ use Rattle.spec_refusal.specs.declared.Refusal.TheVariants.{RequestTooLong, BadN
 use Rattle.spec_refusal.specs.Refusal.{number, place}
 use Rattle.spec_refusal.proofs.Table.{number_and_place_tell}
 use Rattle.spec_octets.specs.Lists.{all}
-use Rattle.spec_octets.proofs.ListLaws.{true_or_false, AllMember, all_true}
+use Rattle.spec_octets.proofs.ListLaws.{true_or_false, All-member, all_true}
 use Rattle.spec_record.specs.Property.{Property}
 use Rattle.spec_line.specs.declared.LineAnswer.{LineAnswer}
 use Rattle.spec_line.specs.declared.LineAnswer.TheVariants.{Length, Refused}
@@ -44,7 +44,7 @@ place_0 BadAccountOrMethod h l = refl
 
 -- the numbers of the calls on lines are at most 11
 pub at_most_11 : {n : ℕ} (ns : List ℕ) → all (λ m. leb m 11) ns ≡ true → Memᴰ n ns → n ≤ 11
-at_most_11 {n} ns e there = leb-true n 11 (AllMember ((all_true (λ m. leb m 11) ns).0 e) there)
+at_most_11 {n} ns e there = leb-true n 11 (All-member ((all_true (λ m. leb m 11) ns).0 e) there)
 
 -- x at the front, the rest as it was
 abbrev pub at_front : List ℕ → List ℕ → Output

@@ -11,7 +11,7 @@ use borrow.Author.Tests.{leb-true}
 use Rattle.spec_limits.specs.Limits.{max_data_octets, max_line_octets}
 use Rattle.spec_refusal.specs.declared.Refusal.TheVariants.{NoRoom, LineTooLong, BadData}
 use Rattle.spec_refusal.specs.Refusal.{place}
-use Rattle.spec_octets.proofs.ListLaws.{AllHead}
+use Rattle.spec_octets.proofs.ListLaws.{All-head}
 use Rattle.spec_record.specs.Property.{Property, wire_property, property}
 use Rattle.spec_record.proofs.PropertyLaws.{property_is_its_parts}
 use Rattle.spec_packed.proofs.Unpacking.{number_small}
@@ -92,7 +92,7 @@ pub small_flags_unpack : (d b : List ℕ) → FlagsFit d → Unpacked (packed_li
 small_flags_unpack d b flags = fitting_unpacks (write_line d b).answer (write_fits d b flags)
 
 pub written_line_unpacks : WrittenLineUnpacks
-written_line_unpacks d b octets = small_flags_unpack d b (λ p e. AllHead (rw ((property_is_its_parts d p).0 e).0 at octets))
+written_line_unpacks d b octets = small_flags_unpack d b (λ p e. All-head (rw ((property_is_its_parts d p).0 e).0 at octets))
 
 pub read_line_unpacks : ReadLineUnpacks
 read_line_unpacks s b = fitting_unpacks (parse_line s b).answer (read_fits s b)

@@ -10,7 +10,7 @@ use Rattle.spec_limits.specs.Limits.{max_names, max_records}
 use Rattle.spec_refusal.specs.declared.Refusal.{Refusal}
 use Rattle.spec_refusal.specs.Refusal.{place}
 use Rattle.spec_octets.specs.Lists.{All, all_nil, all_cons, First}
-use Rattle.spec_octets.proofs.ListLaws.{AllHead, AllRest}
+use Rattle.spec_octets.proofs.ListLaws.{All-head, All-rest}
 use Rattle.spec_octets.proofs.SelectedLists.{selects_all}
 use Rattle.spec_octets.specs.Items.{Items, whole, broken, over, follow, before, whole_items, items}
 use Rattle.spec_octets.proofs.ReaderLaws.{bind_some, given_some}
@@ -85,19 +85,19 @@ first_numbered :
 first_numbered m book h x rs c e (before, after, f, p, ns) =
     let (k, near) = ((nearest_name_decides book x).0 (found rs) (λ (g : found rs ≡ empty). true≢false (cc))).0 e in
     let (y, ends, selects, some-set) = ((a_lookup book (drop k x)).1 rs).0 near.1 in
-    AllHead (AllRest before (c ∷ after) (rw f at (selects_all selects h.0)))
+    All-head (All-rest before (c ∷ after) (rw f at (selects_all selects h.0)))
 
 first_alias_numbered : (m : ℕ) (book : Book) → Numbered m book → (x : Name) (r : ℕ) → relevant_set book x ≡ endless r → r < m
 first_alias_numbered m book h x r e =
     let (k, near) = ((nearest_name_decides book x).0 (endless r) (λ (g : endless r ≡ empty). true≢false (cc))).0 e in
     let (y, leads, (a, (before, after, f, p, ns), number)) = ((a_lookup book (drop k x)).2 r).0 near.1 in
-    rw (← number) (AllHead (AllRest before (a ∷ after) (rw f at h.1)))
+    rw (← number) (All-head (All-rest before (a ∷ after) (rw f at h.1)))
 
 lowest_numbered : {P : Name → Type 0} (ns : List Name) (k : ℕ) (n : Name) → LowestNot P ns k n → k < length ns
 lowest_numbered ns k n (before, after, e, l, hs, q) = rw (e, length-append) (omega arith)
 
 lowest_good : {P : Name → Type 0} (ns : List Name) → All GoodName ns → (k : ℕ) (n : Name) → LowestNot P ns k n → GoodName n
-lowest_good ns good k n (before, after, e, l, hs, q) = AllHead (AllRest before (n ∷ after) (rw e at good))
+lowest_good ns good k n (before, after, e, l, hs, q) = All-head (All-rest before (n ∷ after) (rw e at good))
 
 module _ (who : Applicant) (book : Book) (numbered : Numbered max_records book) (ns : List Name) (few : length ns ≤ max_names)
     (good : All GoodName ns) (d : List ℕ) where

@@ -12,7 +12,7 @@ use Rattle.spec_limits.specs.Limits.{max_tag_octets, max_data_octets, max_line_o
 use Rattle.spec_refusal.specs.declared.Refusal.TheVariants.{NoRoom, LineTooLong, BadData}
 use Rattle.spec_refusal.specs.Refusal.{number}
 use Rattle.spec_octets.specs.Octets.{Octets, is_letter_or_digit}
-use Rattle.spec_octets.proofs.ListLaws.{AllHead, AllTail, AllRest, all_true}
+use Rattle.spec_octets.proofs.ListLaws.{All-head, All-tail, All-rest, all_true}
 use Rattle.spec_record.specs.Property.{Property, wire_property, property}
 use Rattle.spec_record.proofs.PropertyLaws.{property_is_its_parts}
 use Rattle.spec_line.specs.declared.LineAnswer.TheVariants.{Refused}
@@ -95,7 +95,7 @@ module _ (d buffer : List ℕ) (octets : Octets d) where
   unfolding max_tag_octets
   has_line p (is, tagged, letters) =
       let o : Octets (wire_property p) = rw is at octets in
-      (AllHead o, (tagged, omega (arith, AllHead (AllTail o)), letters), AllRest p.tag p.value (AllTail (AllTail o)))
+      (All-head o, (tagged, omega (arith, All-head (All-tail o)), letters), All-rest p.tag p.value (All-tail (All-tail o)))
 
   k : Fills O buffer W u BadData Good line
   k = fills O buffer W u BadData Good line placed tight (write_refusals d buffer).3 way

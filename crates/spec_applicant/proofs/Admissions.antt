@@ -10,7 +10,7 @@ use borrow.Author.Tests.{not-true}
 use Rattle.spec_octets.specs.Lists.{any, cons_if, select, is_empty, All, all_nil, all_cons, Selects, selects_nil, selects_take, selects_pass}
 use Rattle.spec_octets.specs.Octets.{text, is_upper, lower, lowered, same}
 use Rattle.spec_octets.specs.Pieces.{split, join}
-use Rattle.spec_octets.proofs.ListLaws.{true_or_false, not_passed, any_true, any_false, AllHead, AllTail, AllRest, AllImp}
+use Rattle.spec_octets.proofs.ListLaws.{true_or_false, not_passed, any_true, any_false, All-head, All-tail, All-rest, All-imp}
 use Rattle.spec_octets.proofs.PieceLaws.{pieces_join}
 use Rattle.spec_octets.proofs.Texts.{same_equal, same_text}
 use Rattle.spec_value.specs.Parameters.{Parameter}
@@ -36,11 +36,11 @@ module _ {P : Parameter → Type 0} where
   lone_cons : {p : Parameter} {ps : List Parameter} → (P p → All (λ q. P q → ⊥) ps) → AtMostOne P ps → AtMostOne P (p ∷ ps)
   lone_cons n h [] b c x y e here there =
       let (first, rest) = cons-eq-cons.0 e in
-      AllHead (AllRest b (y ∷ c) (rw rest at (n (rw (← first) at here)))) there
+      All-head (All-rest b (y ∷ c) (rw rest at (n (rw (← first) at here)))) there
   lone_cons n h (z ∷ a) b c x y e here there = h a b c x y (cons-eq-cons.0 e).1 here there
 
   none_lone : {ps : List Parameter} → All (λ q. P q → ⊥) ps → AtMostOne P ps
-  none_lone n a b c x y e here there = AllHead (AllRest a (x ∷ (b ++ (y ∷ c))) (rw e at n)) here
+  none_lone n a b c x y e here there = All-head (All-rest a (x ∷ (b ++ (y ∷ c))) (rw e at n)) here
 
 -- The values of a tag.
 
@@ -54,8 +54,8 @@ module _ (t : List ℕ) (small : lowered t ≡ t) where
   no_values : (ps : List Parameter) → (values_of t ps ≡ []) ↔ All (λ p. Tagged t p → ⊥) ps
   no_values [] = (λ e. all_nil, λ h. refl)
   no_values (p ∷ ps) = ⊎_elim
-      (λ e. rw e (λ h. absurd (cons≢nil h), λ n. absurd (AllHead n ((tagged p).0 e))))
-      (λ e. rw e (λ h. all_cons (untagged p e) ((no_values ps).0 h), λ n. (no_values ps).1 (AllTail n)))
+      (λ e. rw e (λ h. absurd (cons≢nil h), λ n. absurd (All-head n ((tagged p).0 e))))
+      (λ e. rw e (λ h. all_cons (untagged p e) ((no_values ps).0 h), λ n. (no_values ps).1 (All-tail n)))
       (true_or_false (is_tagged t p))
 
   module _ (test : List ℕ → Bool) (Good : List ℕ → Type 0) (decides : (v : List ℕ) → (test v ≡ true) ↔ Good v) where
@@ -69,18 +69,18 @@ module _ (t : List ℕ) (small : lowered t ≡ t) where
         (λ e. rw e (
           λ h. let (good, none) = (alone p.value (values_of t ps)).0 h in
               let others = (no_values ps).0 none in (
-                all_cons (λ here. (decides p.value).0 good) (AllImp (λ q n here. absurd (n here)) others),
+                all_cons (λ here. (decides p.value).0 good) (All-imp (λ q n here. absurd (n here)) others),
                 lone_cons (λ here. others) (none_lone others),
               ),
           λ k. (alone p.value (values_of t ps)).1 (
-            (decides p.value).1 (AllHead k.0 ((tagged p).0 e)),
+            (decides p.value).1 (All-head k.0 ((tagged p).0 e)),
             (no_values ps).1 (lone_first k.1 ((tagged p).0 e)),
           ),
         ))
         (λ e. rw e (
           λ h. let k = (limited ps).0 h in
               (all_cons (λ here. absurd (untagged p e here)) k.0, lone_cons (λ here. absurd (untagged p e here)) k.1),
-          λ k. (limited ps).1 (AllTail k.0, lone_tail k.1),
+          λ k. (limited ps).1 (All-tail k.0, lone_tail k.1),
         ))
         (true_or_false (is_tagged t p))
 
@@ -103,14 +103,14 @@ among m v = (λ e. forth (split (code ",") v) refl e, λ k. back k.0 k.1 k.2 k.3
         let (full, found) = (and-eq-true_iff (not (any is_empty is)) (any (same m) is)).0 h in
         let (i, member, equal) = (any_true (same m) is).0 found in
         let none_empty = (any_false is_empty is).0 (not-true (any is_empty is) full) in
-        (is, made, zipped (AllImp (λ i. (not_empty i).0) none_empty) free, rw (← (same_equal m i).0 equal) at member)
+        (is, made, zipped (All-imp (λ i. (not_empty i).0) none_empty) free, rw (← (same_equal m i).0 equal) at member)
 
     back : (is : List (List ℕ)) → v ≡ join (code ",") is → All (λ i. (i ≢ []) × All (λ x. x ≢ code ",") i) is → Memᴰ m is →
         names_method m (split (code ",") v) ≡ true
     back is made good member =
         let some : is ≢ [] = λ e. Memᴰ.not-nil (rw e at member) in
-        let cut : split (code ",") v ≡ is = (pieces_join (code ",") v is).1 (made, some, AllImp (λ i k. k.1) good) in
-        let full = (any_false is_empty is).1 (AllImp (λ i k. (not_empty i).1 k.0) good) in
+        let cut : split (code ",") v ≡ is = (pieces_join (code ",") v is).1 (made, some, All-imp (λ i k. k.1) good) in
+        let full = (any_false is_empty is).1 (All-imp (λ i k. (not_empty i).1 k.0) good) in
         let found = (any_true (same m) is).1 (m, member, (same_equal m m).1 refl) in
         rw (cut, full) found
 

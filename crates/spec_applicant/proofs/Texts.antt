@@ -13,7 +13,7 @@ use Rattle.spec_refusal.specs.declared.Refusal.TheVariants.{BadAccountOrMethod}
 use Rattle.spec_refusal.proofs.Tested.{refused_unless}
 use Rattle.spec_octets.specs.Lists.{all}
 use Rattle.spec_octets.specs.Octets.{between, is_parameter_octet}
-use Rattle.spec_octets.proofs.ListLaws.{all_true, AllImp}
+use Rattle.spec_octets.proofs.ListLaws.{all_true, All-imp}
 use Rattle.spec_octets.proofs.ParameterOctets.{parameter_octets}
 use Rattle.spec_applicant.specs.Applicant.{is_account, is_method, is_applicant, applicant_refusal}
 use Rattle.spec_applicant.specs.Meaning.{GoodAccount, GoodMethod}
@@ -27,11 +27,11 @@ account t =
       λ e. let size = sized.0 (both.0 e).0 in (
         leb-true 1 (length t) size.0,
         leb-true (length t) max_account_octets size.1,
-        AllImp (λ x. (parameter_octets x).0) ((all_true is_parameter_octet t).0 (both.0 e).1),
+        All-imp (λ x. (parameter_octets x).0) ((all_true is_parameter_octet t).0 (both.0 e).1),
       ),
       λ k. both.1 (
         sized.1 (le-leb 1 (length t) k.0, le-leb (length t) max_account_octets k.1),
-        (all_true is_parameter_octet t).1 (AllImp (λ x. (parameter_octets x).1) k.2),
+        (all_true is_parameter_octet t).1 (All-imp (λ x. (parameter_octets x).1) k.2),
       ),
     )
 
@@ -41,11 +41,11 @@ method t =
     let both = and-eq-true_iff (is_account t) (all (λ x. not (eqb x (code ","))) t) in (
       λ e. (
         (account t).0 (both.0 e).0,
-        AllImp (λ x h. eqb-false x (code ",") (not-true (eqb x (code ",")) h)) ((all_true (λ x. not (eqb x (code ","))) t).0 (both.0 e).1),
+        All-imp (λ x h. eqb-false x (code ",") (not-true (eqb x (code ",")) h)) ((all_true (λ x. not (eqb x (code ","))) t).0 (both.0 e).1),
       ),
       λ k. both.1 (
         (account t).1 k.0,
-        (all_true (λ x. not (eqb x (code ","))) t).1 (AllImp (λ x n. rw (ne_eqb x (code ",") n)) k.1),
+        (all_true (λ x. not (eqb x (code ","))) t).1 (All-imp (λ x n. rw (ne_eqb x (code ",") n)) k.1),
       ),
     )
 

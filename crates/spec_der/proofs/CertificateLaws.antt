@@ -11,7 +11,7 @@ use lib.ListN.{length, length-append}
 use borrow.Author.Tests.{leb-true, le-leb}
 use Rattle.spec_octets.specs.Lists.{All, all_nil, all_cons}
 use Rattle.spec_octets.specs.Reader.{Reader}
-use Rattle.spec_octets.proofs.ListLaws.{AllImp}
+use Rattle.spec_octets.proofs.ListLaws.{All-imp}
 use Rattle.spec_octets.proofs.ReaderLaws.{pure_some}
 use Rattle.spec_der.specs.Elements.{Element, wire_element, GoodElement}
 use Rattle.spec_der.specs.Certificate.{sequence, max_certificate_octets, TbsCertificate, Certificate, wire_sequence, wire_version, wire_elements, wire_tbs, wire_contents, wire_certificate, tbs_certificate, filling, as_read, sequence_of, certificate_contents, certificate}
@@ -149,7 +149,7 @@ module _ (t : TbsCertificate) where
           inr (k.0, k.1, ((λ z. omega (arith, k.2), omega (arith, contents_fit k.0)), k.2))
 
   tbs_layout : TbsGood t → TbsLayout t
-  tbs_layout h = let (v, a, b, c, d, e, k, o) = h in (version v, a.1, b.1, c.1, d.1, e.1, k.1, AllImp (λ x g. g.0) o)
+  tbs_layout h = let (v, a, b, c, d, e, k, o) = h in (version v, a.1, b.1, c.1, d.1, e.1, k.1, All-imp (λ x g. g.0) o)
     where
       version : GoodVersion t.version → (t.version ≡ none) ⊎ ((v : Element) × (t.version ≡ some v) × (v.tag ≡ 160))
       version (inl e) = inl e

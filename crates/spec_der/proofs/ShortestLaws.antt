@@ -8,7 +8,7 @@ use lib.ListN.{length}
 use Rattle.spec_octets.specs.Lists.{all_nil, all_cons}
 use Rattle.spec_octets.specs.Octets.{Octets}
 use Rattle.spec_octets.specs.Reader.{value_from, in_octets}
-use Rattle.spec_octets.proofs.ListLaws.{AllHead, AllTail}
+use Rattle.spec_octets.proofs.ListLaws.{All-head, All-tail}
 use Rattle.spec_octets.proofs.Numbers.{numbers_written}
 use Rattle.spec_der.specs.Elements.{wire_length}
 use Rattle.spec_der.specs.Theorems.{GivesLength, LengthShortest}
@@ -30,11 +30,11 @@ module _ (n : ℕ) where
 
   three : (l : List ℕ) → 256 ≤ n → Octets l → GivesLength n l → 3 ≤ length l
   three l h o (inl k) = absurd (omega (arith, k.0))
-  three l h o (inr (more, full, e, v)) = rw e (by more full v (AllTail (rw e at o)))
+  three l h o (inr (more, full, e, v)) = rw e (by more full v (All-tail (rw e at o)))
     where
       by : (more : List ℕ) → more ≢ [] → value_from 0 more ≡ n → Octets more → 3 ≤ length ((128 + length more) ∷ more)
       by [] full v o = absurd (full refl)
-      by (x ∷ []) full v o = absurd (omega (arith, AllHead o))
+      by (x ∷ []) full v o = absurd (omega (arith, All-head o))
       by (x ∷ y ∷ more) full v o = omega arith
 
   -- of that many octets, there is one that gives n
@@ -57,16 +57,16 @@ module _ (n : ℕ) where
 
   only_three : (l : List ℕ) → 256 ≤ n → Octets l → length l ≤ 3 → GivesLength n l → l ≡ 130 ∷ in_octets 2 n
   only_three l m o h (inl k) = absurd (omega (arith, k.0))
-  only_three l m o h (inr (more, full, e, v)) = e ∙ by more full v (AllTail (rw e at o)) (rw e at h)
+  only_three l m o h (inr (more, full, e, v)) = e ∙ by more full v (All-tail (rw e at o)) (rw e at h)
     where
       by :
           (more : List ℕ) → more ≢ [] → value_from 0 more ≡ n → Octets more → length ((128 + length more) ∷ more) ≤ 3 →
           (128 + length more) ∷ more ≡ 130 ∷ in_octets 2 n
       by [] full v o h = absurd (full refl)
-      by (x ∷ []) full v o h = absurd (omega (arith, AllHead o))
+      by (x ∷ []) full v o h = absurd (omega (arith, All-head o))
       by (x ∷ y ∷ []) full v o h =
-          let a = AllHead o in
-          let b = AllHead (AllTail o) in
+          let a = All-head o in
+          let b = All-head (All-tail o) in
           let high : n / 256 % 256 ≡ x = omega arith in
           let low : n % 256 ≡ y = omega arith in
           rw (high, low) refl

@@ -10,7 +10,7 @@ use Rattle.spec_octets.specs.Lists.{All, all_nil, all_cons, all, select, begins}
 use Rattle.spec_octets.specs.Octets.{text, is_upper, is_lower, is_digit, is_letter_or_digit}
 use Rattle.spec_octets.specs.Decimal.{decimal_from}
 use Rattle.spec_octets.specs.Pieces.{split, join}
-use Rattle.spec_octets.proofs.ListLaws.{told_apart, AllImp, AllHead, all_true}
+use Rattle.spec_octets.proofs.ListLaws.{told_apart, All-imp, All-head, all_true}
 use Rattle.spec_octets.proofs.PieceLaws.{pieces_join}
 use Rattle.spec_refusal.specs.declared.Refusal.{Refusal}
 use Rattle.spec_refusal.specs.declared.Refusal.TheVariants.{RequestTooLong, BadName, TooManyNames, BadIssuer, BookTooLong, BadRecord, TooManyRecords, AliasConflict, NoRoom, BadLine, LineTooLong, BadData, SessionEnded, BadAccountOrMethod}
@@ -31,11 +31,11 @@ Word w = All (λ x. x ≢ code " ") w
 
 letters : (w : List ℕ) → all is_letter_or_digit w ≡ true → Word w
 unfolding is_letter_or_digit is_upper is_lower is_digit
-letters w e = AllImp (told_apart is_letter_or_digit (code " ") refl) ((all_true is_letter_or_digit w).0 e)
+letters w e = All-imp (told_apart is_letter_or_digit (code " ") refl) ((all_true is_letter_or_digit w).0 e)
 
 digits : (n : ℕ) → Word (decimal n)
 unfolding is_digit
-digits n = AllImp (told_apart is_digit (code " ") refl) (says n).digits
+digits n = All-imp (told_apart is_digit (code " ") refl) (says n).digits
 
 -- one word more
 infixr 40 ◌∷ᵃ◌
@@ -55,7 +55,7 @@ number_first n ws = go (decimal n) (says n).some (says n).digits (says n).back
   where
     go : (w : List ℕ) → w ≢ [] → All (λ x. is_digit x ≡ true) w → decimal_from 0 w ≡ n → numbers_of (w ∷ ws) ≡ n ∷ numbers_of ws
     go [] e h b = absurd (e refl)
-    go (x ∷ w) e h b = rw (AllHead h, b)
+    go (x ∷ w) e h b = rw (All-head h, b)
 
 denial_tells :
     (v : ℕ) (f first : List ℕ) → first ≡ text "verdict " ++ f ++ text " name " → Word f →

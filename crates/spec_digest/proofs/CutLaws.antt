@@ -9,7 +9,7 @@ use lib.ListN.{length, take, drop, set, length-drop, take-append-drop}
 use lib.Seq.{length-take-le, take-nil, drop-nil, take-take, drop-drop, take-suc-set}
 use Rattle.spec_octets.specs.Lists.{All, all_nil, all_cons, flatten}
 use Rattle.spec_octets.specs.Reader.{value_from}
-use Rattle.spec_octets.proofs.ListLaws.{AllFront, AllRest}
+use Rattle.spec_octets.proofs.ListLaws.{All-front, All-rest}
 use Rattle.spec_digest.specs.Padding.{cut}
 
 -- what is behind the first m of the first m + k
@@ -39,7 +39,7 @@ module _ (size : ℕ) where
   pieces_all zero s h = all_nil
   pieces_all {P} (suc count) s h =
       let parts : All P (take size s ++ drop size s) = rw take-append-drop h in
-      all_cons (AllFront (take size s) (drop size s) parts) (pieces_all count (drop size s) (AllRest (take size s) (drop size s) parts))
+      all_cons (All-front (take size s) (drop size s) parts) (pieces_all count (drop size s) (All-rest (take size s) (drop size s) parts))
 
   -- only the front is cut
   pub cut_front : (count : ℕ) (s : List ℕ) → cut count size (take (count * size) s) ≡ cut count size s

@@ -9,7 +9,7 @@ use mathlib.Core.Option.{Option, none, some, none-ne-some}
 use Rattle.spec_refusal.specs.declared.Refusal.{Refusal}
 use Rattle.spec_octets.specs.Lists.{any, All}
 use Rattle.spec_octets.specs.Octets.{Octets}
-use Rattle.spec_octets.proofs.ListLaws.{any_false, AllImp}
+use Rattle.spec_octets.proofs.ListLaws.{any_false, All-imp}
 use Rattle.spec_name.specs.Names.{Name, wire, GoodName}
 use Rattle.spec_request.specs.Request.{requested_names, request_refusal}
 use Rattle.spec_record.specs.Records.{target, records, book_refusal}
@@ -34,8 +34,8 @@ not_true false = (λ e. refl, λ e. refl)
 may_leave_lem : (book : Book) (o : Name) (ns : List Name) → (may_leave book o ns ≡ true) ↔ All (Untouched book o) ns
 unfolding may_leave
 may_leave_lem book o ns = (
-  λ e. AllImp (λ n. (untouched book o n).0) ((any_false (touches book o) ns).0 ((not_true (any (touches book o) ns)).0 e)),
-  λ h. (not_true (any (touches book o) ns)).1 ((any_false (touches book o) ns).1 (AllImp (λ n. (untouched book o n).1) h)),
+  λ e. All-imp (λ n. (untouched book o n).0) ((any_false (touches book o) ns).0 ((not_true (any (touches book o) ns)).0 e)),
+  λ h. (not_true (any (touches book o) ns)).1 ((any_false (touches book o) ns).1 (All-imp (λ n. (untouched book o n).1) h)),
 )
 
 -- an owner is read exactly when it is the wire form of a valid name

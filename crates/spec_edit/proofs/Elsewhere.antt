@@ -7,7 +7,7 @@ use mathlib.Core.Option.{Option, none, some, some-injective, none-ne-some}
 use Rattle.spec_limits.specs.Limits.{max_aliases}
 use Rattle.spec_refusal.specs.declared.Refusal.{Refusal}
 use Rattle.spec_octets.specs.Lists.{any, select, All, all_nil, all_cons, Selects, selects_nil, selects_take, selects_pass}
-use Rattle.spec_octets.proofs.ListLaws.{not_passed, AllHead, AllTail, AllImp}
+use Rattle.spec_octets.proofs.ListLaws.{not_passed, All-head, All-tail, All-imp}
 use Rattle.spec_octets.proofs.SelectLaws.{select_map}
 use Rattle.spec_name.specs.Names.{Name, same_name, ancestors}
 use Rattle.spec_name.proofs.WholeNames.{whole_names}
@@ -94,8 +94,8 @@ module _ (al : List Alias) where
 -- two lists of aliases that agree on every name but o
 module _ (al bl : List Alias) (o : Name) (agree : (y : Name) → same_name o y ≡ false → aliases_of bl y ≡ aliases_of al y) where
   same_end : (n : ℕ) (x : Name) → NotAmong al o (x ∷ targets n al x) → followed n bl x ≡ followed n al x
-  same_end zero x h = rw (agree x (AllHead h)) refl
-  same_end (suc n) x h = rw (agree x (AllHead h)) (go (aliases_of al x) (AllTail h) (same_end n))
+  same_end zero x h = rw (agree x (All-head h)) refl
+  same_end (suc n) x h = rw (agree x (All-head h)) (go (aliases_of al x) (All-tail h) (same_end n))
     where
       go :
           (bs : List Alias) → NotAmong al o (onward bs (targets n al)) →
@@ -108,15 +108,15 @@ module _ (al bl : List Alias) (o : Name) (agree : (y : Name) → same_name o y �
   end_apart zero x y h = go (aliases_of al x)
     where
       go : (bs : List Alias) → through bs (λ t. none) x ≡ some y → same_name o y ≡ false
-      go [] e = let k = some-injective x y e in rw k at (AllHead h)
+      go [] e = let k = some-injective x y e in rw k at (All-head h)
       go (a ∷ bs) e = absurd (none-ne-some y e)
-  end_apart (suc n) x y h = go (aliases_of al x) (AllTail h) (λ t. end_apart n t y)
+  end_apart (suc n) x y h = go (aliases_of al x) (All-tail h) (λ t. end_apart n t y)
     where
       go :
           (bs : List Alias) → NotAmong al o (onward bs (targets n al)) →
           ((t : Name) → NotAmong al o (t ∷ targets n al t) → followed n al t ≡ some y → same_name o y ≡ false) →
           through bs (followed n al) x ≡ some y → same_name o y ≡ false
-      go [] later-h later e = let k = some-injective x y e in rw k at (AllHead h)
+      go [] later-h later e = let k = some-injective x y e in rw k at (All-head h)
       go (a ∷ bs) later-h later e = later a.target later-h e
 
 -- two books that agree on every name but o
@@ -126,7 +126,7 @@ module _ (old new : Book) (o : Name)
   same_lookup : (x : Name) → touches_from old.aliases o x ≡ false → lookup new x ≡ lookup old x
   unfolding lookup
   same_lookup x e =
-      rw (aliases_agree x (AllHead h), same_end old.aliases new.aliases o aliases_agree max_aliases x h)
+      rw (aliases_agree x (All-head h), same_end old.aliases new.aliases o aliases_agree max_aliases x h)
       (go (followed max_aliases old.aliases x) (λ y. end_apart old.aliases new.aliases o aliases_agree max_aliases x y h))
     where
       h : NotAmong old.aliases o (x ∷ targets max_aliases old.aliases x)
@@ -180,7 +180,7 @@ module _ (o : Name) {old new : List Record} (differ : DifferOnlyAt o old new) wh
 
   module _ {ns : List Name} (all : All (Untouched (as_book old) o) ns) (who : Applicant) where
     away : All (λ n. touches (bare old) o n ≡ false) ns
-    away = AllImp (λ n h. bare_touches old o n ∙ (untouched (as_book old) o n).1 h) all
+    away = All-imp (λ n h. bare_touches old o n ∙ (untouched (as_book old) o n).1 h) all
 
     same_verdict :
         (d : List ℕ) → renumbered_verdict unnumbered (verdict d (map (decision who (as_book new)) ns))

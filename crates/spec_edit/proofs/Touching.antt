@@ -9,7 +9,7 @@ use mathlib.Core.List.{List, [], ◌∷◌}
 use lib.ListN.{length, drop}
 use Rattle.spec_limits.specs.Limits.{max_aliases}
 use Rattle.spec_octets.specs.Lists.{any, All, all_nil, all_cons, First}
-use Rattle.spec_octets.proofs.ListLaws.{any_false, AllHead, AllTail}
+use Rattle.spec_octets.proofs.ListLaws.{any_false, All-head, All-tail}
 use Rattle.spec_octets.proofs.SelectLaws.{fails}
 use Rattle.spec_name.specs.Names.{Name, same_name, ancestors}
 use Rattle.spec_name.proofs.WholeNames.{whole_names}
@@ -57,7 +57,7 @@ module _ (P : Name → Type 0) (al : List Alias) where
           All P (onwards bs (targets n al)) ↔ Along P (suc n) al x
       go [] e later = (λ h j y low high l. nowhere e low l, λ h. all_nil)
       go (a ∷ bs) e later = (
-        λ h j y low high l. next e (AllHead h) ((later a.target).0 (AllTail h)) low high l,
+        λ h j y low high l. next e (All-head h) ((later a.target).0 (All-tail h)) low high l,
         λ h. all_cons
             (h 1 a.target (omega arith) (omega arith) (onward (first_alias al x e) arrived))
             ((later a.target).1 (λ j y low high l. h (suc j) y (omega arith) (omega arith) (onward (first_alias al x e) l))),
@@ -70,7 +70,7 @@ Above P x = (k : ℕ) → k < length x → P (drop k x)
 above : (P : Name → Type 0) (x : Name) → All P (ancestors x) ↔ Above P x
 above P [] = (λ h k less. absurd (not-suc-le-zero less), λ h. all_nil)
 above P (l ∷ x) = (
-  λ h. down (AllHead h) ((above P x).0 (AllTail h)),
+  λ h. down (All-head h) ((above P x).0 (All-tail h)),
   λ h. all_cons (h 0 (omega arith)) ((above P x).1 (λ k less. h (suc k) (omega arith))),
 )
   where
@@ -94,7 +94,7 @@ module _ (al : List Alias) (o : Name) where
   apart_from : (x : Name) → (touches_from al o x ≡ false) ↔ ApartFrom x
   apart_from x = (
     λ e. let h = (not_from x).0 e in
-        ((apart o x).0 (AllHead h), λ j y low high l. (apart o y).0 ((along (λ y. same_name o y ≡ false) al max_aliases x).0 (AllTail h) j y low high l)),
+        ((apart o x).0 (All-head h), λ j y low high l. (apart o y).0 ((along (λ y. same_name o y ≡ false) al max_aliases x).0 (All-tail h) j y low high l)),
     λ (here, later). (not_from x).1 (all_cons
         ((apart o x).1 here)
         ((along (λ y. same_name o y ≡ false) al max_aliases x).1 (λ j y low high l. (apart o y).1 (later j y low high l)))),

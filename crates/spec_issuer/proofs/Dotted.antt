@@ -15,7 +15,7 @@ use Rattle.spec_octets.specs.Lists.{all, All}
 use Rattle.spec_octets.specs.Octets.{between}
 use Rattle.spec_octets.specs.Label.{is_label, is_host_label}
 use Rattle.spec_octets.specs.Pieces.{split}
-use Rattle.spec_octets.proofs.ListLaws.{AllImp}
+use Rattle.spec_octets.proofs.ListLaws.{All-imp}
 use Rattle.spec_octets.proofs.Labels.{host_labels}
 use Rattle.spec_octets.proofs.DottedLabels.{pieces_pass, label_dotless}
 use Rattle.spec_issuer.specs.Issuer.{is_issuer, issuer_refusal}
@@ -33,11 +33,11 @@ issuer_is_its_labels d =
     let labels = pieces_pass (code ".") is_host_label host_dotless d in (
       λ e. let size = sized.0 (both.0 e).0 in
           let j = labels.0 (both.0 e).1 in
-          (leb-true 1 (length d) size.0, leb-true (length d) max_issuer_octets size.1, (j.0, j.1, j.2, AllImp (λ l. (host_labels l).0) j.3)),
+          (leb-true 1 (length d) size.0, leb-true (length d) max_issuer_octets size.1, (j.0, j.1, j.2, All-imp (λ l. (host_labels l).0) j.3)),
       λ w. let j = w.2 in
           both.1 (
             sized.1 (le-leb 1 (length d) w.0, le-leb (length d) max_issuer_octets w.1),
-            labels.1 (j.0, j.1, j.2, AllImp (λ l. (host_labels l).1) j.3),
+            labels.1 (j.0, j.1, j.2, All-imp (λ l. (host_labels l).1) j.3),
           ),
     )
 

@@ -9,7 +9,7 @@ use lib.Dec.{eqb}
 use borrow.Author.Tests.{eqb-true, ne_eqb}
 use Rattle.spec_octets.specs.Lists.{begins, ends, All, flatten}
 use Rattle.spec_octets.specs.Octets.{is_blank}
-use Rattle.spec_octets.proofs.ListLaws.{told_apart, AllHead, ends_append}
+use Rattle.spec_octets.proofs.ListLaws.{told_apart, All-head, ends_append}
 use Rattle.spec_octets.proofs.Runs.{not_blank}
 use Rattle.spec_line.specs.Written.{quote, backslash}
 use Rattle.spec_line.specs.Read.{WrittenOctet, plain, quoted, numbered, unescaped, is_in_quotes, is_bare, line_value}
@@ -37,7 +37,7 @@ bare_first v x s units = go units.0 units.1 units.2
   where
     go : (us : List WrittenOctet) → x ∷ s ≡ flatten (map as_written us) → All (GoodWrittenOctet is_bare) us → is_first x ≡ true
     go [] e good = absurd (cons≢nil e)
-    go (plain y ∷ us) e good = rw (head-eq_of_cons-eq e, (AllHead good).0)
+    go (plain y ∷ us) e good = rw (head-eq_of_cons-eq e, (All-head good).0)
     go (quoted y ∷ us) e good = rw (head-eq_of_cons-eq e, or-true)
     go (numbered a b c ∷ us) e good = rw (head-eq_of_cons-eq e, or-true)
 

@@ -13,7 +13,7 @@ use Rattle.spec_limits.specs.Limits.{max_tag_octets}
 use Rattle.spec_octets.specs.Lists.{all, begins}
 use Rattle.spec_octets.specs.Octets.{between, is_digit, is_upper, is_lower, is_letter_or_digit, is_blank}
 use Rattle.spec_octets.specs.Decimal.{decimal_from, decimal_octet}
-use Rattle.spec_octets.proofs.ListLaws.{all_true, AllImp, AllHead}
+use Rattle.spec_octets.proofs.ListLaws.{all_true, All-imp, All-head}
 use Rattle.spec_octets.proofs.Runs.{Blankless, not_blank}
 use Rattle.spec_record.specs.Property.{Property}
 use Rattle.spec_octets.specs.Reader.{if_read}
@@ -48,7 +48,7 @@ flags_field s n = (λ h. go _ refl h, stand)
 
 pub flags_blankless : {s : List ℕ} {n : ℕ} → OctetField n s → Blankless s
 unfolding is_digit
-flags_blankless k = AllImp (not_blank is_digit refl refl) k.2
+flags_blankless k = All-imp (not_blank is_digit refl refl) k.2
 
 -- Tag.
 
@@ -64,11 +64,11 @@ tag_field (x ∷ t) = (
 
 tag_blankless : {t : List ℕ} → TagField t → Blankless t
 unfolding is_letter_or_digit is_upper is_lower is_digit
-tag_blankless k = AllImp (not_blank is_letter_or_digit refl refl) k.2
+tag_blankless k = All-imp (not_blank is_letter_or_digit refl refl) k.2
 
 pub unblank : (t : List ℕ) → 1 ≤ length t → Blankless t → (rest : List ℕ) → begins is_blank (t ++ rest) ≡ false
 unblank [] long clean rest = absurd (omega arith)
-unblank (x ∷ t) long clean rest = AllHead clean
+unblank (x ∷ t) long clean rest = All-head clean
 
 -- The fields together.
 

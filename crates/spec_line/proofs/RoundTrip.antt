@@ -8,7 +8,7 @@ use mathlib.Core.List.{List}
 use lib.Dec.{leb}
 use borrow.Author.Tests.{leb-true}
 use Rattle.spec_octets.specs.Octets.{Octets, between}
-use Rattle.spec_octets.proofs.ListLaws.{AllMap}
+use Rattle.spec_octets.proofs.ListLaws.{All-map}
 use Rattle.spec_record.specs.Property.{Property}
 use Rattle.spec_line.specs.Read.{WrittenOctet, plain, quoted, numbered, value_of, is_in_quotes, is_bare}
 use Rattle.spec_line.specs.Grammar.{TagField, GoodWrittenOctet, WrittenFor, ValueField, LineOf, HasLine}
@@ -24,7 +24,7 @@ module _ {class : ℕ → Bool} (small : (x : ℕ) → class x ≡ true → x < 
   unit_octet (numbered a b c) h = omega arith
 
   units_octets : (v s : List ℕ) → WrittenFor class v s → Octets v
-  units_octets v s (us, e, goods, are) = subst Octets are (AllMap value_of unit_octet goods)
+  units_octets v s (us, e, goods, are) = subst Octets are (All-map value_of unit_octet goods)
 
 -- what is at most 126 is an octet, whatever else is asked of it
 class_octet : (low x : ℕ) (t : Bool) → between low 126 x && t ≡ true → x < 256

@@ -11,7 +11,7 @@ use borrow.Author.Tests.{eqb-true, eqb-false}
 use Rattle.spec_octets.specs.Lists.{all_nil, all_cons, flatten}
 use Rattle.spec_octets.specs.Octets.{Octets, between, is_digit, is_blank, lower, lowered}
 use Rattle.spec_octets.specs.Grammar.{many_none}
-use Rattle.spec_octets.proofs.ListLaws.{or_eq_true, or_eq_false, AllMap}
+use Rattle.spec_octets.proofs.ListLaws.{or_eq_true, or_eq_false, All-map}
 use Rattle.spec_octets.proofs.WrittenDecimals.{digit_is, decimal_within_lem, decimal_some, says}
 use Rattle.spec_octets.proofs.SmallLetters.{lower_letter}
 use Rattle.spec_record.specs.Property.{Property}
@@ -25,7 +25,7 @@ pub flags_written : (n : ℕ) → n < 256 → OctetField n (decimal n)
 flags_written n h = (decimal_some n, decimal_within_lem 2 n (omega arith), (says n).digits, (says n).back, omega arith)
 
 tag_written : (t : List ℕ) → TagField t → TagField (lowered t)
-tag_written t (some, few, letters) = rw (length-map t lower) (some, few, AllMap lower (λ x h. lower_letter x ∙ h) letters)
+tag_written t (some, few, letters) = rw (length-map t lower) (some, few, All-map lower (λ x h. lower_letter x ∙ h) letters)
 
 -- s is one good unit inside quotes, and stands for x
 abbrev WrittenOctetFor : ℕ → List ℕ → Type 0

@@ -13,7 +13,7 @@ use Rattle.spec_octets.specs.Lists.{all, any}
 use Rattle.spec_octets.specs.Octets.{text, between, is_digit, is_upper, is_lower, is_letter_or_digit, is_blank, lower}
 use Rattle.spec_octets.specs.Pinned.{OctetsBelow256}
 use Rattle.spec_octets.specs.Theorems.{LetterCase, OctetClasses}
-use Rattle.spec_octets.proofs.ListLaws.{beq_true, true_or_false, all_true, any_false, AllImp}
+use Rattle.spec_octets.proofs.ListLaws.{beq_true, true_or_false, all_true, any_false, All-imp}
 
 between_outside : (low high x : ℕ) → (x < low) ⊎ (high < x) → between low high x ≡ false
 between_outside low high x (inl h) = rw (lt-leb low x h)
@@ -42,7 +42,7 @@ module _ (f : ℕ → Bool) (s : List ℕ) where
   class : all_below agree 128 ≡ true → all (λ y. ltb y 128) s ≡ true → (x : ℕ) → (128 ≤ x → f x ≡ false) → f x ≡ any (eqb x) s
   class table ascii x past = ⊎_elim
       (λ t. beq_true (f x) (any (eqb x) s) (below agree 128 table x (ltb-true x 128 t)))
-      (λ t. past (ltb-false x 128 t) ∙ sym ((any_false (eqb x) s).1 (AllImp (other (ltb-false x 128 t)) ((all_true (λ y. ltb y 128) s).0 ascii))))
+      (λ t. past (ltb-false x 128 t) ∙ sym ((any_false (eqb x) s).1 (All-imp (other (ltb-false x 128 t)) ((all_true (λ y. ltb y 128) s).0 ascii))))
       (true_or_false (ltb x 128))
     where
       other : 128 ≤ x → (y : ℕ) → ltb y 128 ≡ true → eqb x y ≡ false

@@ -8,7 +8,7 @@ use lib.ListN.{length}
 use Rattle.spec_octets.specs.Octets.{Octets}
 use Rattle.spec_octets.specs.Reader.{Reader, given, ◌>>=◌, octets, number, in_octets}
 use Rattle.spec_octets.specs.Theorems.{Reads}
-use Rattle.spec_octets.proofs.ListLaws.{AllRest}
+use Rattle.spec_octets.proofs.ListLaws.{All-rest}
 use Rattle.spec_octets.proofs.ReaderLaws.{bind_some, given_some, octets_some}
 use Rattle.spec_octets.proofs.Numbers.{numbers_high_octet_first}
 
@@ -27,7 +27,7 @@ octets_field n = record { read = octets n; wire = λ a. a; Good = λ a. length a
 
 module _ {A B : Type 0} (field : Field A) (f : A → Reader B) {s : List ℕ} (o : Octets s) where
   octets_behind : (a : A) (mid : List ℕ) → s ≡ field.wire a ++ mid → Octets mid
-  octets_behind a mid front = AllRest (field.wire a) mid (subst Octets front o)
+  octets_behind a mid front = All-rest (field.wire a) mid (subst Octets front o)
 
   pub then_read :
       {C : Type 0} {b : B} {rest : List ℕ} → (field.read >>= f) s ≡ some (b, rest) →

@@ -11,7 +11,7 @@ use Rattle.spec_octets.specs.Octets.{Octets}
 use Rattle.spec_octets.specs.Reader.{Reader}
 use Rattle.spec_octets.specs.Items.{Items, whole, broken, over, follow, before, items, Front, BrokenAt, Beyond}
 use Rattle.spec_octets.specs.Theorems.{ItemFaults, ItemsEndToEnd}
-use Rattle.spec_octets.proofs.ListLaws.{AllHead, AllTail, AllRest}
+use Rattle.spec_octets.proofs.ListLaws.{All-head, All-tail, All-rest}
 use Rattle.spec_octets.proofs.WholeLists.{not_empty}
 
 -- items by what is left: nothing, octets beyond the limit, octets to read an item from
@@ -130,8 +130,8 @@ module _ {A : Type 0} (wire : A → List ℕ) (Good : A → Type 0) where
       items_front (a ∷ xs) (suc n) room s rest o e f =
           let t = flatten (map wire xs) ++ rest in
           let first : s ≡ wire a ++ t = rw append_assoc at f.0 in
-          rw (items_step read n s (λ z. full a (append-eq-nil_iff.0 (sym first ∙ z)).0), (reads s o a t).1 (first, AllHead f.1))
-          (ap (follow a) (items_front xs n room t rest (rests (wire a) t (rw first at o)) (omega arith) (refl, AllTail f.1)))
+          rw (items_step read n s (λ z. full a (append-eq-nil_iff.0 (sym first ∙ z)).0), (reads s o a t).1 (first, All-head f.1))
+          (ap (follow a) (items_front xs n room t rest (rests (wire a) t (rw first at o)) (omega arith) (refl, All-tail f.1)))
 
       items_said : (room : ℕ) (s : List ℕ) → Fit s → (r : Items A) → Says room s r → items read room s ≡ r
       items_said room s o (whole xs) h =
@@ -154,7 +154,7 @@ pub items_end_to_end : ItemsEndToEnd
 items_end_to_end A read wire Good reads full room s o = (λ xs. tell (whole xs), λ k. tell (broken k), tell over)
   where
     tell : (r : Items A) → (items read room s ≡ r) ↔ Says wire Good room s r
-    tell = items_tell wire Good Octets AllRest read reads full room s o
+    tell = items_tell wire Good Octets All-rest read reads full room s o
 
 -- Items in any list, with room for as many items as there are octets: no more can stand there.
 module _ {A : Type 0} (wire : A → List ℕ) (Good : A → Type 0) (full : (a : A) → wire a ≢ []) where

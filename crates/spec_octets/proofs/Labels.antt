@@ -15,7 +15,7 @@ use Rattle.spec_octets.specs.Label.{is_letter_digit_hyphen, is_label, is_host_la
 use Rattle.spec_octets.specs.Grammar.{Production, one, lit, ◌⊕◌, many, many_none, many_more, label}
 use Rattle.spec_octets.specs.Theorems.{LabelIsTheProduction, LabelOctets, HostLabels}
 use Rattle.spec_octets.specs.Pinned.{HyphenOctet}
-use Rattle.spec_octets.proofs.ListLaws.{or_eq_true, all_true, AllHead, AllTail, AllAppend, ends_append}
+use Rattle.spec_octets.proofs.ListLaws.{or_eq_true, all_true, All-head, All-tail, All-append, ends_append}
 
 -- made of letters, digits and hyphens
 abbrev pub Plain : List ℕ → Type 0
@@ -58,12 +58,12 @@ letter_or_digit x h ne = ⊎_elim (λ e. e) (λ e. absurd (ne e)) ((plain_octet 
 
 pub begins_without : (l : List ℕ) → 1 ≤ length l → Plain l → ((s : List ℕ) → l ≢ hyphen ∷ s) → begins is_letter_or_digit l ≡ true
 begins_without [] some h ne = absurd (omega arith)
-begins_without (x ∷ l) some h ne = letter_or_digit x (AllHead h) (λ e. ne l (cc))
+begins_without (x ∷ l) some h ne = letter_or_digit x (All-head h) (λ e. ne l (cc))
 
 pub ends_without : (l : List ℕ) → 1 ≤ length l → Plain l → ((s : List ℕ) → l ≢ s ++ (hyphen ∷ [])) → ends is_letter_or_digit l ≡ true
 ends_without [] some h ne = absurd (omega arith)
-ends_without (x ∷ []) some h ne = letter_or_digit x (AllHead h) (λ e. ne [] (cc))
-ends_without (x ∷ y ∷ l) some h ne = ends_without (y ∷ l) (omega arith) (AllTail h) (λ s e. ne (x ∷ s) (cc))
+ends_without (x ∷ []) some h ne = letter_or_digit x (All-head h) (λ e. ne [] (cc))
+ends_without (x ∷ y ∷ l) some h ne = ends_without (y ∷ l) (omega arith) (All-tail h) (λ s e. ne (x ∷ s) (cc))
 
 begins_long : (l : List ℕ) → begins is_letter_or_digit l ≡ true → 1 ≤ length l
 begins_long [] e = absurd (false≢true e)
@@ -105,7 +105,7 @@ groups_plain : {s : List ℕ} → many group s → Plain s
 groups_plain many_none = all_nil
 groups_plain (many_more a b e g more) =
     let k = spelled a b e g in
-    rw k.2 ((AllAppend k.0 (k.1 ∷ b)).1 (hyphens_plain k.3, all_cons (letter_plain k.1 k.4) (groups_plain more)))
+    rw k.2 ((All-append k.0 (k.1 ∷ b)).1 (hyphens_plain k.3, all_cons (letter_plain k.1 k.4) (groups_plain more)))
 
 -- they end in a letter or digit, as what stands before them does
 groups_end : {s : List ℕ} → many group s → (x : ℕ) → is_letter_or_digit x ≡ true → ends is_letter_or_digit (x ∷ s) ≡ true
@@ -124,7 +124,7 @@ hyphen_before {s} (many_more a b e g more) ne =
 -- the other way: after a letter or digit, what is plain and ends in a letter or digit is groups
 groups : (x : ℕ) (s : List ℕ) → is_letter_or_digit x ≡ true → Plain s → ends is_letter_or_digit (x ∷ s) ≡ true → many group s
 groups x [] h all e = many_none
-groups x (y ∷ s) h all e = go s ((plain_octet y).0 (AllHead all)) (AllTail all) e (λ z. groups z s)
+groups x (y ∷ s) h all e = go s ((plain_octet y).0 (All-head all)) (All-tail all) e (λ z. groups z s)
   where
     go : (s : List ℕ) → (is_letter_or_digit y ≡ true) ⊎ (y ≡ hyphen) → Plain s → ends is_letter_or_digit (y ∷ s) ≡ true →
         ((z : ℕ) → is_letter_or_digit z ≡ true → Plain s → ends is_letter_or_digit (z ∷ s) ≡ true → many group s) → many group (y ∷ s)
@@ -140,7 +140,7 @@ label_is_the_production l = (
   where
     made : (l : List ℕ) → Parts l → label l
     made [] k = absurd (false≢true k.1)
-    made (x ∷ s) k = (x ∷ [], s, refl, (x, refl, k.1), groups x s k.1 (AllTail k.0) k.2)
+    made (x ∷ s) k = (x ∷ [], s, refl, (x, refl, k.1), groups x s k.1 (All-tail k.0) k.2)
 
     parts : (x : ℕ) → is_letter_or_digit x ≡ true → {s : List ℕ} → many group s → Parts (x ∷ s)
     parts x h m = (all_cons (letter_plain x h) (groups_plain m), h, groups_end m x h)

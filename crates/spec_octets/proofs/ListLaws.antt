@@ -45,54 +45,54 @@ told_apart p c fails x passes e = true≢false (cc)
 
 module _ {A : Type 0} where
   module _ {P : A → Type 0} where
-    pub AllHead : {x : A} {xs : List A} → All P (x ∷ xs) → P x
-    AllHead (all_cons h hs) = h
+    pub All-head : {x : A} {xs : List A} → All P (x ∷ xs) → P x
+    All-head (all_cons h hs) = h
 
-    pub AllTail : {x : A} {xs : List A} → All P (x ∷ xs) → All P xs
-    AllTail (all_cons h hs) = hs
+    pub All-tail : {x : A} {xs : List A} → All P (x ∷ xs) → All P xs
+    All-tail (all_cons h hs) = hs
 
-    pub AllAppend : (xs ys : List A) → All P (xs ++ ys) ↔ (All P xs × All P ys)
-    AllAppend [] ys = (λ h. (all_nil, h), λ k. k.1)
-    AllAppend (x ∷ xs) ys = (
-      λ h. let k = (AllAppend xs ys).0 (AllTail h) in (all_cons (AllHead h) k.0, k.1),
-      λ k. all_cons (AllHead k.0) ((AllAppend xs ys).1 (AllTail k.0, k.1)),
+    pub All-append : (xs ys : List A) → All P (xs ++ ys) ↔ (All P xs × All P ys)
+    All-append [] ys = (λ h. (all_nil, h), λ k. k.1)
+    All-append (x ∷ xs) ys = (
+      λ h. let k = (All-append xs ys).0 (All-tail h) in (all_cons (All-head h) k.0, k.1),
+      λ k. all_cons (All-head k.0) ((All-append xs ys).1 (All-tail k.0, k.1)),
     )
 
-    pub AllFront : (xs ys : List A) → All P (xs ++ ys) → All P xs
-    AllFront xs ys h = ((AllAppend xs ys).0 h).0
+    pub All-front : (xs ys : List A) → All P (xs ++ ys) → All P xs
+    All-front xs ys h = ((All-append xs ys).0 h).0
 
-    pub AllRest : (xs ys : List A) → All P (xs ++ ys) → All P ys
-    AllRest xs ys h = ((AllAppend xs ys).0 h).1
+    pub All-rest : (xs ys : List A) → All P (xs ++ ys) → All P ys
+    All-rest xs ys h = ((All-append xs ys).0 h).1
 
-    pub AllJoin : {xs ys : List A} → All P xs → All P ys → All P (xs ++ ys)
-    AllJoin {xs} {ys} h k = (AllAppend xs ys).1 (h, k)
+    pub All-join : {xs ys : List A} → All P xs → All P ys → All P (xs ++ ys)
+    All-join {xs} {ys} h k = (All-append xs ys).1 (h, k)
 
-    pub AllMember : {y : A} {xs : List A} → All P xs → Memᴰ y xs → P y
-    AllMember {y} h (Memᴰ.head e) = subst P (sym e) (AllHead h)
-    AllMember h (Memᴰ.tail m) = AllMember (AllTail h) m
+    pub All-member : {y : A} {xs : List A} → All P xs → Memᴰ y xs → P y
+    All-member {y} h (Memᴰ.head e) = subst P (sym e) (All-head h)
+    All-member h (Memᴰ.tail m) = All-member (All-tail h) m
 
-  pub AllImp : {P Q : A → Type 0} → ((x : A) → P x → Q x) → {xs : List A} → All P xs → All Q xs
-  AllImp f all_nil = all_nil
-  AllImp f (all_cons {x} h hs) = all_cons (f x h) (AllImp f hs)
+  pub All-imp : {P Q : A → Type 0} → ((x : A) → P x → Q x) → {xs : List A} → All P xs → All Q xs
+  All-imp f all_nil = all_nil
+  All-imp f (all_cons {x} h hs) = all_cons (f x h) (All-imp f hs)
 
-  pub AllMap :
+  pub All-map :
       {B : Type 0} {P : A → Type 0} {Q : B → Type 0} (f : A → B) → ((x : A) → P x → Q (f x)) → {xs : List A} → All P xs → All Q (map f xs)
-  AllMap f h all_nil = all_nil
-  AllMap f h (all_cons {x} k ks) = all_cons (h x k) (AllMap f h ks)
+  All-map f h all_nil = all_nil
+  All-map f h (all_cons {x} k ks) = all_cons (h x k) (All-map f h ks)
 
   module _ (p : A → Bool) where
     pub all_true : (xs : List A) → (all p xs ≡ true) ↔ All (λ x. p x ≡ true) xs
     all_true [] = (λ e. all_nil, λ h. refl)
     all_true (x ∷ xs) = (
       λ e. let k = (and-eq-true_iff (p x) (all p xs)).0 e in all_cons k.0 ((all_true xs).0 k.1),
-      λ h. (and-eq-true_iff (p x) (all p xs)).1 (AllHead h, (all_true xs).1 (AllTail h)),
+      λ h. (and-eq-true_iff (p x) (all p xs)).1 (All-head h, (all_true xs).1 (All-tail h)),
     )
 
     pub any_false : (xs : List A) → (any p xs ≡ false) ↔ All (λ x. p x ≡ false) xs
     any_false [] = (λ e. all_nil, λ h. refl)
     any_false (x ∷ xs) = (
       λ e. let k = (or_eq_false (p x) (any p xs)).0 e in all_cons k.0 ((any_false xs).0 k.1),
-      λ h. (or_eq_false (p x) (any p xs)).1 (AllHead h, (any_false xs).1 (AllTail h)),
+      λ h. (or_eq_false (p x) (any p xs)).1 (All-head h, (any_false xs).1 (All-tail h)),
     )
 
     -- an element that passes

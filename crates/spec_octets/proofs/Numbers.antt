@@ -12,7 +12,7 @@ use Rattle.spec_octets.specs.Octets.{Octets}
 use Rattle.spec_octets.specs.Reader.{Reader, octets, pure, value_from, number, in_octets}
 use Rattle.spec_octets.specs.Theorems.{NumbersHighOctetFirst, NumbersWritten}
 use Rattle.spec_octets.proofs.ReaderLaws.{bind_some, octets_some, pure_some}
-use Rattle.spec_octets.proofs.ListLaws.{AllHead, AllFront, AllRest, AllJoin}
+use Rattle.spec_octets.proofs.ListLaws.{All-head, All-front, All-rest, All-join}
 
 -- the last octet is the low one
 pub value_snoc : (n : ℕ) (a : List ℕ) (x : ℕ) → value_from n (a ++ (x ∷ [])) ≡ value_from n a * 256 + x
@@ -32,7 +32,7 @@ value_in_octets (suc k) n h =
 
 octets_in_octets : (k n : ℕ) → Octets (in_octets k n)
 octets_in_octets zero n = all_nil
-octets_in_octets (suc k) n = AllJoin (octets_in_octets k (n / 256)) (all_cons (omega arith) all_nil)
+octets_in_octets (suc k) n = All-join (octets_in_octets k (n / 256)) (all_cons (omega arith) all_nil)
 
 pub numbers_written : NumbersWritten
 numbers_written k n h = (length_in_octets k n, octets_in_octets k n, value_in_octets k n h)
@@ -53,7 +53,7 @@ written zero [] l o = (refl, omega arith)
 written zero (x ∷ a) l o = absurd (omega arith)
 written (suc k) a l o =
     subst (Written (suc k)) (sym last)
-    (written_snoc k front x (written k front (length-take-le k a (omega arith)) (AllFront front (x ∷ []) o')) (AllHead (AllRest front (x ∷ []) o')))
+    (written_snoc k front x (written k front (length-take-le k a (omega arith)) (All-front front (x ∷ []) o')) (All-head (All-rest front (x ∷ []) o')))
   where
     front : List ℕ
     front = take k a
@@ -79,7 +79,7 @@ numbers_high_octet_first k s o n rest =
     found a mid taken h =
         let (front, l) = (octets_some k s a mid).0 taken in
         let (v, r) = (pure_some (value_from 0 a) n mid rest).0 h in
-        let (w, small) = written k a l (AllFront a mid (rw front at o)) in
+        let (w, small) = written k a l (All-front a mid (rw front at o)) in
         (rw (← v, ← r, ← w) front, rw (← v) small)
 
     stands : s ≡ in_octets k n ++ rest → n < 256 ^ k → number k s ≡ some (n, rest)

@@ -10,7 +10,7 @@ use Rattle.spec_octets.specs.Lists.{All, all_nil, all_cons}
 use Rattle.spec_octets.specs.Pieces.{extend, split, join}
 use Rattle.spec_octets.specs.Theorems.{PiecesJoin, PiecesExample}
 use Rattle.spec_octets.specs.Pinned.{JoinForm}
-use Rattle.spec_octets.proofs.ListLaws.{AllHead, AllTail}
+use Rattle.spec_octets.proofs.ListLaws.{All-head, All-tail}
 
 module _ (c : ℕ) where
   abbrev Clean : List ℕ → Type 0
@@ -33,7 +33,7 @@ module _ (c : ℕ) where
       go true e (p ∷ ps) h = let q = h.0 in (cc (eqb-true x c e), cons≢nil, all_cons all_nil h.2)
       go false e (p ∷ ps) h =
           let q = h.0 in
-          (cc (join_extend x p ps), cons≢nil, all_cons (all_cons (eqb-false x c e) (AllHead h.2)) (AllTail h.2))
+          (cc (join_extend x p ps), cons≢nil, all_cons (all_cons (eqb-false x c e) (All-head h.2)) (All-tail h.2))
 
   -- a clean front goes into the first piece, which is empty where s ends or goes on with c
   split_front : {p : List ℕ} → Clean p → (s : List ℕ) (qs : List (List ℕ)) → split c s ≡ [] ∷ qs → split c (p ++ s) ≡ p ∷ qs
@@ -42,9 +42,9 @@ module _ (c : ℕ) where
 
   split_join : (ps : List (List ℕ)) → ps ≢ [] → All Clean ps → split c (join c ps) ≡ ps
   split_join [] n h = absurd (n refl)
-  split_join (p ∷ []) n h = rw append-nil at (split_front (AllHead h) [] [] refl)
+  split_join (p ∷ []) n h = rw append-nil at (split_front (All-head h) [] [] refl)
   split_join (p ∷ q ∷ ps) n h =
-      split_front (AllHead h) (c ∷ join c (q ∷ ps)) (q ∷ ps) (rw (eq-eqb c c refl, split_join (q ∷ ps) cons≢nil (AllTail h)) refl)
+      split_front (All-head h) (c ∷ join c (q ∷ ps)) (q ∷ ps) (rw (eq-eqb c c refl, split_join (q ∷ ps) cons≢nil (All-tail h)) refl)
 
 pub join_form : JoinForm
 join_form c = (refl, λ p. refl, λ p q ps. refl)

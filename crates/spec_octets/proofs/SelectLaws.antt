@@ -5,7 +5,7 @@ use mathlib.Core.Bool.{Bool, true, false, true≢false, false≢true}
 use mathlib.Core.List.{List, [], ◌∷◌, ◌++◌, map, nil≢cons, cons≢nil, head-eq_of_cons-eq, tail-eq_of_cons-eq}
 use Rattle.spec_octets.specs.Lists.{cons_if, select, is_empty, All, all_nil, all_cons, Any, any_here, any_there, Selects, selects_nil, selects_take, selects_pass, First}
 use Rattle.spec_octets.specs.Theorems.{ListFolds, ListTests}
-use Rattle.spec_octets.proofs.ListLaws.{true_or_false, not_passed, all_true, any_true, AllHead, AllTail, ends_append}
+use Rattle.spec_octets.proofs.ListLaws.{true_or_false, not_passed, all_true, any_true, All-head, All-tail, ends_append}
 
 -- where one test says of f x what the other says of x
 pub select_map :
@@ -22,8 +22,8 @@ module _ {A : Type 0} {P : A → Type 0} where
   -- what is selected says what stands in the list
   pub selects_none : {xs ys : List A} → Selects P xs ys → (ys ≡ []) ↔ All (λ x. P x → ⊥) xs
   selects_none selects_nil = (λ e. all_nil, λ n. refl)
-  selects_none (selects_take h s) = (λ e. absurd (cons≢nil e), λ n. absurd (AllHead n h))
-  selects_none (selects_pass n s) = (λ e. all_cons n ((selects_none s).0 e), λ ns. (selects_none s).1 (AllTail ns))
+  selects_none (selects_take h s) = (λ e. absurd (cons≢nil e), λ n. absurd (All-head n h))
+  selects_none (selects_pass n s) = (λ e. all_cons n ((selects_none s).0 e), λ ns. (selects_none s).1 (All-tail ns))
 
   pub selects_first : {xs ys : List A} → Selects P xs ys → {y : A} {zs : List A} → ys ≡ y ∷ zs → First P xs y
   selects_first selects_nil e = absurd (nil≢cons e)
@@ -42,8 +42,8 @@ module _ {A : Type 0} {P : A → Type 0} where
       past [] ns (selects_take {ys} p s) e = (ys, rw (head-eq_of_cons-eq e))
       past [] ns (selects_pass n s) e = absurd (n (rw (← head-eq_of_cons-eq e) at h))
       past (b ∷ before) ns selects_nil e = absurd (nil≢cons e)
-      past (b ∷ before) ns (selects_take p s) e = absurd (AllHead ns (rw (head-eq_of_cons-eq e) at p))
-      past (b ∷ before) ns (selects_pass n s) e = past before (AllTail ns) s (tail-eq_of_cons-eq e)
+      past (b ∷ before) ns (selects_take p s) e = absurd (All-head ns (rw (head-eq_of_cons-eq e) at p))
+      past (b ∷ before) ns (selects_pass n s) e = past before (All-tail ns) s (tail-eq_of_cons-eq e)
 
   pub selects_unique : {xs ys zs : List A} → Selects P xs ys → Selects P xs zs → ys ≡ zs
   selects_unique selects_nil selects_nil = refl

@@ -13,7 +13,7 @@ use borrow.Author.Tests.{ltb-true, ltb-false, lt-ltb, le-ltb, le-leb}
 use Rattle.spec_octets.specs.Lists.{All, all_nil, all_cons}
 use Rattle.spec_octets.specs.Octets.{is_digit}
 use Rattle.spec_octets.specs.Decimal.{decimal_from}
-use Rattle.spec_octets.proofs.ListLaws.{true_or_false, AllJoin}
+use Rattle.spec_octets.proofs.ListLaws.{true_or_false, All-join}
 use Rattle.spec_octets.proofs.Decimals.{from_last}
 use Rattle.spec_octets.specs.WrittenDecimal.{digit, decimal_within, decimal}
 use Rattle.spec_octets.specs.Theorems.{Decimals}
@@ -90,7 +90,7 @@ says_more n h tens =
     let more = decimal_more n h in
     let last : n % 10 < 10 = omega arith in record {
       some = λ e. nonempty (decimal (n / 10)) (sym more ∙ e);
-      digits = rw more (AllJoin tens.digits (all_cons (digit_is (n % 10) last) all_nil));
+      digits = rw more (All-join tens.digits (all_cons (digit_is (n % 10) last) all_nil));
       back = rw (more, from_last 0 (digit (n % 10)) (decimal (n / 10)), tens.back) (omega (arith, div-add-mod' n 10));
       zeroless = λ m s e.
           let k = begun (decimal (n / 10)) (digit (n % 10) ∷ []) s (code "0") tens.some (sym more ∙ e) in

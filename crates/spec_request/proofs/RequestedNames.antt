@@ -11,7 +11,7 @@ use lib.ListN.{length-append}
 use Rattle.spec_octets.specs.Lists.{All, all, is_empty}
 use Rattle.spec_octets.specs.Octets.{text, is_upper, is_lower, is_digit, is_letter_or_digit}
 use Rattle.spec_octets.specs.Label.{is_letter_digit_hyphen, is_host_label, HostLabel}
-use Rattle.spec_octets.proofs.ListLaws.{true_or_false, not_passed, all_true, AllHead, AllTail, AllImp}
+use Rattle.spec_octets.proofs.ListLaws.{true_or_false, not_passed, all_true, All-head, All-tail, All-imp}
 use Rattle.spec_octets.proofs.Texts.{same_equal}
 use Rattle.spec_octets.proofs.Labels.{host_labels}
 use Rattle.spec_octets.proofs.ReaderLaws.{given_some}
@@ -39,12 +39,12 @@ base_form (l ∷ n) = go (true_or_false (is_asterisk l))
 
 no_asterisk : (l : Label) → HostLabel l → l ≢ text "*"
 unfolding is_letter_digit_hyphen is_letter_or_digit is_upper is_lower is_digit
-no_asterisk l h e = false≢true (AllHead (rw e at h.2))
+no_asterisk l h e = false≢true (All-head (rw e at h.2))
 
 host_base : (x : Name) → All HostLabel x → base x ≡ x
 unfolding base
 host_base [] h = refl
-host_base (l ∷ x) h = (wildcard_form.1 l x (no_asterisk l (AllHead h))).1
+host_base (l ∷ x) h = (wildcard_form.1 l x (no_asterisk l (All-head h))).1
 
 -- a name is X or *.X in one way
 one_base : (n x : Name) → (n ≡ x) ⊎ (n ≡ text "*" ∷ x) → All HostLabel x → base n ≡ x
@@ -57,8 +57,8 @@ not_root (l ∷ x) = (λ e. cons≢nil, λ h. refl)
 
 host_names : (x : Name) → (all is_host_label x ≡ true) ↔ All HostLabel x
 host_names x = (
-  λ e. AllImp (λ l. (host_labels l).0) ((all_true is_host_label x).0 e),
-  λ h. (all_true is_host_label x).1 (AllImp (λ l. (host_labels l).1) h),
+  λ e. All-imp (λ l. (host_labels l).0) ((all_true is_host_label x).0 e),
+  λ h. (all_true is_host_label x).1 (All-imp (λ l. (host_labels l).1) h),
 )
 
 requestable : (n : Name) → (is_requestable n ≡ true) ↔ ((x : Name) × ((n ≡ x) ⊎ (n ≡ text "*" ∷ x)) × (x ≢ []) × All HostLabel x)
@@ -93,5 +93,5 @@ good_base [] g = g
 good_base (l ∷ ls) g = go (is_asterisk l)
   where
     go : (t : Bool) → GoodName (cond t ls (l ∷ ls))
-    go true = (AllTail g.0, omega (arith, g.1, length-append l (wire ls)))
+    go true = (All-tail g.0, omega (arith, g.1, length-append l (wire ls)))
     go false = g

@@ -8,7 +8,7 @@ use mathlib.Core.List.{List, [], ◌∷◌, cons≢nil, Memᴰ}
 use mathlib.Core.Option.{Option, none, some, none-ne-some, some-injective}
 use Rattle.spec_octets.specs.Lists.{any, select, All, all_nil, all_cons, Any, any_here, any_there, Selects}
 use Rattle.spec_octets.specs.Octets.{same, lowered}
-use Rattle.spec_octets.proofs.ListLaws.{AllImp, any_true}
+use Rattle.spec_octets.proofs.ListLaws.{All-imp, any_true}
 use Rattle.spec_octets.proofs.ListLaws
 use Rattle.spec_octets.proofs.SelectLaws.{selected, selects_none, selects_first, first_selects, selects_unique, selects_alike, any_kept, any_of_kept}
 use Rattle.spec_octets.proofs.Texts.{same_equal}
@@ -70,7 +70,7 @@ governing_selects true rs = go (select is_issue_wild rs) refl
     go : (ws : List CaaRecord) → select is_issue_wild rs ≡ ws → Selects (Governs true rs) rs (or_else ws (select is_issue rs))
     go [] e =
         let n = (selects_none (issuewild_selects rs)).0 e in
-        selects_alike (AllImp (λ r h. (λ i. inr (i, n), ⊎_elim (λ w. absurd (h w)) (λ k. k.0))) n) (issue_selects rs)
+        selects_alike (All-imp (λ r h. (λ i. inr (i, n), ⊎_elim (λ w. absurd (h w)) (λ k. k.0))) n) (issue_selects rs)
     go (w ∷ ws) e =
         selects_alike
         (every (λ r. (inl, ⊎_elim (λ w. w) (λ k. absurd (cons≢nil (sym e ∙ (selects_none (issuewild_selects rs)).1 k.1))))) rs)

@@ -13,7 +13,7 @@ use Rattle.spec_refusal.specs.declared.Refusal.{Refusal}
 use Rattle.spec_refusal.specs.Refusal.{number}
 use Rattle.spec_refusal.specs.Order.{order, stands_at, rank}
 use Rattle.spec_octets.specs.Lists.{all, any}
-use Rattle.spec_octets.proofs.ListLaws.{true_or_false, AllMember, all_true, any_true}
+use Rattle.spec_octets.proofs.ListLaws.{true_or_false, All-member, all_true, any_true}
 use Rattle.spec_rule.specs.Calls.{first_refusal}
 use Rattle.spec_rule.specs.Theorems.{FirstRow}
 
@@ -26,7 +26,7 @@ abbrev pub before : List ℕ → List ℕ → Bool
 before ms ns = all (λ m. all (λ n. ltb (checked_at m) (checked_at n)) ns) ms
 
 earlier : {ms ns : List ℕ} → before ms ns ≡ true → {m n : ℕ} → Memᴰ m ms → Memᴰ n ns → checked_at m < checked_at n
-earlier {ms} {ns} sorted {m} {n} i j = ltb-true _ _ (AllMember ((all_true _ ns).0 (AllMember ((all_true _ ms).0 sorted) i)) j)
+earlier {ms} {ns} sorted {m} {n} i j = ltb-true _ _ (All-member ((all_true _ ns).0 (All-member ((all_true _ ms).0 sorted) i)) j)
 
 -- a check gives r, or a refusal that comes before r
 abbrev pub Reached : Option Refusal → Refusal → Type 0

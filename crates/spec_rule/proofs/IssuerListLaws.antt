@@ -9,7 +9,7 @@ use mathlib.Core.List.Memᴰ
 use mathlib.Core.List.{List, [], ◌∷◌, ◌++◌, Memᴰ}
 use Rattle.spec_octets.specs.Lists.{all, any, select, All, all_nil, all_cons, Selects, Distinct, distinct_nil}
 use Rattle.spec_octets.specs.Octets.{same, lowered}
-use Rattle.spec_octets.proofs.ListLaws.{AllHead, AllTail, AllMember}
+use Rattle.spec_octets.proofs.ListLaws.{All-head, All-tail, All-member}
 use Rattle.spec_octets.proofs.SelectLaws.{selected}
 use Rattle.spec_octets.proofs.SelectedLists.{selects_have, selects_all, selects_distinct, any_selects}
 use Rattle.spec_octets.proofs.Texts.{same_equal}
@@ -29,13 +29,13 @@ one_list e = cc
 
 pub issuers_anyone : (says : List Authorization) → (issuers says ≡ anyone) ↔ All (λ a. a ≡ unrestricted) says
 issuers_anyone [] = (λ e. all_nil, λ h. refl)
-issuers_anyone (unrestricted ∷ says) = (λ e. all_cons refl ((issuers_anyone says).0 e), λ h. (issuers_anyone says).1 (AllTail h))
+issuers_anyone (unrestricted ∷ says) = (λ e. all_cons refl ((issuers_anyone says).0 e), λ h. (issuers_anyone says).1 (All-tail h))
 issuers_anyone (forbidden r ∷ says) =
-    (λ e. absurd (listed≢anyone e), λ h. let e = AllHead h in let z : ◌≡◌ {A = ℕ} 0 1 = cc in absurd (omega arith))
+    (λ e. absurd (listed≢anyone e), λ h. let e = All-head h in let z : ◌≡◌ {A = ℕ} 0 1 = cc in absurd (omega arith))
 issuers_anyone (granted r ns ∷ says) =
-    (λ e. absurd (listed≢anyone e), λ h. let e = AllHead h in let z : ◌≡◌ {A = ℕ} 0 1 = cc in absurd (omega arith))
+    (λ e. absurd (listed≢anyone e), λ h. let e = All-head h in let z : ◌≡◌ {A = ℕ} 0 1 = cc in absurd (omega arith))
 issuers_anyone (unresolved r ∷ says) =
-    (λ e. absurd (listed≢anyone e), λ h. let e = AllHead h in let z : ◌≡◌ {A = ℕ} 0 1 = cc in absurd (omega arith))
+    (λ e. absurd (listed≢anyone e), λ h. let e = All-head h in let z : ◌≡◌ {A = ℕ} 0 1 = cc in absurd (omega arith))
 
 -- unrestricted names in front change nothing
 pub issuers_past : (front says : List Authorization) → All (λ a. a ≡ unrestricted) front → issuers (front ++ says) ≡ issuers says
@@ -55,10 +55,10 @@ module _ (P : List ℕ → Type 0) where
 
   pub issuers_all : (says : List Authorization) (ns : List (List ℕ)) → All GrantsOnly says → issuers says ≡ listed ns → All P ns
   issuers_all [] ns h e = absurd (listed≢anyone (sym e))
-  issuers_all (unrestricted ∷ says) ns h e = issuers_all says ns (AllTail h) e
+  issuers_all (unrestricted ∷ says) ns h e = issuers_all says ns (All-tail h) e
   issuers_all (forbidden r ∷ says) ns h e = rw (← one_list e) all_nil
   issuers_all (unresolved r ∷ says) ns h e = rw (← one_list e) all_nil
-  issuers_all (granted r ms ∷ says) ns h e = selects_all (issuers_selected r ms says ns e) (distinct_all (AllHead h r ms refl))
+  issuers_all (granted r ms ∷ says) ns h e = selects_all (issuers_selected r ms says ns e) (distinct_all (All-head h r ms refl))
 
 pub issuers_distinct : (says : List Authorization) (ns : List (List ℕ)) → issuers says ≡ listed ns → Distinct ns
 issuers_distinct [] ns e = absurd (listed≢anyone (sym e))
@@ -109,7 +109,7 @@ issuers_permitted d (granted r ms ∷ says) = (λ e. inr (those, refl, standing.
 
     standing : Memᴰ (lowered d) those ↔ ((any (same (lowered d)) ms ≡ true) × (all (permits d) says ≡ true))
     standing = (
-      λ m. let h = AllMember (selects_have chosen) m in
+      λ m. let h = All-member (selects_have chosen) m in
           (sym (looked_up_lem h) ∙ (any_same (lowered d) those).1 m, sym (all_permit_lowered d says) ∙ h),
       λ k. (any_same (lowered d) those).0 (looked_up_lem (all_permit_lowered d says ∙ k.1) ∙ k.0),
     )
@@ -130,5 +130,5 @@ issuers_order r ms says ns e a b m l = rw (← kept) (before_exactly a b ns (iss
     kept : first_before (same a) (same b) ns ≡ first_before (same a) (same b) ms
     kept =
         first_before_selects (same a) (same b)
-        (same_permitted says a (AllMember (selects_have those) m)) (same_permitted says b (AllMember (selects_have those) l)) those
+        (same_permitted says a (All-member (selects_have those) m)) (same_permitted says b (All-member (selects_have those) l)) those
         ∙ first_before_distinct (same a) (same b) ms

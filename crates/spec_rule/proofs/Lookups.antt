@@ -9,7 +9,7 @@ use mathlib.Core.List.{List, [], ◌∷◌, cons≢nil}
 use mathlib.Core.Option.{Option, none, some, none-ne-some, some-injective}
 use Rattle.spec_limits.specs.Limits.{max_aliases}
 use Rattle.spec_octets.specs.Lists.{All, all_nil, all_cons, First, Selects}
-use Rattle.spec_octets.proofs.ListLaws.{true_or_false, AllImp}
+use Rattle.spec_octets.proofs.ListLaws.{true_or_false, All-imp}
 use Rattle.spec_octets.proofs.SelectLaws.{selects_none, selected, selects_exactly}
 use Rattle.spec_name.specs.Names.{Name, same_name, wire, GoodName}
 use Rattle.spec_name.proofs.WholeNames.{whole_names}
@@ -40,7 +40,7 @@ pub caa_records_lem : CaaRecords
 caa_records_lem = caa_from 0
 
 pub alias_records : AliasRecords
-alias_records rs good = kind_records Name Alias 5 1 is_alias target (λ d t. (d ≡ wire t) × GoodName t) as_alias alias_exactly target_is_its_name 0 rs (AllImp (λ r g t c. let (n, whole, valid) = g.5.1 t c in (n, (whole, valid))) good)
+alias_records rs good = kind_records Name Alias 5 1 is_alias target (λ d t. (d ≡ wire t) × GoodName t) as_alias alias_exactly target_is_its_name 0 rs (All-imp (λ r g t c. let (n, whole, valid) = g.5.1 t c in (n, (whole, valid))) good)
 
 empty≢endless : {r : ℕ} → empty ≡ endless r → ⊥
 empty≢endless e = true≢false (cc)

@@ -7,7 +7,7 @@ use mathlib.Core.List.Memᴰ
 use mathlib.Core.List.{List, [], ◌∷◌, ◌++◌, append_assoc}
 use Rattle.spec_octets.specs.Lists.{any, select, All, all_nil, all_cons, Selects, selects_nil, selects_take, selects_pass, Distinct, distinct_cons, First}
 use Rattle.spec_octets.specs.Octets.{same}
-use Rattle.spec_octets.proofs.ListLaws.{not_passed, any_true, any_false, AllHead, AllTail, AllRest, AllImp}
+use Rattle.spec_octets.proofs.ListLaws.{not_passed, any_true, any_false, All-head, All-tail, All-rest, All-imp}
 use Rattle.spec_octets.proofs.SelectLaws.{fails, selected, selects_none, selects_first}
 use Rattle.spec_octets.proofs.SelectedLists.{any_selects}
 use Rattle.spec_octets.proofs.Texts.{same_equal}
@@ -41,7 +41,7 @@ module _ {A : Type 0} where
       go : (ys : List A) → select p xs ≡ ys → (x : A) × First P xs x
       go [] k =
           let absent = (selects_none (selected p decides xs)).0 k in
-          absurd (true≢false (sym e ∙ (any_false p xs).1 (AllImp (λ x. (fails p decides x).1) absent)))
+          absurd (true≢false (sym e ∙ (any_false p xs).1 (All-imp (λ x. (fails p decides x).1) absent)))
       go (y ∷ ys) k = (y, selects_first (selected p decides xs) k)
 
   module _ (p q : A → Bool) {P Q : A → Type 0} (p-decides : Decides p P) (q-decides : Decides q Q) where
@@ -49,10 +49,10 @@ module _ {A : Type 0} where
         (u v w : List A) (g h : A) → P g → Q h → All (λ x. P x → ⊥) u → All (λ x. Q x → ⊥) (u ++ (g ∷ v)) →
         first_before p q (u ++ (g ∷ (v ++ (h ∷ w)))) ≡ true
     in_order_passes [] v w g h pg qh a b =
-        rw ((fails q q-decides g).1 (AllHead b), (p-decides g).1 pg)
+        rw ((fails q q-decides g).1 (All-head b), (p-decides g).1 pg)
         ((any_true q (v ++ (h ∷ w))).1 (h, Memᴰ.append_right v (Memᴰ.head refl), (q-decides h).1 qh))
     in_order_passes (x ∷ u) v w g h pg qh a b =
-        rw ((fails q q-decides x).1 (AllHead b), (fails p p-decides x).1 (AllHead a)) (in_order_passes u v w g h pg qh (AllTail a) (AllTail b))
+        rw ((fails q q-decides x).1 (All-head b), (fails p p-decides x).1 (All-head a)) (in_order_passes u v w g h pg qh (All-tail a) (All-tail b))
 
     passes_in_order : (xs : List A) → first_before p q xs ≡ true → InOrder P Q xs
     passes_in_order [] e = absurd (false≢true e)
@@ -75,7 +75,7 @@ module _ {A : Type 0} where
   -- of distinct elements, those before one are others
   others_before : (u : List A) (a : A) (r : List A) → Distinct (u ++ (a ∷ r)) → All (λ x. a ≢ x) u
   others_before [] a r d = all_nil
-  others_before (x ∷ u) a r (distinct_cons h hs) = all_cons (AllHead (AllRest u (a ∷ r) h)) (others_before u a r hs)
+  others_before (x ∷ u) a r (distinct_cons h hs) = all_cons (All-head (All-rest u (a ∷ r) h)) (others_before u a r hs)
 
 -- where none stands twice, the only place is the first
 pub before_exactly : (a b : List ℕ) (xs : List (List ℕ)) → Distinct xs → Before a b xs ↔ (first_before (same a) (same b) xs ≡ true)

@@ -6,7 +6,7 @@ use mathlib.Core.Logic.{◌↔◌}
 use mathlib.Core.Bool.{true}
 use mathlib.Core.List.{List, [], ◌∷◌, map, map-append, Memᴰ}
 use Rattle.spec_octets.specs.Lists.{all, All, all_nil, all_cons}
-use Rattle.spec_octets.proofs.ListLaws.{all_true, AllHead, AllTail}
+use Rattle.spec_octets.proofs.ListLaws.{all_true, All-head, All-tail}
 use Rattle.spec_name.specs.Names.{Name}
 use Rattle.spec_request.specs.Request.{requested_names}
 use Rattle.spec_issuer.proofs.Dotted.{issuer_refusals}
@@ -24,20 +24,20 @@ use Rattle.spec_rule.proofs.IssuerListLaws.{GrantsOnly, issuers_anyone, issuers_
 use Rattle.spec_rule.proofs.GranteeLaws.{SmallName, grantees_small, granted_before}
 
 -- what holds of each value of f holds, said otherwise, of each argument
-AllOfMap : {A B : Type 0} {P : B → Type 0} {Q : A → Type 0} (f : A → B) → ((x : A) → P (f x) ↔ Q x) → (xs : List A) → All P (map f xs) ↔ All Q xs
-AllOfMap f h [] = (λ k. all_nil, λ k. all_nil)
-AllOfMap f h (x ∷ xs) = (
-  λ k. all_cons ((h x).0 (AllHead k)) ((AllOfMap f h xs).0 (AllTail k)),
-  λ k. all_cons ((h x).1 (AllHead k)) ((AllOfMap f h xs).1 (AllTail k)),
+All-of_map : {A B : Type 0} {P : B → Type 0} {Q : A → Type 0} (f : A → B) → ((x : A) → P (f x) ↔ Q x) → (xs : List A) → All P (map f xs) ↔ All Q xs
+All-of_map f h [] = (λ k. all_nil, λ k. all_nil)
+All-of_map f h (x ∷ xs) = (
+  λ k. all_cons ((h x).0 (All-head k)) ((All-of_map f h xs).0 (All-tail k)),
+  λ k. all_cons ((h x).1 (All-head k)) ((All-of_map f h xs).1 (All-tail k)),
 )
 
 module _ (who : Applicant) (book : Book) where
   names_unrestricted : (ns : List Name) → All (λ a. a ≡ unrestricted) (map (authorization who book) ns) ↔ All (Unrestricted book) ns
-  names_unrestricted ns = AllOfMap (authorization who book) (unrestricted_exactly who book) ns
+  names_unrestricted ns = All-of_map (authorization who book) (unrestricted_exactly who book) ns
 
   names_permitted : (d : List ℕ) (ns : List Name) → (all (permits d) (map (authorization who book) ns) ≡ true) ↔ All (λ n. PermittedTo book n who d) ns
   names_permitted d ns =
-      Iff.trans (all_true (permits d) (map (authorization who book) ns)) (AllOfMap (authorization who book) (λ n. permits_exactly who book n d) ns)
+      Iff.trans (all_true (permits d) (map (authorization who book) ns)) (All-of_map (authorization who book) (λ n. permits_exactly who book n d) ns)
 
   names_grant_small : (ns : List Name) → All (GrantsOnly SmallName) (map (authorization who book) ns)
   names_grant_small [] = all_nil

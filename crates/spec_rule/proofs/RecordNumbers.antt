@@ -8,7 +8,7 @@ use mathlib.Core.Option.{Option, none, some}
 use lib.ListN.{length}
 use Rattle.spec_limits.specs.Limits.{max_records}
 use Rattle.spec_octets.specs.Lists.{All, all_nil, all_cons}
-use Rattle.spec_octets.proofs.ListLaws.{AllJoin}
+use Rattle.spec_octets.proofs.ListLaws.{All-join}
 use Rattle.spec_octets.proofs.ItemRoom.{items_within, whole_within}
 use Rattle.spec_name.specs.Names.{Name}
 use Rattle.spec_record.specs.Property.{property}
@@ -22,7 +22,7 @@ module _ {A B : Type 0} (is_of : ℕ → ℕ → Bool) (read : List ℕ → Opti
     (numbered : (k : ℕ) (x : Name) (a : A) → number_of (made k x a) ≡ k) (m : ℕ) where
   kind_numbered : (k : ℕ) (rs : List Record) → k + length rs ≤ m → All (λ b. number_of b < m) (of_kind_from is_of read made k rs)
   kind_numbered k [] h = all_nil
-  kind_numbered k (r ∷ rs) h = AllJoin (one (is_of r.type r.class) (read r.rdata)) (kind_numbered (suc k) rs (omega arith))
+  kind_numbered k (r ∷ rs) h = All-join (one (is_of r.type r.class) (read r.rdata)) (kind_numbered (suc k) rs (omega arith))
     where
       one : (t : Bool) (o : Option A) → All (λ b. number_of b < m) (cond t (kept (made k r.owner) o) [])
       one true none = all_nil

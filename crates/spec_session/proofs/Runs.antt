@@ -11,7 +11,7 @@ use lib.ListN.{length, take, drop, get_or}
 use borrow.Author.Tests.{lt-ltb}
 use Rattle.spec_limits.specs.Limits.{max_records}
 use Rattle.spec_octets.specs.Lists.{All, select}
-use Rattle.spec_octets.proofs.ListLaws.{AllHead, AllRest}
+use Rattle.spec_octets.proofs.ListLaws.{All-head, All-rest}
 use Rattle.spec_octets.proofs.SelectedLists.{selects_all}
 use Rattle.spec_octets.proofs.SelectLaws.{selects_none, selects_first}
 use Rattle.spec_name.specs.Names.{Name, ancestors}
@@ -86,7 +86,7 @@ looked_below b x (found rs) e =
     selects_all selects (book_numbered b).0
 looked_below b x (endless r) e =
     let (y, leads, (a, (before, after, f, p, ns), number)) = ((a_lookup (as_book (records b)) x).2 r).0 e in
-    rw (← number) (AllHead (AllRest before (a ∷ after) (rw f at (book_numbered b).1)))
+    rw (← number) (All-head (All-rest before (a ∷ after) (rw f at (book_numbered b).1)))
 
 -- a verdict on one name is read back from what is kept of it
 told_back :
@@ -96,10 +96,10 @@ unfolding judgement_code verdict_of
 told_back wildcard l u h j (inl e) = rw e refl
 told_back wildcard l u h j (inr (inl (rs, c, f, (before, after, split, p, ns), e))) =
     let few : All (λ c. c.number < max_records) rs = rw f at h in
-    rw (e, lt-ltb c.number max_records (AllHead (AllRest before (c ∷ after) (rw split at few)))) refl
+    rw (e, lt-ltb c.number max_records (All-head (All-rest before (c ∷ after) (rw split at few)))) refl
 told_back wildcard l u h j (inr (inr (inl (rs, c, f, known, (before, after, split, p, ns), e)))) =
     let few : All (λ c. c.number < max_records) rs = rw f at h in
-    rw (e, lt-ltb c.number max_records (AllHead (AllRest before (c ∷ after) (rw split at few)))) refl
+    rw (e, lt-ltb c.number max_records (All-head (All-rest before (c ∷ after) (rw split at few)))) refl
 told_back wildcard l u h j (inr (inr (inr (r, f, e)))) =
     let few : r < max_records = rw f at h in
     rw (e, lt-ltb r max_records few) refl

@@ -10,7 +10,7 @@ use lib.ListN.{length, drop, drop_of_length-le}
 use borrow.Author.Tests.{leb-true}
 use Rattle.spec_limits.specs.Limits.{max_names}
 use Rattle.spec_octets.specs.Lists.{All, all_nil, all_cons}
-use Rattle.spec_octets.proofs.ListLaws.{AllHead, AllTail}
+use Rattle.spec_octets.proofs.ListLaws.{All-head, All-tail}
 use Rattle.spec_name.specs.Names.{Name, wire, ancestors}
 use Rattle.spec_request.specs.Request.{is_wildcard, base}
 use Rattle.spec_request.proofs.Requests.{request_is_its_names}
@@ -98,15 +98,15 @@ module _ (issuer : List ℕ) (who : Applicant) (n : Name) (whole : List ℕ) whe
       (v : SessionAnswer) → standing t ≡ some v → Verdict s.up v
   as_whole (stays c) all v e = absurd (none-ne-some v (sym (phase_asks issuer who n c) ∙ e))
   as_whole (climbs {s} {t} {b} {ts} c nothing h more) all v e =
-      let there = alike_empty (agreed s b (AllHead all)) nothing in
-      rw (passed s.up (below issuer who n c) there) (as_whole more (AllTail all) v e)
+      let there = alike_empty (agreed s b (All-head all)) nothing in
+      rw (passed s.up (below issuer who n c) there) (as_whole more (All-tail all) v e)
   as_whole (decides {s} {b} c why) all v e = (
     verdict issuer (decided_from who (is_wildcard n) s.up (looked issuer who n s b) ∷ []),
     some-injective _ _ (sym e ∙ concluded_stands issuer who n c b),
-    settled s.up (below issuer who n c) (looked issuer who n s b) (lookup library (next issuer who n s)) refl (agreed s b (AllHead all)) why,
+    settled s.up (below issuer who n c) (looked issuer who n s b) (lookup library (next issuer who n s)) refl (agreed s b (All-head all)) why,
   )
   as_whole (fails {s} c) all v e =
-      let (x, b, f, g, h) = AllHead all in
+      let (x, b, f, g, h) = All-head all in
       let z : ◌≡◌ {A = ℕ} 0 1 = cc in absurd (omega arith)
 
 one_name_fits : 1 ≤ max_names

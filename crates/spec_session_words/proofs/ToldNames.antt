@@ -11,7 +11,7 @@ use lib.Seq.{length-take-le, take-append_seam, drop-append_seam}
 use borrow.Author.Tests.{leb-true}
 use Rattle.spec_octets.specs.Lists.{all_nil}
 use Rattle.spec_octets.specs.Octets.{Octets}
-use Rattle.spec_octets.proofs.ListLaws.{AllFront}
+use Rattle.spec_octets.proofs.ListLaws.{All-front}
 use Rattle.spec_name.specs.Names.{Name, wire}
 use Rattle.spec_name.proofs.NameLaws.{fewer_labels}
 use Rattle.spec_packed.specs.Packed.{number_in, field_a, field_b, field_c}
@@ -45,7 +45,7 @@ unfolding held
 held_octets t h = go (leb t.length (length t.octets))
   where
     go : (f : Bool) → Octets (cond f (take t.length t.octets) [])
-    go true = AllFront (take t.length t.octets) (drop t.length t.octets) (rw (take-append-drop t.length t.octets) h)
+    go true = All-front (take t.length t.octets) (drop t.length t.octets) (rw (take-append-drop t.length t.octets) h)
     go false = all_nil
 
 held_there : (t : Text) → held t ≢ [] → (t.length ≡ length (held t)) × (t.octets ≡ held t ++ drop t.length t.octets)

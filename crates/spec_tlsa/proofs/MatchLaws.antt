@@ -11,7 +11,7 @@ use borrow.Author.Tests.{leb-true, le-leb, eqb-true, eqb-false, eq-eqb}
 use Rattle.spec_refusal.specs.declared.Refusal.{Refusal}
 use Rattle.spec_octets.specs.Lists.{any, select, is_empty, All, all_nil, all_cons, Any, any_here, any_there, Selects, selects_nil, selects_take, selects_pass, First}
 use Rattle.spec_octets.specs.Octets.{same}
-use Rattle.spec_octets.proofs.ListLaws.{true_or_false, AllImp}
+use Rattle.spec_octets.proofs.ListLaws.{true_or_false, All-imp}
 use Rattle.spec_octets.proofs.Texts.{same_equal}
 use Rattle.spec_octets.proofs.SelectLaws.{selects_none, selects_first, first_selects, selected}
 use Rattle.spec_octets.proofs.SelectTests.{select_twice, any_selected}
@@ -109,7 +109,7 @@ module _ {M U : TlsaRecord → Type 0} (usable : (r : TlsaRecord) → M r → U 
       λ (r, first, n). let (zs, f) = first_selects s first in let same : m ≡ r = cc in rw (same, n),
     ),
     (λ e. absurd (true≢false (cc)), λ h. absurd (none_of h.1 (some_selected s))),
-    (λ e. absurd (true≢false (cc)), λ h. absurd (none_of (AllImp (λ r n g. n (usable r g)) h) (some_selected s))),
+    (λ e. absurd (true≢false (cc)), λ h. absurd (none_of (All-imp (λ r n g. n (usable r g)) h) (some_selected s))),
     never_refused (m ∷ ms) (not (is_empty us)),
   )
 

@@ -15,7 +15,7 @@ use Rattle.spec_octets.specs.Octets.{Octets, text, same, is_digit, is_upper, is_
 use Rattle.spec_octets.specs.Label.{is_letter_digit_hyphen, HostLabel}
 use Rattle.spec_octets.specs.WrittenDecimal.{decimal}
 use Rattle.spec_octets.specs.Reader.{if_read}
-use Rattle.spec_octets.proofs.ListLaws.{or_eq_true, AllHead}
+use Rattle.spec_octets.proofs.ListLaws.{or_eq_true, All-head}
 use Rattle.spec_octets.proofs.Texts.{same_equal}
 use Rattle.spec_name.specs.Names.{Name, wire, GoodName}
 use Rattle.spec_request.specs.Request.{is_wildcard, requested_name, GoodRequested}
@@ -54,7 +54,7 @@ transport_exactly t = (λ e. read ((or_eq_true _ (same t (text "sctp"))).0 e), s
 host_plain : (h : Name) → GoodHost h → is_wildcard h ≡ false
 unfolding is_letter_digit_hyphen is_letter_or_digit is_upper is_lower is_digit
 host_plain [] (good, full, hosts) = absurd (full refl)
-host_plain (l ∷ h) (good, full, hosts) = (wildcard_form.1 l h (λ e. false≢true (AllHead (rw e at (AllHead hosts).2)))).0
+host_plain (l ∷ h) (good, full, hosts) = (wildcard_form.1 l h (λ e. false≢true (All-head (rw e at (All-head hosts).2)))).0
 
 good_host : (h : Name) → GoodRequested h → is_wildcard h ≡ false → GoodHost h
 good_host h (good, (x, inl e, full, hosts)) plain = (good, rw e full, rw e hosts)

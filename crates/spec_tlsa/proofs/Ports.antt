@@ -13,7 +13,7 @@ use Rattle.spec_octets.specs.Lists.{all, begins, All, all_nil, all_cons}
 use Rattle.spec_octets.specs.Octets.{between, is_digit}
 use Rattle.spec_octets.specs.Decimal.{decimal_from}
 use Rattle.spec_octets.specs.WrittenDecimal.{digit, decimal}
-use Rattle.spec_octets.proofs.ListLaws.{true_or_false, or_eq_true, all_true, AllHead, AllTail}
+use Rattle.spec_octets.proofs.ListLaws.{true_or_false, or_eq_true, all_true, All-head, All-tail}
 use Rattle.spec_octets.proofs.WrittenDecimals.{decimal_small, decimal_more, decimal_within_lem, decimal_some, says, decimals}
 use Rattle.spec_tlsa.specs.Owners.{max_port, is_port}
 use Rattle.spec_tlsa.specs.Pinned.{PortLimit}
@@ -40,8 +40,8 @@ one_digit_more m x some e =
 digits_more : (m : ℕ) (s : List ℕ) → 1 ≤ m → All (λ x. is_digit x ≡ true) s → decimal (decimal_from m s) ≡ decimal m ++ s
 digits_more m [] some digits = sym (append-nil (decimal m))
 digits_more m (x ∷ s) some digits =
-    digits_more (m * 10 + (x - code "0")) s (bigger (digit_range x (AllHead digits))) (AllTail digits)
-    ∙ rw (one_digit_more m x some (AllHead digits), append_assoc)
+    digits_more (m * 10 + (x - code "0")) s (bigger (digit_range x (All-head digits))) (All-tail digits)
+    ∙ rw (one_digit_more m x some (All-head digits), append_assoc)
   where
     bigger : (48 ≤ x) × (x ≤ 57) → 1 ≤ m * 10 + (x - code "0")
     bigger h = omega arith
@@ -57,11 +57,11 @@ one_digit x e = small (digit_range x e)
 
 -- digits without a leading zero are the decimal of their value
 back : (x : ℕ) (s : List ℕ) → All (λ y. is_digit y ≡ true) (x ∷ s) → (s ≡ []) ⊎ (x ≢ code "0") → x ∷ s ≡ decimal (decimal_from 0 (x ∷ s))
-back x s digits (inl e) = rw e (sym (one_digit x (AllHead digits)))
-back x s digits (inr n) = above (digit_range x (AllHead digits))
+back x s digits (inl e) = rw e (sym (one_digit x (All-head digits)))
+back x s digits (inr n) = above (digit_range x (All-head digits))
   where
     above : (48 ≤ x) × (x ≤ 57) → x ∷ s ≡ decimal (decimal_from 0 (x ∷ s))
-    above h = sym (digits_more (0 * 10 + (x - code "0")) s (omega arith) (AllTail digits) ∙ ap (λ front. front ++ s) (one_digit x (AllHead digits)))
+    above h = sym (digits_more (0 * 10 + (x - code "0")) s (omega arith) (All-tail digits) ∙ ap (λ front. front ++ s) (one_digit x (All-head digits)))
 
 -- a port has at most five digits
 pub port_short : (n : ℕ) → n ≤ max_port → length (decimal n) ≤ 5

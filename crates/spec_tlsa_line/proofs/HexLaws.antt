@@ -12,7 +12,7 @@ use lib.ListN.{length}
 use borrow.Author.Tests.{leb-true, leb-false, le-leb, lt-leb, eqb-true, eq-eqb, not-true}
 use Rattle.spec_octets.specs.Lists.{all, select, is_empty, begins, ends, All, all_nil, all_cons, Selects}
 use Rattle.spec_octets.specs.Octets.{between, is_digit, is_upper, is_blank}
-use Rattle.spec_octets.proofs.ListLaws.{true_or_false, or_eq_true, or_eq_false, not_passed, all_true, AllHead, AllTail}
+use Rattle.spec_octets.proofs.ListLaws.{true_or_false, or_eq_true, or_eq_false, not_passed, all_true, All-head, All-tail}
 use Rattle.spec_octets.proofs.SelectLaws.{selects_exactly}
 use Rattle.spec_tlsa_line.specs.Hex.{is_hex_digit, hex_value, digits_of, paired, is_hex_text, hex_octets}
 use Rattle.spec_tlsa_line.specs.Grammar.{HexDigit, PairsOf, pairs_end, pairs_more, HexField}

@@ -12,7 +12,7 @@ use Rattle.spec_limits.specs.Limits.{max_data_octets, max_line_octets}
 use Rattle.spec_octets.specs.Lists.{begins, ends, flatten, All, all_nil, all_cons, Selects, selects_nil, selects_take}
 use Rattle.spec_octets.specs.Octets.{Octets, is_digit, is_upper, is_blank}
 use Rattle.spec_octets.specs.WrittenDecimal.{decimal}
-use Rattle.spec_octets.proofs.ListLaws.{AllHead}
+use Rattle.spec_octets.proofs.ListLaws.{All-head}
 use Rattle.spec_octets.proofs.Runs.{Blankless, not_blank}
 use Rattle.spec_line.proofs.LineLength.{flags_short}
 use Rattle.spec_line.proofs.WrittenParts.{flags_written, a_space}
@@ -57,11 +57,11 @@ pairs_blankless (pairs_more {a} {b} h l p q is more) = all_cons (digit_blankless
 
 begins_blankless : (s : List ℕ) → Blankless s → begins is_blank s ≡ false
 begins_blankless [] clean = refl
-begins_blankless (x ∷ s) clean = AllHead clean
+begins_blankless (x ∷ s) clean = All-head clean
 
 ends_blankless : (s : List ℕ) → Blankless s → ends is_blank s ≡ false
 ends_blankless [] clean = refl
-ends_blankless (x ∷ []) clean = AllHead clean
+ends_blankless (x ∷ []) clean = All-head clean
 ends_blankless (x ∷ y ∷ s) (all_cons h clean) = ends_blankless (y ∷ s) clean
 
 all_selected : {s : List ℕ} → Blankless s → Selects (λ x. is_blank x ≡ false) s s

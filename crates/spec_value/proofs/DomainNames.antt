@@ -11,7 +11,7 @@ use Rattle.spec_octets.specs.Octets.{is_letter_or_digit, is_upper, is_lower, is_
 use Rattle.spec_octets.specs.Label.{is_letter_digit_hyphen, is_label}
 use Rattle.spec_octets.specs.Pieces.{join}
 use Rattle.spec_octets.specs.Grammar.{label, lit, ◌⊕◌, many, many_none, many_more}
-use Rattle.spec_octets.proofs.ListLaws.{told_apart, AllJoin, or_eq_true, AllHead, AllTail, AllImp}
+use Rattle.spec_octets.proofs.ListLaws.{told_apart, All-join, or_eq_true, All-head, All-tail, All-imp}
 use Rattle.spec_octets.proofs.Labels.{label_parts, label_is_the_production}
 use Rattle.spec_octets.proofs.DottedLabels.{Joined, pieces_pass, label_dotless}
 use Rattle.spec_octets.proofs.Runs.{Of, not_blank, Blankless}
@@ -21,13 +21,13 @@ use Rattle.spec_value.proofs.Classes.{Free}
 use Rattle.spec_value.proofs.Cuts.{join_more}
 
 matched : (l : List ℕ) (ls : List (List ℕ)) → All (λ l. is_label l ≡ true) (l ∷ ls) → issuer_domain_name (join (code ".") (l ∷ ls))
-matched l [] h = (l, [], sym (append-nil l), (label_is_the_production l).0 (AllHead h), many_none)
+matched l [] h = (l, [], sym (append-nil l), (label_is_the_production l).0 (All-head h), many_none)
 matched l (k ∷ ls) h =
-    let (first, rest, e, good, more) = matched k ls (AllTail h) in (
+    let (first, rest, e, good, more) = matched k ls (All-tail h) in (
       l,
       code "." ∷ join (code ".") (k ∷ ls),
       refl,
-      (label_is_the_production l).0 (AllHead h),
+      (label_is_the_production l).0 (All-head h),
       many_more (code "." ∷ first) rest (ap (λ (s : List ℕ). code "." ∷ s) e) (code "." ∷ [], first, refl, refl, good) more,
     )
 
@@ -64,19 +64,19 @@ unfolding is_name_octet
 name_octets n h = let j = (by_labels n).0 h in rw j.1 (go j.0 j.3)
   where
     of_label : (l : List ℕ) → is_label l ≡ true → Of is_name_octet l
-    of_label l h = AllImp (λ x e. (or_eq_true (is_letter_digit_hyphen x) (eqb x (code "."))).1 (inl e)) ((label_parts l).0 h).0
+    of_label l h = All-imp (λ x e. (or_eq_true (is_letter_digit_hyphen x) (eqb x (code "."))).1 (inl e)) ((label_parts l).0 h).0
 
     go : (ls : List (List ℕ)) → All (λ l. is_label l ≡ true) ls → Of is_name_octet (join (code ".") ls)
     go [] h = all_nil
-    go (l ∷ []) h = of_label l (AllHead h)
+    go (l ∷ []) h = of_label l (All-head h)
     go (l ∷ k ∷ ls) h =
         let dot = (or_eq_true (is_letter_digit_hyphen (code ".")) true).1 (inr refl) in
-        AllJoin (of_label l (AllHead h)) (all_cons dot (go (k ∷ ls) (AllTail h)))
+        All-join (of_label l (All-head h)) (all_cons dot (go (k ∷ ls) (All-tail h)))
 
 pub domain_name_blankless : {n : List ℕ} → is_domain_name n ≡ true → Blankless n
 unfolding is_name_octet is_letter_digit_hyphen is_letter_or_digit is_upper is_lower is_digit
-domain_name_blankless {n} h = AllImp (not_blank is_name_octet refl refl) (name_octets n h)
+domain_name_blankless {n} h = All-imp (not_blank is_name_octet refl refl) (name_octets n h)
 
 pub domain_name_free : {n : List ℕ} → is_domain_name n ≡ true → Free (code ";") n
 unfolding is_name_octet is_letter_digit_hyphen is_letter_or_digit is_upper is_lower is_digit
-domain_name_free {n} h = AllImp (told_apart is_name_octet (code ";") refl) (name_octets n h)
+domain_name_free {n} h = All-imp (told_apart is_name_octet (code ";") refl) (name_octets n h)

@@ -8,7 +8,7 @@ use mathlib.Core.List.{List, [], ◌∷◌, ◌++◌, map, append-nil, append_as
 use Rattle.spec_octets.specs.Lists.{all, all_nil}
 use Rattle.spec_octets.specs.Octets.{is_blank, trim_end}
 use Rattle.spec_octets.specs.Pieces.{split}
-use Rattle.spec_octets.proofs.ListLaws.{all_true, AllJoin, not_passed}
+use Rattle.spec_octets.proofs.ListLaws.{all_true, All-join, not_passed}
 use Rattle.spec_octets.proofs.PieceLaws.{pieces_join}
 use Rattle.spec_octets.proofs.Runs.{Blank, many_of}
 use Rattle.spec_octets.proofs.TrimEnds.{trim_end_leaves}
@@ -207,7 +207,7 @@ unfolding parameters_in
 read s n ps (a, r₁, e₁, before, (x, r₂, e₂, (same, name), (b, r, e₃, after, part))) = go e₁ e₂ e₃
   where
     free : Free (code ";") (a ++ (x ++ b))
-    free = AllJoin (blank_free (many_of before)) (AllJoin (domain_name_free ((domain_name_matches x).1 name)) (blank_free (many_of after)))
+    free = All-join (blank_free (many_of before)) (All-join (domain_name_free ((domain_name_matches x).1 name)) (blank_free (many_of after)))
 
     go : {s r₁ r₂ : List ℕ} → s ≡ a ++ r₁ → r₁ ≡ x ++ r₂ → r₂ ≡ b ++ r → behind_name (split (code ";") s) ≡ ps
     go {s} e₁ e₂ e₃ = let whole : s ≡ a ++ (x ++ b) ++ r = rw (e₁, e₂, e₃) (simp append_assoc) in rw whole (read_behind ps r free part)

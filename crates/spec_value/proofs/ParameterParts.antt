@@ -9,7 +9,7 @@ use Rattle.spec_octets.specs.Lists.{all, All}
 use Rattle.spec_octets.specs.Octets.{is_blank}
 use Rattle.spec_octets.specs.Pieces.{split, join}
 use Rattle.spec_octets.specs.Grammar.{Production, ◌⊕◌, optional}
-use Rattle.spec_octets.proofs.ListLaws.{or_eq_true, all_true, AllHead, AllTail}
+use Rattle.spec_octets.proofs.ListLaws.{or_eq_true, all_true, All-head, All-tail}
 use Rattle.spec_octets.proofs.PieceLaws.{pieces_join}
 use Rattle.spec_octets.proofs.Runs.{many_of, of_many}
 use Rattle.spec_value.specs.IssueValues.{is_parameter, is_blank_alone, are_parameters}
@@ -33,13 +33,13 @@ parted a q b₁ b₂ y b e e₁ e₂ e₃ e₄ = rw (e, e₁, e₂, e₃, e₄) 
 -- Pieces that are parameters, joined.
 joined : (p : List ℕ) (ps : List (List ℕ)) → All (λ q. is_parameter q ≡ true) (p ∷ ps) → (blanks ⊕ parameters ⊕ blanks) (join (code ";") (p ∷ ps))
 joined p [] h =
-    let (a, r, e₁, front, m) = (parameter_matches p).0 (AllHead h) in
+    let (a, r, e₁, front, m) = (parameter_matches p).0 (All-head h) in
     let (q, b, e₂, body, back) = m in
     (a, r, e₁, front, (q, b, e₂, last body, back))
 joined p (k ∷ ps) h =
-    let (a, r, e₁, front, m) = (parameter_matches p).0 (AllHead h) in
+    let (a, r, e₁, front, m) = (parameter_matches p).0 (All-head h) in
     let (q, b, e₂, body, back) = m in
-    let (a', r', e₃, front', m') = joined k ps (AllTail h) in
+    let (a', r', e₃, front', m') = joined k ps (All-tail h) in
     let (q', b', e₄, body', back') = m' in
     let first : List ℕ = q ++ (b ++ (code ";" ∷ a')) in (
       a,

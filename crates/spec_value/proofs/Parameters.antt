@@ -11,7 +11,7 @@ use Rattle.spec_octets.specs.Octets.{is_blank, is_letter_or_digit, is_upper, is_
 use Rattle.spec_octets.specs.Label.{is_letter_digit_hyphen, is_label}
 use Rattle.spec_octets.specs.Pieces.{split, join}
 use Rattle.spec_octets.specs.Grammar.{◌⊕◌}
-use Rattle.spec_octets.proofs.ListLaws.{told_apart, AllJoin, all_true, AllHead, AllImp}
+use Rattle.spec_octets.proofs.ListLaws.{told_apart, All-join, all_true, All-head, All-imp}
 use Rattle.spec_octets.proofs.Labels.{label_parts, label_is_the_production}
 use Rattle.spec_octets.proofs.PieceLaws.{pieces_join}
 use Rattle.spec_octets.proofs.Runs.{Of, many_of, of_many, not_blank, Blank, Blankless}
@@ -124,16 +124,16 @@ tag_not_blank : (x : ℕ) → is_tag_octet x ≡ true → is_blank x ≡ false
 tag_not_blank = not_blank is_tag_octet tag_octets.0 tag_octets.1
 
 pub tag_blankless : (t : List ℕ) → is_parameter_tag t ≡ true → Blankless t
-tag_blankless t h = AllImp tag_not_blank (tag_plain t h)
+tag_blankless t h = All-imp tag_not_blank (tag_plain t h)
 
 pub value_blankless : {v : List ℕ} → Of is_parameter_octet v → Blankless v
 unfolding is_parameter_octet
-value_blankless = AllImp (not_blank is_parameter_octet refl refl)
+value_blankless = All-imp (not_blank is_parameter_octet refl refl)
 
 equals_apart : {t b : List ℕ} → Of is_tag_octet t → Blank b → Free (code "=") (t ++ b)
 unfolding is_blank
 equals_apart {t} {b} h k =
-    AllJoin (AllImp (told_apart is_tag_octet (code "=") tag_octets.2) h) (AllImp (told_apart is_blank (code "=") refl) k)
+    All-join (All-imp (told_apart is_tag_octet (code "=") tag_octets.2) h) (All-imp (told_apart is_blank (code "=") refl) k)
 
 equals_not_blank : is_blank (code "=") ≡ false
 unfolding is_blank
@@ -148,7 +148,7 @@ cut_at_equals {a} {b} {s} front p back =
     let plain = tag_plain (x ∷ t) p.tagged in
     let r = p.after ++ (p.octets ++ b) in
     let shape : s ++ b ≡ (x ∷ t ++ p.before) ++ (code "=" ∷ r) = rw p.whole (simp append_assoc) in
-    rw (shape, trim_within front x (tag_not_blank x (AllHead plain)) (t ++ p.before) (code "=") equals_not_blank r)
+    rw (shape, trim_within front x (tag_not_blank x (All-head plain)) (t ++ p.before) (code "=") equals_not_blank r)
     (split_more (code "=") (equals_apart plain p.blank_before) (trim_end r))
 
 passes : {a b s : List ℕ} → Blank a → Spelled s → Blank b → is_parameter (a ++ (s ++ b)) ≡ true
@@ -176,15 +176,15 @@ parameter_matches s = (
 -- no semicolon stands in a parameter
 pub blank_free : {s : List ℕ} → Blank s → Free (code ";") s
 unfolding is_blank
-blank_free = AllImp (told_apart is_blank (code ";") refl)
+blank_free = All-imp (told_apart is_blank (code ";") refl)
 
 spelled_free : {s : List ℕ} → Spelled s → Free (code ";") s
 unfolding is_parameter_octet
 spelled_free p =
-    let tag_Free = AllImp (told_apart is_tag_octet (code ";") tag_octets.3) (tag_plain (p.first ∷ p.others) p.tagged) in
-    let value-free = AllImp (told_apart is_parameter_octet (code ";") refl) p.valued in
+    let tag_Free = All-imp (told_apart is_tag_octet (code ";") tag_octets.3) (tag_plain (p.first ∷ p.others) p.tagged) in
+    let value-free = All-imp (told_apart is_parameter_octet (code ";") refl) p.valued in
     let apart : code "=" ≢ code ";" = λ e. omega arith in
-    rw p.whole (AllJoin tag_Free (AllJoin (blank_free p.blank_before) (all_cons apart (AllJoin (blank_free p.blank_after) value-free))))
+    rw p.whole (All-join tag_Free (All-join (blank_free p.blank_before) (all_cons apart (All-join (blank_free p.blank_after) value-free))))
 
 pub parameter_free : {a s b : List ℕ} → blanks a → parameter s → blanks b → Free (code ";") (a ++ (s ++ b))
-parameter_free front body back = AllJoin (blank_free (many_of front)) (AllJoin (spelled_free (spelled body)) (blank_free (many_of back)))
+parameter_free front body back = All-join (blank_free (many_of front)) (All-join (spelled_free (spelled body)) (blank_free (many_of back)))

@@ -8,7 +8,7 @@ use mathlib.Core.Bool.{Bool, true, false, cond, true≢false}
 use mathlib.Core.List.{List, [], ◌∷◌, ◌++◌, cons≢nil, append-nil, append_assoc}
 use Rattle.spec_octets.specs.Lists.{all_nil}
 use Rattle.spec_octets.specs.Pieces.{split, join}
-use Rattle.spec_octets.proofs.ListLaws.{AllJoin, AllHead, AllTail}
+use Rattle.spec_octets.proofs.ListLaws.{All-join, All-head, All-tail}
 use Rattle.spec_octets.proofs.PieceLaws.{pieces_join}
 use Rattle.spec_octets.proofs.Runs.{many_of, of_many}
 use Rattle.spec_value.specs.IssueValues.{IssueValue, malformed, nameless, named, trim, is_domain_name, are_parameters, name_in, from_pieces, issue_value}
@@ -34,12 +34,12 @@ unfolding are_parameters
 front_matches s f = (λ h. forth h.0 h.1 h.2, λ h. back h.0 h.1 h.2 h.3)
   where
     forth : (ps : List (List ℕ)) → split (code ";") s ≡ f ∷ ps → are_parameters ps ≡ true → Front s f
-    forth [] e h = let (made, some, free) = (pieces_join (code ";") s (f ∷ [])).0 e in ([], made ∙ sym (append-nil f), AllHead free, inl refl)
+    forth [] e h = let (made, some, free) = (pieces_join (code ";") s (f ∷ [])).0 e in ([], made ∙ sym (append-nil f), All-head free, inl refl)
     forth (p ∷ ps) e h =
         let (made, some, free) = (pieces_join (code ";") s (f ∷ p ∷ ps)).0 e in
         let behind = join (code ";") (p ∷ ps) in
-        let again : split (code ";") behind ≡ p ∷ ps = (pieces_join (code ";") behind (p ∷ ps)).1 (refl, cons≢nil, AllTail free) in
-        (code ";" ∷ behind, made, AllHead free, inr (code ";" ∷ [], behind, refl, refl, (behind_matches behind).0 (rw again h)))
+        let again : split (code ";") behind ≡ p ∷ ps = (pieces_join (code ";") behind (p ∷ ps)).1 (refl, cons≢nil, All-tail free) in
+        (code ";" ∷ behind, made, All-head free, inr (code ";" ∷ [], behind, refl, refl, (behind_matches behind).0 (rw again h)))
 
     back : (r : List ℕ) → s ≡ f ++ r → Free (code ";") f → parameter_part r → Cut s f
     back r e free (inl none) = ([], rw (e, none, append-nil f) (split_one (code ";") free), refl)
@@ -129,7 +129,7 @@ with_name_lem s n = (λ e. forth ((reads s (named n) named_fits).0 e), λ m. (re
         let (x, r₂, e₂, name, m₂) = m₁ in
         let (b, r, e₃, after, part) = m₂ in
         let good : is_domain_name n ≡ true = (domain_name_matches n).1 (rw name.0 at name.1) in
-        let free = AllJoin (blank_free (many_of before)) (AllJoin (domain_name_free good) (blank_free (many_of after))) in
+        let free = All-join (blank_free (many_of before)) (All-join (domain_name_free good) (blank_free (many_of after))) in
         let left = trim_leaves (many_of before) (domain_name_blankless good) (many_of after) in
         (a ++ (n ++ b), (r, within a b r e₁ e₂ name.0 e₃, free, part), (name_found (trim (a ++ (n ++ b))) n).1 (left, good))
 
@@ -141,7 +141,7 @@ without_name s = (λ e. forth ((reads s nameless nameless_fits).0 e), λ m. (rea
         let (f, front, e) = k in
         let (r, e₁, free, part) = front in
         let (a, b, e₂, before, after) = trim_takes f in
-        (f, r, e₁, of_many (rw (e₂, (no_name (trim f)).0 e) (AllJoin before after)), part)
+        (f, r, e₁, of_many (rw (e₂, (no_name (trim f)).0 e) (All-join before after)), part)
 
     back : value_without_name s → (f : List ℕ) × Front s f × (name_in (trim f) ≡ nameless)
     back m =

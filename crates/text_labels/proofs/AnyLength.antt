@@ -11,7 +11,7 @@ use borrow.Author.Tests.{le-leb}
 use Rattle.spec_octets.specs.Lists.{all, All, all_nil, all_cons}
 use Rattle.spec_octets.specs.Label.{is_label}
 use Rattle.spec_octets.specs.Pieces.{extend, split}
-use Rattle.spec_octets.proofs.ListLaws.{AllImp}
+use Rattle.spec_octets.proofs.ListLaws.{All-imp}
 use Rattle.text_labels.specs.DottedLabels.{is_label_within, are_labels}
 
 abbrev Short : ℕ → List (List ℕ) → Type 0
@@ -22,7 +22,7 @@ pieces_short c [] = all_cons {x = []} (omega arith) all_nil
 pieces_short c (x ∷ s) = go (eqb x c) (split c s) (pieces_short c s)
   where
     more : {ps : List (List ℕ)} → Short (length s) ps → Short (suc (length s)) ps
-    more = AllImp (λ p h. omega arith)
+    more = All-imp (λ p h. omega arith)
 
     go : (t : Bool) (ps : List (List ℕ)) → Short (length s) ps → Short (suc (length s)) (cond t (◌∷◌ []) (extend x) ps)
     go true ps h = all_cons {x = []} (omega arith) (more h)
