@@ -41,8 +41,8 @@ crate/edit in a text, a name belongs to the crate named last; crate/must-fail st
 A closed proposition (`abbrev pub X : Type 0`) is a statement that needs a proof: in files of theorems and tables
 always, elsewhere where its name has several words. It may stand in proofs/ too, in a file of lemmas.
 
-Of docs/PROMISES.md: it must name every statement that is proved, every exported and every public function,
-and every edit or its crate's must-fail folder.
+Of docs/PROMISES.md: it must name every statement that is proved; every exported and every public function, in the
+column Function of a table, since a definition may have the same name; and every edit or its crate's must-fail folder.
 
 Exit status: 0 all found; 1 something is missing (file, line, name, and names like it); 2 wrong use, or a
 file that can't be read."""
@@ -157,8 +157,8 @@ class Checker:
         self.interface = self.names_of_interface()
         self.options, self.told_files = self.words_of_scripts()
         self.renamed = self.renamed_crates()
-        # what PROMISES names: (crate, name) of declarations, and (crate, edit)
-        self.promised, self.promised_edits = set(), set()
+        # what PROMISES names: (crate, name) of theorems and other declarations, of functions, and (crate, edit)
+        self.promised, self.promised_functions, self.promised_edits = set(), set(), set()
 
     # ---- what there is
 
@@ -481,6 +481,8 @@ class Checker:
                 for p in places[k] or []:
                     if p.declared:
                         self.promised.add((p.crate, p.declared.name))
+                    if p.declared and p.declared.kind == "function" and unit.title == "Function" and p.crate == (unit.crate or p.crate):
+                        self.promised_functions.add((p.crate, p.declared.owner, p.declared.name))
         self.unquoted(document, unit)
 
     def unquoted(self, document, unit):
@@ -539,7 +541,7 @@ class Checker:
                 self.errors.append(f"{self.tree.place(d.path)}:{d.line}: {PROMISES} doesn't name the theorem {d.name} ({d.crate})")
         for crate in self.tree.crates:
             for d in self.tree.code[crate]:
-                if d.kind == "function" and (d.public or d.exported) and (crate, d.name) not in self.promised:
+                if d.kind == "function" and (d.public or d.exported) and (crate, d.owner, d.name) not in self.promised_functions:
                     self.errors.append(f"{self.tree.place(d.path)}:{d.line}: {PROMISES} doesn't name the public function {d.name} ({crate})")
             for edit, path in self.tree.edits[crate].items():
                 if not {(crate, edit), (crate, "must-fail")} & self.promised_edits and not ((None, edit) in self.promised_edits and self.edits[edit] == [crate]):

@@ -205,6 +205,18 @@ class Copy(unittest.TestCase):
         self.assertTrue(any(f"names neither {bare}/brand_new_edit" in e for e in found), found)
         self.assertEqual(2, len(found), found)
 
+    def test_a_definition_of_the_same_name_is_no_function(self):
+        """A function whose row is gone is told, though a definition of its name is still named."""
+        defined = {d.name for c in self.tree.crates for d in self.tree.specs[c]}
+        for line in read_document(self.root / check_docs.PROMISES):
+            if line.cells and line.header[0] == "Function" and line.cells[1] in self.tree.crates:
+                name = re.fullmatch(r"`(\w+)`", line.cells[0])
+                if name and name[1] in defined and self.promises.count(f"`{name[1]}`") > 2:
+                    break
+        self.changed(self.root / check_docs.PROMISES, self.promises.replace(line.text + "\n", "", 1))
+        found = self.new_errors()
+        self.assertTrue(any(f"doesn't name the public function {name[1]} ({line.cells[1]})" in e for e in found), found)
+
     def test_exported_functions_are_seen(self):
         exported = [d.name for c in self.tree.crates for d in self.tree.code[c] if d.exported]
         marked = sum(p.read_text().count("no_mangle") for c in self.tree.crates for p in self.tree.files(c, "src"))
