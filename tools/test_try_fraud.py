@@ -192,6 +192,7 @@ class Words(unittest.TestCase):
         self.assertIsNone(try_fraud.unread("./proofs/A.antt:1:2: error: `a`: expected type `A`\n", set()))
         self.assertIsNone(try_fraud.unread("./proofs/A.antt:1:2: error: `a`: `b` is not in scope\n", set()))
         self.assertIsNotNone(try_fraud.unread("./proofs/A.antt:1:2: error: `a`: `b` is not in scope\n", {"proofs/A.antt"}))
+        self.assertIsNone(try_fraud.unread("./proofs/A.antt:1:2: error: 2 declarations that depend on `a`, which was rejected, were not checked: b, c\n", {"proofs/A.antt"}))
 
     def test_the_two_sides_of_a_difference(self):
         text = "expected type `A`\ncomputed as far as they go, the two types are `Path Prim.Native.Nat.ℕ 251 250` (expected) and `Path Prim.Native.Nat.ℕ 251 251` (found)"
