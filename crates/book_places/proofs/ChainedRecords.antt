@@ -1,7 +1,7 @@
 -- Along the chain of a key stand the records with that key, all of them and in their order; so along that of a text, all that it owns.
 use Prim.Native.Nat.{ℕ, zero, suc, ◌+◌, ◌≤◌, ◌<◌}
 use native.Mathlib.Omega.{arith}
-use mathlib.Core.Path.{◌≡◌, refl, sym, ap, ◌∙◌}
+use mathlib.Core.Path.{◌≡◌, refl, sym, ap, subst, ◌∙◌}
 use mathlib.Core.Logic.{◌⊎◌, inl, inr}
 use mathlib.Core.Bool.{Bool, true, false, cond, true≢false}
 use mathlib.Core.List.{List, [], ◌∷◌}
@@ -119,7 +119,9 @@ module _ (book table : List ℕ) (room : ℕ) (most : room ≤ max_records) wher
     chain_told :
         (h : ℕ) → h < max_records → (eqb (key i) h ≡ true) ⊎ (eqb (key i) h ≡ false) →
         chain_from next.links (get_or next.heads h no_record) ≡ select (has_key h) (numbers_from i (suc m))
-    chain_told h k (inl e) = let same = eqb-true (key i) h e in rw (e, ← same, head_new) chain_new
+    chain_told h k (inl e) =
+        let At : ℕ → Type 0 = λ x. chain_from next.links (get_or next.heads x no_record) ≡ select (has_key x) (numbers_from i (suc m)) in
+        subst At (eqb-true (key i) h e) (rw (eq-eqb (key i) (key i) refl, head_new) chain_new)
     chain_told h k (inr e) =
         rw (e, head_old h (eqb-false (key i) h e), chain_same c.links i second (get_or c.heads h no_record) (w.later h k)) (w.told h k)
 

@@ -94,4 +94,4 @@ good_owners book = go 0 (tabled book) (tabled_stand book)
   where
     go : (at : ℕ) (rs : List Record) → StandFrom book at rs → All (λ r. GoodName r.owner) rs
     go at [] s = all_nil
-    go at (r ∷ rs) s = all_cons s.0.good (go _ rs s.1)
+    go at (r ∷ rs) s = all_cons s.0.good (go (at + length (wire_record r)) rs s.1)

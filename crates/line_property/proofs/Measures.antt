@@ -1,8 +1,8 @@
 -- The length of a value in quotes, counted octet by octet, and of a line; both are far below the largest usize.
-use Prim.Native.Nat.{ℕ, ◌+◌, ◌*◌, ◌≤◌, ◌<◌}
+use Prim.Native.Nat.{ℕ, ◌+◌, ◌≤◌, ◌<◌}
 use native.Mathlib.Omega.{arith}
 use mathlib.Core.Path.{◌≡◌}
-use mathlib.Core.List.{List, [], ◌∷◌}
+use mathlib.Core.List.{List}
 use lib.ListN.{length, drop, get_or, length-append, length-map, drop_of_length-le}
 use mir.Syntax.{w8, w64}
 use mir.Val.{Fits}

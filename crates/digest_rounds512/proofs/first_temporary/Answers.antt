@@ -1,0 +1,10 @@
+-- `first_temporary` meets its contract: the sums of the code are those of the definition.
+use Rattle.std.proofs.Common.{rules}
+use Rattle.spec_digest.specs.Words.{plus}
+use Rattle.spec_digest.specs.Family.{temporary1}
+use Rattle.spec_digest.specs.Members.{sha512}
+use Rattle.digest_rounds512.proofs.first_temporary.Goals as goal
+
+pub returns : goal.returns
+unfolding plus temporary1 sha512
+returns c = cc
