@@ -165,11 +165,12 @@ def main():
             print(f"{t}: {', '.join(ns)} in {together(root, ns)}", file=sys.stderr)
         raise SystemExit(1)
     count = 0
+    of_clauses = {n: t for n, t in turned.items() if "-" in n or re.search("[A-Z]", n)}  # a Rust function keeps its name
     for f in sorted(glob.glob(root + "/crates/*/**/*.antt", recursive=True)):
         made = os.path.basename(f) in ("Proof.antt", "Answers.antt", "Invariants.antt")
         count += write(f, turn_text(open(f, encoding="utf-8").read(), turned, "--", made))
     for f in sorted(glob.glob(root + "/crates/*/src/**/*.rt", recursive=True)):
-        count += write(f, turn_text(open(f, encoding="utf-8").read(), turned, "//"))
+        count += write(f, turn_text(open(f, encoding="utf-8").read(), of_clauses, "//"))
     for f in sorted(glob.glob(root + "/README.md") + glob.glob(root + "/docs/*.md") + glob.glob(root + "/docs/landings/*.md")):
         count += write(f, turn_document(open(f, encoding="utf-8").read(), turned))
     print(f"{len(turned)} names, {count} files")

@@ -1,4 +1,4 @@
--- by_issue, by_tags_lem, set_authorization and question_number: a law for each way out, from what the set was asked.
+-- by_issue, by_tags, set_authorization and question_number: a law for each way out, from what the set was asked.
 use Prim.Native.Nat.{ℕ, ◌+◌, ◌*◌, ◌%◌}
 use native.Mathlib.Nat.{add-zero}
 use mathlib.Core.Path.{◌≡◌, sym, ◌∙◌}

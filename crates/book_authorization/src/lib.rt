@@ -21,7 +21,7 @@ fn by_issue(book: &[u8], table: &[u16], links: &[u16], set: RecordNo) -> NameAut
 }
 
 // For X the issue records govern. For *.X the issuewild records govern if there are any, else the issue records.
-fn by_tags_lem(
+fn by_tags(
     book: &[u8],
     table: &[u16],
     links: &[u16],
@@ -59,7 +59,7 @@ pub fn set_authorization(
     if let FirstRecord::At(r) = book_set::first_unknown_critical(book, table, links, from) {
         return NameAuthorization::Forbidden(r);
     }
-    by_tags_lem(book, table, links, set, wildcard)
+    by_tags(book, table, links, set, wildcard)
 }
 
 // The number of a question, which is: what does this set say about X, or about *.X? The number is twice the number of the set's first record,

@@ -36,10 +36,10 @@ known Unknown (inr (inr e)) = absurd (omega arith)
 
 -- tags are the same if their numbers are
 by_number : (t tag : PropertyTag) → eqb (tag_number t) (tag_number tag) ≡ same_tag tag t
-by_number Issue tag = elim tag [ Issue ↦ refl | IssueWild ↦ refl | Iodef ↦ refl | Unknown ↦ refl ]
-by_number IssueWild tag = elim tag [ Issue ↦ refl | IssueWild ↦ refl | Iodef ↦ refl | Unknown ↦ refl ]
-by_number Iodef tag = elim tag [ Issue ↦ refl | IssueWild ↦ refl | Iodef ↦ refl | Unknown ↦ refl ]
-by_number Unknown tag = elim tag [ Issue ↦ refl | IssueWild ↦ refl | Iodef ↦ refl | Unknown ↦ refl ]
+by_number Issue tag = elim tag as (λ k. eqb (tag_number Issue) (tag_number k) ≡ same_tag k Issue) [ Issue ↦ refl | IssueWild ↦ refl | Iodef ↦ refl | Unknown ↦ refl ]
+by_number IssueWild tag = elim tag as (λ k. eqb (tag_number IssueWild) (tag_number k) ≡ same_tag k IssueWild) [ Issue ↦ refl | IssueWild ↦ refl | Iodef ↦ refl | Unknown ↦ refl ]
+by_number Iodef tag = elim tag as (λ k. eqb (tag_number Iodef) (tag_number k) ≡ same_tag k Iodef) [ Issue ↦ refl | IssueWild ↦ refl | Iodef ↦ refl | Unknown ↦ refl ]
+by_number Unknown tag = elim tag as (λ k. eqb (tag_number Unknown) (tag_number k) ≡ same_tag k Unknown) [ Issue ↦ refl | IssueWild ↦ refl | Iodef ↦ refl | Unknown ↦ refl ]
 
 module _ (d : List ℕ) (o : PropertyRead) (f : o ≡ property_at d) where
   pub no_critical : o ≡ Fault → false ≡ data_is_unknown_critical d

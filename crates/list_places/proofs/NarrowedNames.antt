@@ -124,5 +124,5 @@ narrowed_by_offset who book table links names rounds fits count t small h s =
     rw (marked_by_lem book names t small count (grants_by who book table links s) rounds, ← grants_by_offset who book table links fits s) (
       rw (moved_front book names t small _ max_records count 0 rounds)
           (moved_kept book names t small _ count 0 (take max_records rounds) (All-take max_records h)),
-      moved_within book names t small _ count 0 rounds h,
+      moved_within book names t small (λ m. any (same m) (map (λ g. lowered (grant_octets book g)) (grants_by who book table links s))) count 0 rounds h,
     )

@@ -1,0 +1,14 @@
+-- `next_owned` meets its contract. The loop's invariant: the first record of the owner is the same from the record reached.
+use Prim.Native.Nat.{◌-◌}
+use mathlib.Core.Path.{◌≡◌}
+use lib.ListN.{length}
+use borrow.Author.Rules.{rules}
+use Rattle.book_places.specs.Sets.{owned_of, first_of}
+use Rattle.book_look.proofs.ChainWalk.{none_owned, one_owned, passed_over, less_left}
+use Rattle.book_look.proofs.next_owned.Given as goal
+
+abbrev pub invariant-loop-i : goal.invariant-loop-i
+invariant-loop-i l = first_of (owned_of l.kind l.book l.table l.links l.x l.from) ≡ first_of (owned_of l.kind l.book l.table l.links l.x l.i)
+
+abbrev pub decreases-loop-i : goal.decreases-loop-i
+decreases-loop-i l = length l.links - l.i

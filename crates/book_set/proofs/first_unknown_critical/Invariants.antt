@@ -1,0 +1,14 @@
+-- `first_unknown_critical` meets its contract. The loop's invariant: the first is that of the records that are left.
+use lib.ListN.{length}
+use borrow.Author.Rules.{rules}
+use Rattle.book_places.specs.Table.{owner_at}
+use Rattle.book_places.specs.Sets.{owned_from, data_is_unknown_critical}
+use Rattle.book_places.proofs.OwnedWalk.{fewer_left}
+use Rattle.book_set.proofs.SetLaws.{FirstLeft, first_start, first_passed, none_critical, critical_first}
+use Rattle.book_set.proofs.first_unknown_critical.Given as goal
+
+abbrev pub invariant-loop-r : goal.invariant-loop-r
+invariant-loop-r l = FirstLeft data_is_unknown_critical l.book l.table l.links l.first (owner_at l.book l.table l.first) l.at
+
+abbrev pub decreases-loop-r : goal.decreases-loop-r
+decreases-loop-r l = length (owned_from l.book l.table l.links (owner_at l.book l.table l.first) l.at)
