@@ -37,7 +37,7 @@ case ${1-} in
 -*) fail "unknown option $1; see --help" ;;
 esac
 [ $# -le 1 ] || fail "one folder at most; see --help"
-[ $# -eq 0 ] || [ -f "$1/libsplinepearl.a" ] || fail "there is no library $1/libsplinepearl.a; run first, in $root: rt staticlib splinepearl"
+[ $# -eq 0 ] || [ -f "$1/libsplinepearl.a" ] || fail "there is no library $1/libsplinepearl.a; run first, in $root: bash scripts/archive.sh splinepearl"
 
 # why_no_go: what is missing for Go, or nothing
 sources=/usr/share/gocode
@@ -66,7 +66,7 @@ machine() {
 
 if [ $only_go = no ]; then
     libs=${1-$root/target/staticlib}
-    [ $# -eq 1 ] || (cd "$root" && rt staticlib splinepearl) >&2
+    [ $# -eq 1 ] || bash "$root/scripts/archive.sh" splinepearl >&2
     SPLINEPEARL_LIBS=$(realpath "$libs")
     export SPLINEPEARL_LIBS
     compare cases >&2

@@ -58,7 +58,7 @@ expect_run 2 'no book' .
 # A copy of the scripts, with an rt and a desk program of our own making, for what the real ones don't do on demand. `rt` here
 # ends with the status in the file `rt-status`, and the program writes the file `line` and ends with the status in `desk-status`.
 repository=$scratch/repository
-mkdir -p "$repository/examples" "$repository/target/bin" "$repository/target/stamp" "$repository/bin"
+mkdir -p "$repository/examples" "$repository/crates/desk/out" "$repository/bin"
 cp "$root/examples/run.sh" "$repository/examples"
 cp -r "$root/scripts" "$root/kit-version.txt" "$root/crates.txt" "$repository"
 cat > "$repository/bin/rt" <<'end'
@@ -68,18 +68,19 @@ case $1 in
 version) cat "$here/kit-here" ;;
 *)
     echo "$@" > "$here/rt-asked"
-    echo "rt: spec_limits proved (3 s)"
+    echo "logic=proved functions=3" >&2
+    cp "$here/crates/desk/made" "$here/crates/desk/out/desk"
     exit "$(cat "$here/rt-status")"
     ;;
 esac
 end
-cat > "$repository/target/bin/desk" <<'end'
+cat > "$repository/crates/desk/made" <<'end'
 #!/bin/sh
-here=$(dirname "$0")/../..
+here=$(dirname "$0")/../../..
 cat "$here/line"
 exit "$(cat "$here/desk-status")"
 end
-chmod +x "$repository/bin/rt" "$repository/target/bin/desk"
+chmod +x "$repository/bin/rt" "$repository/crates/desk/made"
 path=$PATH
 PATH=$repository/bin:$PATH
 
@@ -89,7 +90,7 @@ begin_copy() {
     cp "$root/kit-version.txt" "$repository/kit-here"
     echo 0 > "$repository/rt-status"
     echo 0 > "$repository/desk-status"
-    : > "$repository/target/stamp/desk"
+    cp "$repository/crates/desk/made" "$repository/crates/desk/out/desk"
     printf '%s' "$2" > "$repository/line"
 }
 
@@ -138,13 +139,13 @@ begin_copy 'a build that fails' 'verdict 0
 echo 1 > "$repository/rt-status"
 expect_run 2 '' .
 expect_said 'could not be built'
-expect_said 'rt: spec_limits proved (3 s)'
+expect_said 'logic=proved functions=3'
 
 begin_copy 'a first build' 'verdict 0
 '
-rm "$repository/target/stamp/desk"
+rm "$repository/crates/desk/out/desk"
 expect_run 0 'verdict 0' .
-expect_said 'about 2 minutes'
+expect_said 'some minutes'
 
 begin_copy 'another kit' 'verdict 0
 '
@@ -222,7 +223,7 @@ expect_script() {
     [ "$written [$status]" = "$wanted" ] || failed "$wanted" "$written [$status] $(head -c 300 "$scratch/said")"
     [ ! -e "$scratch/started" ] || failed 'starts nothing' "$(cat "$scratch/started")"
 }
-for name in examples/run.sh examples/link.sh compare/night.sh desk-runs/test.sh test.sh .ci/run; do
+for name in examples/run.sh examples/link.sh scripts/archive.sh compare/night.sh desk-runs/test.sh test.sh .ci/run; do
     expect_script 0 usage: bash "$root/$name" --help
     expect_script 0 usage: bash "$root/$name" -h
     expect_script 2 '' bash "$root/$name" --not-known

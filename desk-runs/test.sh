@@ -10,9 +10,10 @@ usage() {
     cat <<'end'
 usage: bash desk-runs/test.sh [PROGRAM]
 
-Runs PROGRAM (target/bin/desk, which `rt check desk` builds) on folders made here, and checks each line
-against the one that the requirements give. Then checks the exit statuses of examples/run.sh, and what
-every script does with --help and with unknown arguments. Takes about 15 seconds.
+Runs PROGRAM (crates/desk/out/desk, which `rt ci` builds, and `rt run` in crates/desk) on folders made
+here, and checks each line against the one that the requirements give. Then checks the exit statuses of
+examples/run.sh, and what every script does with --help and with unknown arguments. Takes about 15
+seconds.
 
 Exit status: 0 all as expected; 1 a run failed; 2 wrong use, or no program.
 end
@@ -26,9 +27,9 @@ case ${1-} in
 -*) fail "unknown option $1; see --help" ;;
 esac
 [ $# -le 1 ] || fail "one program at most; see --help"
-program=${1-$root/target/bin/desk}
+program=${1-$root/crates/desk/out/desk}
 if [ ! -f "$program" ] || [ ! -x "$program" ]; then
-    fail "there is no program $program; run first, in $root: rt check desk"
+    fail "there is no program $program; run first, in $root/crates/desk: rt run"
 fi
 program=$(realpath "$program")
 whole=$root/examples/whole-case

@@ -11,8 +11,8 @@ usage: bash examples/link.sh [LIBS]
 
 Builds the C and Rust examples against libsplinepearl.a in the folder LIBS (target/staticlib), and checks
 what they print and their exit statuses. Measures the stack that each call takes, compiles the header as
-C++, and runs the tests of the Rust crate. Takes about 10 seconds. `rt staticlib splinepearl` builds the
-library.
+C++, and runs the tests of the Rust crate. Takes about 10 seconds. `bash scripts/archive.sh splinepearl`
+builds the library.
 
 Exit status: 0 all as expected; 1 something else was printed, or a test failed; 2 wrong use, or no
 library. A compiler that fails ends this with its own status.
@@ -28,7 +28,7 @@ case ${1-} in
 esac
 [ $# -le 1 ] || fail "one folder at most; see --help"
 libs=${1-$root/target/staticlib}
-[ -f "$libs/libsplinepearl.a" ] || fail "there is no library $libs/libsplinepearl.a; run first, in $root: rt staticlib splinepearl"
+[ -f "$libs/libsplinepearl.a" ] || fail "there is no library $libs/libsplinepearl.a; run first, in $root: bash scripts/archive.sh splinepearl"
 libs=$(realpath "$libs")
 cd "$root"
 

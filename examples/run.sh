@@ -16,8 +16,7 @@ usage: bash examples/run.sh [FOLDER]
 
 Judges request.bin, issuer.txt, account.txt, method.txt and book.bin in FOLDER with the desk program, and
 prints the program's line. Without FOLDER it judges examples/whole-case. Before that it proves and builds
-what has changed: about 2 minutes the first time, about 2 seconds after that. Progress goes to standard
-error.
+what has changed: the first time that takes minutes, after that seconds. Progress goes to standard error.
 
 Exit status: 0 permitted; 1 not permitted; 2 anything else: refused, no book, a folder that can't be
 entered, a failed build, a line that isn't known, output that can't be written.
@@ -41,14 +40,15 @@ enter_folder() { CDPATH='' cd -- "$folder" > /dev/null; }
 
 command -v rt > /dev/null || fail "rt, of the Rattle toolchain, is not on the path"
 check_kit
-[ -f "$root/target/stamp/desk" ] || note "proving and building the desk program; the first time this takes about 2 minutes"
+[ -f "$root/crates/desk/out/desk" ] || note "proving and building the desk program; the first time this takes some minutes"
 log=$(mktemp)
-(cd "$root" && rt check desk 2>&1) | progress "$(crates_for desk)" > "$log" || {
+# What rt says goes to standard error. It also runs the program, in crates/desk, where there is no book.
+(cd "$root/crates/desk" && rt run 2>&1 > /dev/null < /dev/null) | progress "$(crates_for desk)" > "$log" || {
     cat "$log" >&2
     fail "the desk program could not be built"
 }
 
-line=$(enter_folder && exec "$root/target/bin/desk") || fail "the desk program failed"
+line=$(enter_folder && exec "$root/crates/desk/out/desk") || fail "the desk program failed"
 printf '%s\n' "$line" || fail "the line could not be written"
 case $line in
 'verdict 0') status=0 ;;

@@ -30,7 +30,8 @@ crates_for() {
             for (i = 1; i <= n; i++) visit(list[i])
         }
         { sub(/#.*/, "") }
-        split($0, part, ":") == 2 { needs[part[1]] = part[2] }
+        # a static library has a word after its name
+        split($0, part, ":") == 2 { sub(/ .*/, "", part[1]); needs[part[1]] = part[2] }
         END {
             if (wanted == "") for (name in needs) visit(name)
             else visit(wanted)
@@ -39,21 +40,37 @@ crates_for() {
 }
 
 # progress CRATES [EDITS]: passes the output of rt on, and tells on standard error, at most every 5 seconds, how far it has
-# come. A crate that needs no new proof is counted and not told.
+# come. With EDITS the output is that of `rt ci`, which names each crate; one that an earlier run proved is counted and not
+# told. Without, it is that of a check, which ends what it says of a crate with a line `logic=..`, and passes over a crate that
+# needs no new proof.
 progress() {
     local line crates=0 edits=0 said=-5 now
     while IFS= read -r line; do
         printf '%s\n' "$line"
         now=''
-        case $line in
-        'rt: must-fail '*)
-            edits=$((edits + 1))
-            now="wrong version $edits of ${2:-?} tried"
+        case ${2:+ci} in
+        ci)
+            case $line in
+            'rt: '*': its tests are '*) ;;
+            'rt: '*': trying its must-fail edits ('*')')
+                line=${line##*'('}
+                edits=$((edits + ${line%')'}))
+                now="$edits of $2 wrong versions begun"
+                ;;
+            'rt: '*' is kept: '*) crates=$((crates + 1)) ;;
+            'rt: '*' proved' | 'rt: '*' NOT PROVED'*)
+                crates=$((crates + 1))
+                now="crate $crates of $1 checked"
+                ;;
+            esac
             ;;
-        'rt: '*' proved (unchanged '*) crates=$((crates + 1)) ;;
-        'rt: '*' proved ('* | 'rt: '*' NOT PROVED'*)
-            crates=$((crates + 1))
-            now="crate $crates of $1 checked"
+        *)
+            case $line in
+            'logic='*)
+                crates=$((crates + 1))
+                now="crate $crates of at most $1 checked"
+                ;;
+            esac
             ;;
         esac
         if [ -n "$now" ] && [ $((SECONDS - said)) -ge 5 ]; then

@@ -21,17 +21,15 @@ usage: python3 tools/check-docs.py [--root FOLDER]
 Reads README.md and, in docs/, PROMISES.md, DECISIONS.md, PROVING.md, TOUR.md and ASSUMPTIONS.md. What
 stands in backquotes is looked up by its form:
 
-  Wire-form            a statement of crates/*/specs with its proof (wire-form) in proofs/ of the same crate,
-                       or a predicate of specs
-  judgeChecks          declared in crates/*/specs
-  GoodName, Climb      a type, constructor, record or predicate of specs, src or proofs
-  check_book           a function, field, constant, crate or edit; a name of include/ or bindings/rust
-  select-map           a field or a law of specs or proofs
+  WireForm             a statement of crates/*/specs with its proof (wire_form, or wire_form_lem) in proofs/ of the
+                       same crate; or a type, constructor, record or predicate of specs, src or proofs
+  check_book           a definition, function, field, law, constant, crate or edit; a name of include/ or bindings/rust
   judge, items         declared in specs or src, or a crate
   Climb::up, T.field   a method of a type, a function of a crate, a field of a record
   checked (f b)        an expression: each name in it
   specs/A.antt, a/*/b  a path of the repository, from its top, from crates/ or, by its last name, anywhere
   rt check NAME        a command: the paths and crates in it
+  rattle-kit-..        the version of the Rattle kit: it must be that of kit-version.txt
 
 Numbers, octets, DNS names, records as text, options (looked up in the scripts) and answers of the desk
 program are no names. tools/check-docs-words.txt lists what no rule tells apart, each with its reason.
@@ -40,8 +38,11 @@ program are no names. tools/check-docs-words.txt lists what no rule tells apart,
 with a column Crate, what the first column names stands in that crate. In columns of edits, and after
 crate/edit in a text, a name belongs to the crate named last; crate/must-fail stands for all of its edits.
 
-Of docs/PROMISES.md: it must name every statement that is proved, every exported and every public function,
-and every edit or its crate's must-fail folder.
+A closed proposition (`abbrev pub X : Type 0`) is a statement that needs a proof: in files of theorems and tables
+always, elsewhere where its name has several words. It may stand in proofs/ too, in a file of lemmas.
+
+Of docs/PROMISES.md: it must name every statement that is proved; every exported and every public function, in the
+column Function of a table, since a definition may have the same name; and every edit or its crate's must-fail folder.
 
 Exit status: 0 all found; 1 something is missing (file, line, name, and names like it); 2 wrong use, or a
 file that can't be read."""
@@ -49,10 +50,11 @@ file that can't be read."""
 # ---- forms of what stands in backquotes
 
 KEYWORDS = set(  # words of Rattle and of its proof language, and of its tactics
-    "Type abbrev absurd as by cc const crate do else ensures enum fn for ghost if impl in let loop match mod module mut omega pub record refl"
-    " requires return rw search self simp struct subst type unfoldable unfolding use where while".split())
+    "Type abbrev absurd as auto by cc const crate do else ensures enum fn for ghost grind if impl in let loop match mod module mut"
+    " new now old omega pub record refl requires result return rw search self simp struct subst tactic type unfoldable unfolding use where"
+    " while".split())
 COMMANDS = set("bash cargo cc dig echo make nm printf python3 rt".split())
-KIT_CRATES = set("std check libc io os".split())  # the libraries of the kit; no crate may have their names
+KIT_CRATES = set("std core check libc io os".split())  # the libraries of the kit; no crate may have their names
 
 NOT_NAMES = [
     (r"[^A-Za-z]+", "octets, digits, signs"),
@@ -67,6 +69,7 @@ NOT_NAMES = [
     (r"issue|issuewild|iodef", "tags"),
     (r"[a-z]+--[a-z]*", "a label, or the front of one"),
     (r"[A-Z]::[A-Z]", "letters that stand for types"),
+    (r"[a-z]\.(?:now|old|new|\d)", "a lent value before or after a call, or a part of a pair"),
 ]
 SUFFIX = r"\.(?:antt|rt|md|sh|py|txt|bin|c|h|rs|edit|a|toml|json)"
 PATH = re.compile(rf"(?:\.\.)?[\w.*-]*(?:/[\w.*-]*)+|[\w.*-]+{SUFFIX}|\.\.\w+{SUFFIX}")
@@ -154,8 +157,8 @@ class Checker:
         self.interface = self.names_of_interface()
         self.options, self.told_files = self.words_of_scripts()
         self.renamed = self.renamed_crates()
-        # what PROMISES names: (crate, name) of declarations, and (crate, edit)
-        self.promised, self.promised_edits = set(), set()
+        # what PROMISES names: (crate, name) of theorems and other declarations, of functions, and (crate, edit)
+        self.promised, self.promised_functions, self.promised_edits = set(), set(), set()
 
     # ---- what there is
 
@@ -171,7 +174,8 @@ class Checker:
 
     def walk(self, folder):
         for p in sorted(folder.iterdir()):
-            if p.name in (".git", "target", "__pycache__"):
+            # out/ is what rt makes; unfinished/ is of crates that have not landed
+            if p.name in (".git", "target", "__pycache__", "out", "unfinished"):
                 continue
             yield p
             if p.is_dir():
@@ -184,8 +188,8 @@ class Checker:
             for part in ("src", "specs", "proofs"):
                 for path in self.tree.files(crate, part):
                     for line in path.read_text().splitlines():
-                        m = re.match(r"\s*(?:ghost |pub )*use ([\w·.-]+?)(?:\.\{([^}]*)\})?(?: as .*)?;?$", line)
-                        if m and not m[1].startswith("Rattle·") and "::" not in m[1]:
+                        m = re.match(r"\s*(?:ghost |pub )*use ([\w.'-]+?)(?:\.\{([^}]*)\})?(?: as .*)?;?$", line)
+                        if m and not (m[1].startswith("Rattle.") and m[1].split(".")[1] in self.tree.crates) and "::" not in m[1]:
                             names.add(m[1])
                             names.update(w.split(" as ")[0].strip() for w in (m[2] or "").split(","))
         return names
@@ -227,7 +231,7 @@ class Checker:
     def path(self, text, beside=None):
         """A path of the repository. `beside` is a folder that was named before it."""
         text = text.strip("/") if text != "/" else text
-        built = re.fullmatch(r"target(?:/bin/(\w+)|/staticlib/lib(\w+)\.a|/.*)?|lib(\w+)\.a", text)
+        built = re.fullmatch(r"target(?:/staticlib/lib(\w+)\.a|/.*)?|lib(\w+)\.a|crates/(\w+)/out(?:/.*)?", text)
         if built:
             crate = built[1] or built[2] or built[3]
             return [Place(self.root / "target")] if crate is None or crate in self.tree.crates else []
@@ -269,8 +273,8 @@ class Checker:
             owned = [p for p in self.declared(last) if p.declared.owner == head]
             return owned or [p for p in self.declared(last) if p.path.stem == head]
         if SNAKE.fullmatch(name) or name.islower() or "_" in name:
-            # a law of one plain word is found as a need of a function's proof, or in an expression
-            found = [p for p in self.declared(name) if p.declared.kind != "law" or "-" in name or applied or p.path.stem == "Proof"]
+            # a law of one plain word is found as a goal that a function's proof answers, or in an expression
+            found = [p for p in self.declared(name) if p.declared.kind != "law" or "_" in name or applied or p.path.stem in repository.OF_FUNCTIONS]
             found += self.crate(name)
             if "_" in name:
                 found += self.edit(name)
@@ -299,9 +303,8 @@ class Checker:
         self.errors.append(f"{document}:{number}: {text}")
 
     def unproved(self, place):
-        """A hyphenated statement needs a proof; so does every closed statement of a file of theorems."""
         d = place.declared
-        return d is not None and d.kind == "statement" and "-" in d.name and self.tree.proof_of(d) is None
+        return d is not None and repository.is_claim(d) and self.tree.proof_of(d) is None
 
     def allowed(self, span):
         if span in self.words:
@@ -329,6 +332,11 @@ class Checker:
         """The places of what stands in one pair of backquotes. None where it is no name, or is told by an error."""
         if self.allowed(span) or not_a_name(span):
             return None
+        if span.startswith("rattle-kit-"):
+            now = (self.root / "kit-version.txt").read_text().strip()
+            if span != now:
+                self.error(document, number, f"`{span}`: kit-version.txt has {now}")
+            return None
         if re.fullmatch(r"--[a-z-]+", span):
             if span not in self.options:
                 self.error(document, number, f"`{span}`: no script has this option")
@@ -339,7 +347,7 @@ class Checker:
             return None
         if span.startswith(".. "):
             ending = span[3:]
-            if not any(n.endswith(("-" + ending, "_" + ending)) for n in [*self.index, *self.edits]):
+            if not any(n.endswith("_" + ending) for n in [*self.index, *self.edits]):
                 self.error(document, number, f"`{span}`: no name ends so")
             return None
         if PATH.fullmatch(span):
@@ -363,7 +371,7 @@ class Checker:
                 return None
             unproved = [p for p in found if self.unproved(p)]
             if unproved and len(unproved) == len(found):
-                self.error(document, number, f"`{span}` has no proof `{repository.lower_first(span)} : {span}` in crates/{found[0].crate}/proofs")
+                self.error(document, number, f"`{span}` has no proof `{repository.snake(span)} : {span}` in crates/{found[0].crate}/proofs")
             return found
         first = span.split()[0]
         if first in COMMANDS or PATH.fullmatch(first):
@@ -380,7 +388,7 @@ class Checker:
         for k, word in enumerate(words):
             if fraud and re.fullmatch(r"\w+/\w+", word) and word.split("/")[0] != "tools":
                 self.edit_named(document, number, *word.split("/"))
-            elif words[0] == "rt" and k > 1 and re.fullmatch(r"[a-z_]+", word):
+            elif words[0] == "rt" and k > 1 and words[1] != "all" and re.fullmatch(r"[a-z_]+", word):
                 if word not in self.tree.crates:
                     self.error(document, number, f"`{' '.join(words)}`: no crate {word}{self.similar(word)}")
             elif PATH.fullmatch(word) and re.search(r"[a-z]", word) and (word.split("/")[0] in self.tops() or "/" not in word):
@@ -473,6 +481,8 @@ class Checker:
                 for p in places[k] or []:
                     if p.declared:
                         self.promised.add((p.crate, p.declared.name))
+                    if p.declared and p.declared.kind == "function" and unit.title == "Function" and p.crate == (unit.crate or p.crate):
+                        self.promised_functions.add((p.crate, p.declared.owner, p.declared.name))
         self.unquoted(document, unit)
 
     def unquoted(self, document, unit):
@@ -523,15 +533,15 @@ class Checker:
 
     def promises(self):
         for crate in self.tree.crates:
-            for d in self.tree.specs[crate]:
-                if d.kind == "statement" and self.tree.proof_of(d) is None and re.match(r"Theorems|Pinned|Door|.*Edges|.*Calls", d.path.stem):
+            for d in self.tree.specs[crate] + self.tree.proofs[crate]:
+                if repository.is_claim(d) and self.tree.proof_of(d) is None:
                     self.errors.append(f"{self.tree.place(d.path)}:{d.line}: {d.name} is stated and not proved")
         for d in self.tree.theorems():
             if (d.crate, d.name) not in self.promised:
                 self.errors.append(f"{self.tree.place(d.path)}:{d.line}: {PROMISES} doesn't name the theorem {d.name} ({d.crate})")
         for crate in self.tree.crates:
             for d in self.tree.code[crate]:
-                if d.kind == "function" and (d.public or d.exported) and (crate, d.name) not in self.promised:
+                if d.kind == "function" and (d.public or d.exported) and (crate, d.owner, d.name) not in self.promised_functions:
                     self.errors.append(f"{self.tree.place(d.path)}:{d.line}: {PROMISES} doesn't name the public function {d.name} ({crate})")
             for edit, path in self.tree.edits[crate].items():
                 if not {(crate, edit), (crate, "must-fail")} & self.promised_edits and not ((None, edit) in self.promised_edits and self.edits[edit] == [crate]):

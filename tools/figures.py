@@ -1,5 +1,5 @@
 #!/usr/bin/env python3
-"""Writes docs/FIGURES.md: lines, deliberately wrong versions (edits) and times of each crate."""
+"""Writes docs/FIGURES.md: lines and deliberately wrong versions (edits) of each crate, and what a whole run took."""
 import argparse
 import datetime
 import re
@@ -12,21 +12,23 @@ from repository import Repository, counted_lines, read_lines
 
 FIGURES = "docs/FIGURES.md"
 COUNTS = ["Code", "Specs", "Proofs", "Edits"]
-PROVED = re.compile(r"^rt: (\w+) proved \((\d+) s\)$")
-REFUSED = re.compile(r"^rt: must-fail (\w+)/(\w+): refused, as it must be \((?:first at (?P<first>[^;]*); )?(\d+) s\)$")
+PROVED = re.compile(r"^rt: (\w+) (proved|is kept: .*)$")
+REFUSED = re.compile(r"^rt: must-fail (\w+)/(\w+)\.edit: refused, as it must be\b")
+ENDED = re.compile(r"^rt: ok; handles allowed: [^;]*; must-fail edits: (?P<refused>\d+) refused(?P<rest>[^;]*); (?P<share>.*)$", re.M)
 
 EXPLAINED = """\
 usage: python3 tools/figures.py [LOG]        prints docs/FIGURES.md
        python3 tools/figures.py --check      compares the lines and edits in docs/FIGURES.md with the tree
 
-Lines and edits are counted in the tree. The seconds come from LOG, what a whole run of `bash .ci/run`
-printed; without a log they are left out. To make it:
+Lines and edits are counted in the tree. The time of a whole run comes from LOG, what `bash .ci/run`
+printed; without a log it is left out. To make it:
 
     { time bash .ci/run; } > run.log 2>&1
     python3 tools/figures.py run.log > docs/FIGURES.md
 
-A log is refused if it isn't of a whole run of this tree in which everything passed: each crate proved from
-nothing, each edit tried. The date is that of the log file.
+A log is refused if it isn't of a whole run of this tree in which everything passed: each crate proved, each
+edit refused, none bad. What `rt ci` passed before on this machine it keeps, and proves only the rest; how much
+it proved in this run is told beside the time. The date is that of the log file.
 
 Exit status: 0 done, or the counts agree; 1 the counts in docs/FIGURES.md are not those of the tree;
 2 wrong use, or a file that can't be read or isn't of this tree."""
@@ -46,28 +48,27 @@ def counted(tree):
 
 
 class Run:
-    """What the log of a whole run says: seconds of each crate's check and of its edits together, and the times of the whole."""
+    """What the log of a whole run says: the crates and edits in it, how much was done in this run, and the times of the whole."""
 
     def __init__(self, path, tree):
         text = path.read_text(errors="replace")
         self.date = datetime.date.fromtimestamp(path.stat().st_mtime).isoformat()
-        self.checks, self.edits, self.firsts = {}, {}, {}
-        for line in text.splitlines():
-            proved, refused = PROVED.match(line), REFUSED.match(line)
-            if proved:
-                self.checks[proved[1]] = int(proved[2])
-            elif refused:
-                self.edits[refused[1], refused[2]] = int(refused[4])
-                self.firsts[refused[1], refused[2]] = refused["first"] or ""
+        lines = text.splitlines()
+        crates = {m[1] for m in map(PROVED.match, lines) if m}
+        edits = {(m[1], m[2]) for m in map(REFUSED.match, lines) if m}
         last = re.findall(r"^(\d+) passed, (\d+) failed$", text, re.M)
         if not last or last[-1][1] != "0":
             raise Wrong(f"{path}: no line 'N passed, 0 failed': not a whole run in which everything passed")
         self.passed = f"{last[-1][0]} passed, 0 failed"
         wanted = {(c, e) for c in tree.crates for e in tree.edits[c]}
-        for what, there, asked in (("crate", set(self.checks), set(tree.crates)), ("edit", set(self.edits), wanted)):
+        for what, there, asked in (("crate", crates, set(tree.crates)), ("edit", edits, wanted)):
             if there != asked:
                 shown = ", ".join("/".join([x] if isinstance(x, str) else x) for x in sorted(there ^ asked)[:5])
                 raise Wrong(f"{path}: not the run of this tree: the log and the tree differ in {len(there ^ asked)} {what}s ({shown} ..)")
+        ended = ENDED.search(text)
+        if not ended or " bad" in ended["rest"] or int(ended["refused"]) != len(wanted):
+            raise Wrong(f"{path}: its line 'rt: ok' is missing, has bad edits, or not {len(wanted)} refused")
+        self.share = ended["share"]
         self.real, user, system = (self.told(text, word) for word in ("real", "user", "sys"))
         self.processor = None if user is None or system is None else user + system
 
@@ -98,21 +99,17 @@ def figures(tree, run=None):
     edits = of_code + of_definitions
     out = ["# Figures", ""]
     out += ["Written by `tools/figures.py`. Lines without comments, blank lines and `use` lines; deliberately wrong versions (edits),",
-            f"{of_code} of code (`code_..`) and {of_definitions} of definitions." + (" Seconds are of a whole run." if run else "")]
+            f"{of_code} of code (`code_..`) and {of_definitions} of definitions."]
     if run:
         whole = f" in {minutes(run.real)}" if run.real is not None else ""
         busy = f", {round(run.processor / 60)} minutes of processor time" if run.processor is not None else ""
         out += ["",
-                f"The run: `bash .ci/run` from nothing, {run.date}: `{run.passed}` ({len(table)} crates, {edits} edits){whole}{busy}.",
-                "Seconds are wall time, whole, of the crate's check and of all its edits together. Several checks run at a time, so a check by",
-                "itself takes less; and they vary with the machine and with what else it does."]
-    titles = ["Crate", *COUNTS] + (["Check, s", "Edits, s"] if run else [])
+                f"The run: `bash .ci/run`, {run.date}: `{run.passed}` ({len(table)} crates, {edits} edits){whole}{busy}.",
+                f"What of it was proved: {run.share}. The time varies with the machine and with what else it does."]
+    titles = ["Crate", *COUNTS]
     out += ["", "| " + " | ".join(titles) + " |", "|" + "---|" * len(titles)]
     total = [0] * (len(titles) - 1)
     for crate, row in table.items():
-        row = list(row)
-        if run:
-            row += [run.checks[crate], sum(s for (c, _), s in run.edits.items() if c == crate)]
         total = [a + b for a, b in zip(total, row)]
         out.append(f"| `{crate}` | " + " | ".join(map(str, row)) + " |")
     out.append("| all | " + " | ".join(map(str, total)) + " |")
@@ -136,7 +133,7 @@ def figures(tree, run=None):
             out.append(f"| `{crate}` | " + " | ".join(map(str, row)) + " |")
     out.append("| all | " + " | ".join(map(str, total)) + " |")
     if run:
-        out += ["", "Every edit was refused. An edit rechecks its crate from nothing."]
+        out += ["", "Every edit was refused."]
     return "\n".join(out) + "\n"
 
 

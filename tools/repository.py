@@ -8,13 +8,17 @@ ROOT = Path(__file__).resolve().parent.parent
 
 # ---- declarations
 
+# what a person writes of the proof of one function stands in proofs/FUNCTION/; every other file of proofs/ has lemmas
+OF_FUNCTIONS = ("Invariants", "Answers", "Proof")
+# files whose closed statements are theorems, each with a proof
+OF_THEOREMS = re.compile(r"Theorems|Pinned|Door|.*Door$|.*Edges|.*Calls|Conflicts")
 WORD = r"[^\s(){},;:.`]+"
 MODIFIERS = r"(?:(?:pub|abbrev|unfoldable)\s+)*"
 ANTT_BLOCK = re.compile(rf"^(?P<indent> *)(?:pub\s+)?(?P<kind>record|data)\s+(?P<name>{WORD})\s")
 ANTT_NAME = re.compile(rf"^(?P<indent> *){MODIFIERS}(?P<names>{WORD}(?:\s+{WORD})*)\s*:\s*(?P<type>.*)$")
-RT_FUNCTION = re.compile(r'^(?P<indent> *)(?P<pub>pub\s+)?(?P<extern>extern\s+"C"\s+)?fn\s+(?P<name>\w+)')
+RT_FUNCTION = re.compile(r'^(?P<indent> *)(?P<pub>pub\s+)?(?P<unsafe>unsafe\s+)?(?P<extern>extern\s+"C"\s+)?fn\s+(?P<name>\w+)')
 RT_TYPE = re.compile(r"^(?:pub\s+)?(?P<kind>struct|enum)\s+(?P<name>\w+)")
-RT_IMPL = re.compile(r"^impl(?:<[^>]*>)?\s+(?P<name>\w+)")
+RT_IMPL = re.compile(r"^impl(?:<[^>]*>)?\s+(?:[\w:<>, ]+\s+for\s+)?(?P<name>\w+)")
 RT_CONST = re.compile(r"^(?:pub\s+)?const\s+(?P<name>\w+)\s*:")
 
 
@@ -73,8 +77,10 @@ def antt_declarations(crate, path, inside):
                 for name in named["names"].split():
                     found.append(Declared(name, kind, crate, path, number, owner=block[0]))
         elif indent == here and len(named["names"].split()) == 1:
-            closed = indent == 0 and re.fullmatch(r"Type \d", named["type"].strip()) is not None
-            kind = "law" if inside == "proofs" else "statement" if closed else "definition"
+            closed = indent == 0 and re.fullmatch(r"Type(?: \d)?", named["type"].strip()) is not None
+            # a theorem may stand in proofs/ too, as a closed proposition with a capital letter in a file of lemmas
+            stated = closed and (inside == "specs" or line.startswith("abbrev pub ") and named["names"][0].isupper() and path.stem not in OF_FUNCTIONS)
+            kind = "statement" if stated else "law" if inside == "proofs" else "definition"
             found.append(Declared(named["names"], kind, crate, path, number))
     return found
 
@@ -86,8 +92,10 @@ def rt_declarations(crate, path):
             continue
         if line[0] == "}":
             owner = None
-        if "#[no_mangle]" in line:
+        if re.match(r"\s*#\[(?:unsafe\()?no_mangle\)?\]", line):
             exported = True
+            continue
+        if line.lstrip().startswith("#["):
             continue
         function, a_type, impl, const = (p.match(line) for p in (RT_FUNCTION, RT_TYPE, RT_IMPL, RT_CONST))
         if function and (not function["indent"] or owner):
@@ -110,8 +118,21 @@ def rt_declarations(crate, path):
     return found
 
 
-def lower_first(name):
-    return name[0].lower() + name[1:]
+def snake(name):
+    """The name of a proof, by that of its statement: `WireForm` is proved by `wire_form`. A digit that begins a word is found by `proves` alone."""
+    return re.sub(r"(?<=[a-z0-9])(?=[A-Z])|(?<=[A-Z])(?=[A-Z][a-z])", "_", name).lower()
+
+
+def proves(law, statement):
+    """Whether a law has the name of a statement's proof: the same words, small and joined by `_`, and `_lem` behind them where a definition
+    has that name."""
+    return law == law.lower() and statement.lower() in (law.replace("_", ""), law.removesuffix("_lem").replace("_", ""))
+
+
+def is_claim(d):
+    """A statement that needs a proof: one of a file of theorems, and every other closed proposition whose name has several words. A closed
+    type of one word, such as Label, is a type of values."""
+    return d.kind == "statement" and (OF_THEOREMS.match(d.path.stem) is not None or "_" in snake(d.name) or re.search(r"\d", d.name) is not None)
 
 
 class Repository:
@@ -138,9 +159,10 @@ class Repository:
             line = line.split("#")[0]
             if line.strip():
                 name, colon, of = line.partition(":")
-                if not colon:
+                if not colon or not name.strip():
                     raise ValueError(f"crates.txt line {number}: expected NAME: DEP DEP ..")
-                needs[name.strip()] = of.split()
+                # words behind the name say what is built of the crate, as `staticlib`
+                needs[name.split()[0]] = of.split()
         return needs
 
     def files(self, crate, part):
@@ -157,23 +179,45 @@ class Repository:
                 left += self.needs[crate]
         return [c for c in self.crates if c in seen]
 
+    def in_order(self, crates):
+        """These crates, each behind those that it needs: crates.txt may have them in any order."""
+        height = {}
+
+        def of(crate):
+            if crate not in height:
+                height[crate] = 1 + max([of(c) for c in self.needs[crate] if c in self.needs], default=0)
+            return height[crate]
+        return sorted(crates, key=of)
+
     def above(self, crates):
         """The crates that need one of these, these left out."""
         wanted = set(crates)
         return [c for c in self.crates if c not in wanted and wanted & set(self.below([c]))]
 
+    def statements(self):
+        """Every closed statement, of specs/ and of files of lemmas in proofs/."""
+        return [d for c in self.crates for d in self.specs[c] + self.proofs[c] if d.kind == "statement"]
+
     def proof_of(self, statement):
-        """The proof of a statement of specs/: the law of the same name with its first letter small, in proofs/ of the same crate."""
+        """The proof of a statement: the law of the same name in snake case whose type is the statement, in proofs/ of the same crate, in a
+        file of lemmas that proofs/Lib.antt names."""
         for law in self.proofs[statement.crate]:
-            if law.name == lower_first(statement.name):
-                text = law.path.read_text().splitlines()[law.line - 1]
-                if re.search(rf":\s*{re.escape(statement.name)}\s*$", text):
-                    return law
+            if law.kind == "law" and proves(law.name, statement.name) and law.path.stem not in OF_FUNCTIONS:
+                lines = law.path.read_text().splitlines()[law.line - 1:law.line + 1]
+                if re.search(rf":\s*{re.escape(statement.name)}\s*$", lines[0] if not lines[0].rstrip().endswith(":") else " ".join(lines)):
+                    return law if self.is_read(law) else None
         return None
 
+    def is_read(self, law):
+        """Whether the check reads the file of a lemma: proofs/Lib.antt has a line `mod NAME` or `pub mod NAME` for it."""
+        folder = self.root / "crates" / law.crate / "proofs"
+        name = ".".join(law.path.relative_to(folder).with_suffix("").parts)
+        lib = folder / "Lib.antt"
+        return lib.exists() and re.search(rf"^(?:pub )?mod {re.escape(name)}$", lib.read_text(), re.M) is not None
+
     def theorems(self):
-        """Every statement of specs/ that has a proof."""
-        return [d for c in self.crates for d in self.specs[c] if d.kind == "statement" and self.proof_of(d)]
+        """Every statement that has a proof."""
+        return [d for d in self.statements() if self.proof_of(d)]
 
     def place(self, path):
         return str(Path(path).relative_to(self.root))

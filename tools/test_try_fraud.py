@@ -1,6 +1,6 @@
 #!/usr/bin/env python3
-"""Tests of try-fraud: three of the frauds that the requirements name, a change that is none, patches, and wrong use. It needs rt, and what
-`rt check` has proved in target/. The frauds are taken from docs/PROMISES.md, those of the smallest crates, so that it takes under a minute."""
+"""Tests of try-fraud: three of the frauds that the requirements name, a change that is none, patches, and wrong use. It needs rt, and takes
+some minutes, less where the crates are proved already. The frauds are taken from docs/PROMISES.md, those of the smallest crates."""
 import difflib
 import importlib.machinery
 import importlib.util
@@ -92,9 +92,10 @@ class Patches(unittest.TestCase):
         return str(path)
 
     def test_a_change_that_is_no_fraud_is_told(self):
-        path = next(p for p in TREE.files(self.crate, "specs") if p.read_text().startswith("-- "))
+        path = next(p for part in ("specs", "src") for p in TREE.files(self.crate, part) if re.match("(?:--|//) ", p.read_text()))
         comment = path.read_text().splitlines()[0]
-        patch = self.written("own.edit", f"# Another comment.\nfile: specs/{path.name}\nold: {comment}\nnew: -- {comment[3:]}!\n")
+        file = path.relative_to(ROOT / "crates" / self.crate)
+        patch = self.written("own.edit", f"# Another comment.\nfile: {file}\nold: {comment}\nnew: {comment}!\n")
         status, out, err = run("--patch", patch, "--crate", self.crate)
         self.assertEqual(1, status, out + err)
         self.assertIn("NOT REFUSED", out)
@@ -168,17 +169,39 @@ class Use(unittest.TestCase):
 
 
 class Words(unittest.TestCase):
-    def test_needs(self):
-        self.assertIn("second way out", try_fraud.need_in_words("returns-2"))
-        self.assertIn("first way out", try_fraud.need_in_words("returns"))
-        self.assertIn("judge_name", try_fraud.need_in_words("judge-name-requires"))
-        self.assertIn("end", try_fraud.need_in_words("loop-less"))
-        self.assertIsNone(try_fraud.need_in_words("enum-told"))
+    def test_goals(self):
+        self.assertIn("ensures holds", try_fraud.goal_in_words("returns-then-b-ge65"))
+        self.assertIn("where the loop begins", try_fraud.goal_in_words("loop-i-init"))
+        self.assertIn("judge_name", try_fraud.goal_in_words("judge_name-requires"))
+        self.assertIn("comes to an end", try_fraud.goal_in_words("loop-at-smaller"))
+        self.assertIn("handed to is_label", try_fraud.goal_in_words("slice_bounds-is_label-end"))
+        self.assertIsNone(try_fraud.goal_in_words("enum-told"))
+
+    def test_stops(self):
+        output = ("./proofs/A.antt:9:43: error: `a_law`: expected type `A`\n  more of it\nnote: src/lib.rt:24:9: it is not proved that the loop ends (`loop-i-smaller`); `search` gave up\n"
+                  "./proofs/f/Answers.antt:11:27: error: `returns`: module `G` has no `returns` that can be named from here\nlogic=not-proved\n")
+        law, goal, gone = try_fraud.stops_in(output)
+        self.assertEqual(("a_law", "expected type `A`\nmore of it", None), (law.name, law.text, law.goal))
+        self.assertEqual(("loop-i-smaller", "the loop ends", 24), (goal.name, goal.goal, goal.line))
+        self.assertEqual([False, False, True], [law.is_gone(), goal.is_gone(), gone.is_gone()])
+        self.assertEqual("f", try_fraud.function_of(gone.path))
+        self.assertIsNone(try_fraud.function_of(law.path))
+
+    def test_what_can_not_be_read(self):
+        self.assertIsNotNone(try_fraud.unread("./specs/A.antt:1:2: error: expected the end of the term\n", set()))
+        self.assertIsNone(try_fraud.unread("./proofs/A.antt:1:2: error: `a`: expected type `A`\n", set()))
+        self.assertIsNone(try_fraud.unread("./proofs/A.antt:1:2: error: `a`: `b` is not in scope\n", set()))
+        self.assertIsNotNone(try_fraud.unread("./proofs/A.antt:1:2: error: `a`: `b` is not in scope\n", {"proofs/A.antt"}))
+        self.assertIsNone(try_fraud.unread("./proofs/A.antt:1:2: error: 2 declarations that depend on `a`, which was rejected, were not checked: b, c\n", {"proofs/A.antt"}))
+
+    def test_the_two_sides_of_a_difference(self):
+        text = "expected type `A`\ncomputed as far as they go, the two types are `Path Prim.Native.Nat.ℕ 251 250` (expected) and `Path Prim.Native.Nat.ℕ 251 251` (found)"
+        self.assertEqual(("250", "251"), try_fraud.differing(text))
 
     def test_terms(self):
-        self.assertEqual('named "ca"', try_fraud.short("A.B.named (mathlib.Core.List._∷_ 99 (mathlib.Core.List._∷_ 97 []))"))
+        self.assertEqual('named "ca"', try_fraud.short("A.B.named (mathlib.Core.List.◌∷◌ 99 (mathlib.Core.List.◌∷◌ 97 []))"))
         self.assertEqual("granted 0 []", try_fraud.short("granted {A = ℕ} 0 mathlib.Core.List.[]"))
-        self.assertEqual("named ..", try_fraud.short("(named (_∷_ 99 (_…[357 bytes]…_∷_ 116 [])))"))
+        self.assertEqual("named ..", try_fraud.short("(named (◌∷◌ 99 (◌…[357 bytes]…◌∷◌ 116 [])))"))
 
     def test_rows(self):
         body = '\n    -- one\n    (text "a ∷ b\\"", x)\n    -- two\n    -- lines\n    ∷ (y ∷ [], z)\n    ∷ []\n'

@@ -27,7 +27,7 @@ fn link() -> Result<(), String> {
         ));
     }
     let folder = env::var(FOLDER)
-        .map_err(|_| format!("{FOLDER} is not set; set it to the absolute path of the folder of {ARCHIVE}, which `rt staticlib splinepearl` writes to target/staticlib"))?;
+        .map_err(|_| format!("{FOLDER} is not set; set it to the absolute path of the folder of {ARCHIVE}, which `bash scripts/archive.sh splinepearl` writes to target/staticlib"))?;
     let path = PathBuf::from(&folder).join(ARCHIVE);
     // A build script doesn't run in the folder where cargo was called, so a relative path would be misread.
     if !path.is_absolute() {
@@ -36,7 +36,7 @@ fn link() -> Result<(), String> {
         ));
     }
     if !path.is_file() {
-        return Err(format!("{} is missing (see {FOLDER}); `rt staticlib splinepearl` writes it to target/staticlib", path.display()));
+        return Err(format!("{} is missing (see {FOLDER}); `bash scripts/archive.sh splinepearl` writes it to target/staticlib", path.display()));
     }
     println!("cargo::rerun-if-changed={}", path.display());
     println!("cargo::rustc-link-search=native={folder}");

@@ -2,7 +2,7 @@
  * Judges request.bin, issuer.txt, account.txt, method.txt and book.bin of a folder, then says who may
  * issue:
  *
- *     rt staticlib splinepearl
+ *     bash scripts/archive.sh splinepearl
  *     cc -std=c99 -Iinclude -o target/judge examples/c/judge.c target/staticlib/libsplinepearl.a
  *     target/judge examples/whole-case
  *

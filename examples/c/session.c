@@ -8,7 +8,7 @@
  *
  * Lines that begin with # and empty lines are passed over. A name that has no line has no records.
  *
- *     rt staticlib splinepearl
+ *     bash scripts/archive.sh splinepearl
  *     cc -std=c99 -Iinclude -o target/session examples/c/session.c target/staticlib/libsplinepearl.a
  *     target/session examples/session/zone.txt www.example.com ca1.example.net
  */

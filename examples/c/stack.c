@@ -1,7 +1,7 @@
 /*
  * Measures how much stack each call of the library takes:
  *
- *     rt staticlib splinepearl
+ *     bash scripts/archive.sh splinepearl
  *     cc -std=c99 -O2 -Iinclude -o target/stack examples/c/stack.c target/staticlib/libsplinepearl.a
  *     target/stack
  *

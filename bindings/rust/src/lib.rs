@@ -45,8 +45,8 @@
 //! # Building
 //!
 //! Set the environment variable `SPLINEPEARL_LIBS` to the absolute path of the folder that holds
-//! `libsplinepearl.a`. `rt staticlib splinepearl` writes it to `target/staticlib`. It is for x86-64
-//! Linux.
+//! `libsplinepearl.a`. `bash scripts/archive.sh splinepearl` writes it to `target/staticlib`. It is
+//! for x86-64 Linux.
 //!
 //! # Stack
 //!

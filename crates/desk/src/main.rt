@@ -7,9 +7,11 @@
 
 ghost use Rattle.desk.specs.Files.{Taken};
 
-use libc::STDOUT_FILENO;
 use spec_desk::LINE_OCTETS;
 use spec_limits::{MAX_ACCOUNT_OCTETS, MAX_BOOK_OCTETS, MAX_ISSUER_OCTETS, MAX_REQUEST_OCTETS};
+use std::fs::File;
+use std::io::Read;
+use std::rt::Files;
 
 // One octet more than the limit, so that a longer file is refused and not truncated.
 const REQUEST_ROOM: usize = MAX_REQUEST_OCTETS + 1;
@@ -29,19 +31,17 @@ struct FileRead {
 }
 
 // Reads to the end of the file, or until the buffer is full. If a read fails, the file counts as missing, never as a shorter file.
-fn read_open(fd: i32, out: &mut [u8]) -> FileRead
+fn read_open(file: &mut File, out: &mut [u8]) -> FileRead
     ensures { Taken result out.new }
 {
     let mut n: usize = 0;
     while n < out.len() {
-        let got = libc::read(fd, &mut out[n..]);
-        if got < 0 {
+        let Ok(more) = file.read(&mut out[n..]) else {
             return FileRead {
                 found: false,
                 length: 0,
             };
-        }
-        let more = io::count(got, &out[n..]);
+        };
         if more == 0 {
             return FileRead {
                 found: true,
@@ -57,32 +57,29 @@ fn read_open(fd: i32, out: &mut [u8]) -> FileRead
 }
 
 // Reads a file of the current folder.
-fn read_file(path: &[u8], out: &mut [u8]) -> FileRead
+fn read_file(rt: &impl Files<File = File>, path: &str, out: &mut [u8]) -> FileRead
     ensures { Taken result out.new }
 {
-    let fd = os::open_read(path);
-    if fd < 0 {
+    let Ok(mut file) = File::open(rt, path) else {
         return FileRead {
             found: false,
             length: 0,
         };
-    }
-    let file = read_open(fd, out);
-    libc::close(fd);
-    file
+    };
+    read_open(&mut file, out)
 }
 
-fn main() {
+fn main(rt: HostRuntime) {
     let mut request = [0u8; REQUEST_ROOM];
     let mut issuer = [0u8; ISSUER_ROOM];
     let mut account = [0u8; ACCOUNT_ROOM];
     let mut method = [0u8; ACCOUNT_ROOM];
     let mut book = [0u8; BOOK_ROOM];
-    let requested = read_file(b"request.bin", &mut request).length;
-    let named = read_file(b"issuer.txt", &mut issuer).length;
-    let held = read_file(b"account.txt", &mut account).length;
-    let validated = read_file(b"method.txt", &mut method).length;
-    let records = read_file(b"book.bin", &mut book);
+    let requested = read_file(&rt, "request.bin", &mut request).length;
+    let named = read_file(&rt, "issuer.txt", &mut issuer).length;
+    let held = read_file(&rt, "account.txt", &mut account).length;
+    let validated = read_file(&rt, "method.txt", &mut method).length;
+    let records = read_file(&rt, "book.bin", &mut book);
     let booked = records.length;
     let mut line = [0u8; LINE_OCTETS];
     let n = desk_line::put_desk_line(
@@ -95,5 +92,5 @@ fn main() {
         &mut line,
     );
     // A failed write can't be reported to anybody.
-    io::write_all(STDOUT_FILENO, &line[..n]);
+    let _ = rt.write_all(&line[..n]);
 }

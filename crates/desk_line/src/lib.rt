@@ -16,7 +16,7 @@ pub fn put_desk_line(
     book: &[u8],
     out: &mut [u8; LINE_OCTETS],
 ) -> usize
-    ensures { Put (desk_line found request.now issuer.now (record { account = account.entry.now; method = method.now }) book.now) out.old out.new result }
+    ensures { Put (desk_line found request.now issuer.now (record { account = account.now; method = method.now }) book.now) out.old out.new result }
 {
     if !found {
         return text_buffer::put_octets(b"no book\n", out);

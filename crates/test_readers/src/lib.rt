@@ -97,8 +97,7 @@ fn value(v: &[u8]) -> u64
 }
 
 // The answer of the reader with this number. Reader 1 compares s and t; 2, 3 and 6 read s from offset `at` on; the others read s.
-#[unsafe(no_mangle)]
-pub extern "C" fn readers_answer(number: usize, s: &[u8], t: &[u8], at: usize) -> u64
+pub fn readers_answer(number: usize, s: &[u8], t: &[u8], at: usize) -> u64
     ensures { result ≡ reader_answer number s.now t.now at }
 {
     match number {

@@ -12,7 +12,9 @@ ghost use Rattle.std.specs.Prelude.{◌<◌, ◌≡◌};
 ghost use Rattle.io.specs.Counts.{IsPrefixLen};
 ghost use Rattle.test_runs.specs.Answers.{answer_of, buffer_after};
 
-use libc::STDOUT_FILENO;
+use std::fs::File;
+use std::io;
+use std::io::Read;
 
 const TITLE_ROOM: usize = 60;
 
@@ -43,20 +45,37 @@ fn wide(b: u8) -> usize
     b as usize
 }
 
-fn read_number(fd: i32) -> usize {
+// Reads until the buffer is full, the file ends or a read fails, and returns how many octets it read.
+fn read_full(file: &mut File, out: &mut [u8]) -> usize
+    ensures { IsPrefixLen result out.new }
+{
+    let mut n: usize = 0;
+    while n < out.len() {
+        let Ok(more) = file.read(&mut out[n..]) else {
+            break;
+        };
+        if more == 0 {
+            break;
+        }
+        n += more;
+    }
+    n
+}
+
+fn read_number(file: &mut File) -> usize {
     let mut n = [0u8; 3];
-    if io::read_full(fd, &mut n) < 3 {
+    if read_full(file, &mut n) < 3 {
         return CUT_OFF;
     }
     wide(n[0]) * 65536 + wide(n[1]) * 256 + wide(n[2])
 }
 
-fn read_part(fd: i32, out: &mut [u8]) -> Part
+fn read_part(file: &mut File, out: &mut [u8]) -> Part
     ensures { IsPrefixLen result.length out.new }
 {
-    let n = read_number(fd);
+    let n = read_number(file);
     if n <= out.len() {
-        if io::read_full(fd, &mut out[..n]) == n {
+        if read_full(file, &mut out[..n]) == n {
             return Part {
                 whole: true,
                 length: n,
@@ -81,45 +100,40 @@ fn checksum(s: &[u8]) -> u64 {
 }
 
 // Prints a printable octet except `\` as itself, and others as `\` and two hex digits.
-fn print_octet(b: u8) {
+fn print_octet(rt: &impl Print, b: u8) -> io::Result<()> {
     if 32 <= b {
         if b <= 126 {
             if b != b'\\' {
-                io::write_all(STDOUT_FILENO, &[b]);
-                return;
+                return rt.write_all(&[b]);
             }
         }
     }
-    io::write_all(STDOUT_FILENO, b"\\");
-    io::print_hex(STDOUT_FILENO, wide(b) as u64, 2);
+    print!(rt; "\\{b:02x}")
 }
 
 // Prints the first octets of the buffer, and the checksum of all of it.
-fn print_buffer(s: &[u8]) {
-    io::write_all(STDOUT_FILENO, b" [");
+fn print_buffer(rt: &impl Print, s: &[u8]) -> io::Result<()> {
+    print!(rt; " [")?;
     let mut i: usize = 0;
     while i < s.len() {
         if i == SHOWN {
-            io::write_all(STDOUT_FILENO, b"..");
+            print!(rt; "..")?;
             break;
         }
-        print_octet(s[i]);
+        print_octet(rt, s[i])?;
         i += 1;
     }
-    io::write_all(STDOUT_FILENO, b"] ");
-    io::print_hex(STDOUT_FILENO, checksum(s), 8);
+    let sum = checksum(s);
+    print!(rt; "] {sum:08x}")
 }
 
 // Prints the number and the fields a, b and c.
-fn print_answer(packed: u64) {
-    io::write_all(STDOUT_FILENO, b": ");
-    io::print_decimal(STDOUT_FILENO, packed % 256);
-    io::write_all(STDOUT_FILENO, b" ");
-    io::print_decimal(STDOUT_FILENO, packed / 256 % 16777216);
-    io::write_all(STDOUT_FILENO, b" ");
-    io::print_decimal(STDOUT_FILENO, packed / 4294967296 % 65536);
-    io::write_all(STDOUT_FILENO, b" ");
-    io::print_decimal(STDOUT_FILENO, packed / 281474976710656);
+fn print_answer(rt: &impl Print, packed: u64) -> io::Result<()> {
+    let number = packed % 256;
+    let a = packed / 256 % 16777216;
+    let b = packed / 4294967296 % 65536;
+    let c = packed / 281474976710656;
+    print!(rt; ": {number} {a} {b} {c}")
 }
 
 // The packed answer of the call with this number: 1 judges, 2 lists, 3 writes a line, 4 reads one.
@@ -132,8 +146,8 @@ fn answer(
     book: &[u8],
     buffer: &mut [u8],
 ) -> u64
-    ensures packed { result ≡ answer_of call request.now issuer.now (record { account = account.entry.now; method = method.now }) book.now buffer.old }
-    ensures octets { buffer.new ≡ buffer_after call request.now (record { account = account.entry.now; method = method.now }) book.now buffer.old }
+    ensures packed { result ≡ answer_of call request.now issuer.now (record { account = account.now; method = method.now }) book.now buffer.old }
+    ensures octets { buffer.new ≡ buffer_after call request.now (record { account = account.now; method = method.now }) book.now buffer.old }
 {
     if call == 1 {
         return splinepearl::caa_judge_for(request, issuer, account, method, book);
@@ -149,6 +163,7 @@ fn answer(
 
 // Runs a case and prints the rest of its line.
 fn run(
+    rt: &impl Print,
     call: usize,
     request: &[u8],
     issuer: &[u8],
@@ -156,30 +171,33 @@ fn run(
     method: &[u8],
     book: &[u8],
     buffer: &mut [u8],
-) {
-    print_answer(answer(call, request, issuer, account, method, book, buffer));
+) -> io::Result<()> {
+    let packed = answer(call, request, issuer, account, method, book, buffer);
+    print_answer(rt, packed)?;
     if call != 1 {
-        print_buffer(buffer);
+        print_buffer(rt, buffer)?;
     }
-    io::write_all(STDOUT_FILENO, b"\n");
+    rt.write_all(b"\n")
 }
 
 // These functions read a case, each one part of it, and return whether it is complete.
 fn run_with_room(
-    fd: i32,
+    rt: &impl Print,
+    file: &mut File,
     call: usize,
     request: &[u8],
     issuer: &[u8],
     account: &[u8],
     method: &[u8],
     book: &[u8],
-) -> bool {
-    let room = read_number(fd);
+) -> io::Result<bool> {
+    let room = read_number(file);
     if ROOM < room {
-        return false;
+        return Ok(false);
     }
     let mut buffer = [b'_'; ROOM];
     run(
+        rt,
         call,
         request,
         issuer,
@@ -187,102 +205,125 @@ fn run_with_room(
         method,
         book,
         &mut buffer[..room],
-    );
-    true
+    )?;
+    Ok(true)
 }
 
 fn run_with_book(
-    fd: i32,
+    rt: &impl Print,
+    file: &mut File,
     call: usize,
     request: &[u8],
     issuer: &[u8],
     account: &[u8],
     method: &[u8],
-) -> bool {
+) -> io::Result<bool> {
     let mut book = [0u8; ROOM];
-    let read = read_part(fd, &mut book);
+    let read = read_part(file, &mut book);
     if !read.whole {
-        return false;
+        return Ok(false);
     }
     let n = read.length;
-    run_with_room(fd, call, request, issuer, account, method, &book[..n])
+    run_with_room(rt, file, call, request, issuer, account, method, &book[..n])
 }
 
-fn run_with_method(fd: i32, call: usize, request: &[u8], issuer: &[u8], account: &[u8]) -> bool {
+fn run_with_method(
+    rt: &impl Print,
+    file: &mut File,
+    call: usize,
+    request: &[u8],
+    issuer: &[u8],
+    account: &[u8],
+) -> io::Result<bool> {
     let mut method = [0u8; ACCOUNT_ROOM];
-    let read = read_part(fd, &mut method);
+    let read = read_part(file, &mut method);
     if !read.whole {
-        return false;
+        return Ok(false);
     }
     let n = read.length;
-    run_with_book(fd, call, request, issuer, account, &method[..n])
+    run_with_book(rt, file, call, request, issuer, account, &method[..n])
 }
 
-fn run_with_account(fd: i32, call: usize, request: &[u8], issuer: &[u8]) -> bool {
+fn run_with_account(
+    rt: &impl Print,
+    file: &mut File,
+    call: usize,
+    request: &[u8],
+    issuer: &[u8],
+) -> io::Result<bool> {
     let mut account = [0u8; ACCOUNT_ROOM];
-    let read = read_part(fd, &mut account);
+    let read = read_part(file, &mut account);
     if !read.whole {
-        return false;
+        return Ok(false);
     }
     let n = read.length;
-    run_with_method(fd, call, request, issuer, &account[..n])
+    run_with_method(rt, file, call, request, issuer, &account[..n])
 }
 
-fn run_with_issuer(fd: i32, call: usize, request: &[u8]) -> bool {
+fn run_with_issuer(
+    rt: &impl Print,
+    file: &mut File,
+    call: usize,
+    request: &[u8],
+) -> io::Result<bool> {
     let mut issuer = [0u8; ISSUER_ROOM];
-    let read = read_part(fd, &mut issuer);
+    let read = read_part(file, &mut issuer);
     if !read.whole {
-        return false;
+        return Ok(false);
     }
     let n = read.length;
-    run_with_account(fd, call, request, &issuer[..n])
+    run_with_account(rt, file, call, request, &issuer[..n])
 }
 
-fn run_call(fd: i32) -> bool {
-    let call = read_number(fd);
+fn run_call(rt: &impl Print, file: &mut File) -> io::Result<bool> {
+    let call = read_number(file);
     if call == 0 {
-        return false;
+        return Ok(false);
     }
     if 4 < call {
-        return false;
+        return Ok(false);
     }
     let mut request = [0u8; ROOM];
-    let read = read_part(fd, &mut request);
+    let read = read_part(file, &mut request);
     if !read.whole {
-        return false;
+        return Ok(false);
     }
     let n = read.length;
-    run_with_issuer(fd, call, &request[..n])
+    run_with_issuer(rt, file, call, &request[..n])
 }
 
 // Reads the next case and runs it. Its line begins with its title.
-fn run_next(fd: i32) -> bool {
+fn run_next(rt: &impl Print, file: &mut File) -> io::Result<bool> {
     let mut title = [0u8; TITLE_ROOM];
-    let read = read_part(fd, &mut title);
+    let read = read_part(file, &mut title);
     if !read.whole {
-        return false;
+        return Ok(false);
     }
     let n = read.length;
-    io::write_all(STDOUT_FILENO, &title[..n]);
-    run_call(fd)
+    rt.write_all(&title[..n])?;
+    run_call(rt, file)
 }
 
-fn main() {
-    let fd = os::open_read(b"cases.bin");
-    let cases = read_number(fd);
+// Runs all cases of the file, and returns whether it is well-formed.
+fn run_all(rt: &impl Print, file: &mut File) -> io::Result<bool> {
+    let cases = read_number(file);
     let mut k: usize = 0;
     while k < cases {
-        if !run_next(fd) {
+        if !run_next(rt, file)? {
             break;
         }
         k += 1;
     }
     // Nothing may follow the last case.
     let mut after = [0u8; 1];
-    if k == cases {
-        if io::read_full(fd, &mut after) == 0 {
-            return;
+    Ok(k == cases && read_full(file, &mut after) == 0)
+}
+
+fn main(rt: HostRuntime) -> io::Result<()> {
+    if let Ok(mut file) = File::open(&rt, "cases.bin") {
+        if run_all(&rt, &mut file)? {
+            return Ok(());
         }
     }
-    io::write_all(STDOUT_FILENO, b"cases.bin is malformed\n");
+    rt.write_all(b"cases.bin is malformed\n")
 }

@@ -1,0 +1,12 @@
+-- `judge_long` meets its contract.
+use mathlib.Core.Path.{refl}
+use borrow.Author.Rules.{rules}
+use Rattle.spec_limits.specs.Limits.{max_records}
+use Rattle.book_places.specs.Table.{few_records, short_book}
+use Rattle.book_places.specs.Chains.{no_record}
+use Rattle.judge_call.proofs.TableMade.{lent_long}
+use Rattle.judge_call.proofs.judge_long.Goals as goal
+
+pub judge_in-requires : goal.judge_in-requires
+unfolding max_records few_records short_book no_record
+judge_in-requires c = lent_long _ _ _ _ _ (search rules) _ _ _ (search rules) refl refl refl
