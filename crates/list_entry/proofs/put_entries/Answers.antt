@@ -7,16 +7,16 @@ use borrow.Author.Rules.{rules}
 use Rattle.list_entry.proofs.put_entries.Goals as goal
 
 pub returns-then-out-octets : goal.returns-then-out-octets
-returns-then-out-octets c = (search rules, search (rules, no_room))
+returns-then-out-octets c = record { answer = search rules; octets = search (rules, no_room) }
 
 pub loop-i-init : goal.loop-i-init
 loop-i-init c = search (rules, place_start)
 
 pub returns-then-count-i : goal.returns-then-count-i
-returns-then-count-i c = (search rules, search (rules, place_done))
+returns-then-count-i c = record { answer = search rules; octets = search (rules, place_done) }
 
 pub returns-then-rounds-i : goal.returns-then-rounds-i
-returns-then-rounds-i c = (search rules, search (rules, place_past))
+returns-then-rounds-i c = record { answer = search rules; octets = search (rules, place_past) }
 
 pub overflow_cast-round : goal.overflow_cast-round
 overflow_cast-round c = omega (arith, c.shared_slice_known-in-loop-i-1.given c.loop-i.i)
@@ -52,12 +52,8 @@ loop-i-smaller c = search rules
 pub loop-i-preserved : goal.loop-i-preserved
 unfolding max_records
 loop-i-preserved c =
-    let at-put = c in
-    let at_entry_lem = at-put.before.before.before in
-    let at-round = at_entry_lem.before.before in
-    let at-loop = at-round.before.before.before in
-    place_next _ _ _ _ _ _ _ _ _ at-loop.loop.invariant at-round.before.if2.false at-round.before.before.loop-test.true at-round.if3.false at_entry_lem.if4.false _ at-put.before.before.candidate-at.ensures _ _ at-put.put-entry.ensures (search rules)
+    place_next _ _ _ _ _ _ _ _ _ c.loop-i.invariant c.if-count-i.false c.loop-i-test.true c.if-rounds-i.false c.if-round-t.false _ c.candidate_at.ensures _ _ c.put_entry-w.ensures (search rules)
 
 pub returns : goal.returns
 unfolding max_records
-returns c = (search rules, search (rules, place_end))
+returns c = record { answer = search rules; octets = search (rules, place_end) }
