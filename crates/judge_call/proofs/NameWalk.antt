@@ -54,13 +54,10 @@ use Rattle.judge_call.proofs.AskedLaws.{permits_it}
 
 -- what `let Judgement::Permitted = j else` knows
 abbrev pub NotPermitted : Judgement → Type 0
-NotPermitted j = (variant the_type j ≡ 1) ⊎ ((variant the_type j ≡ 2) ⊎ ((variant the_type j ≡ 3) ⊎ (variant the_type j ≡ 4)))
+NotPermitted j = j ≡ Permitted → ⊥
 
 never_permitted : {A : Type 0} → NotPermitted Permitted → A
-never_permitted (inl e) = absurd (omega arith)
-never_permitted (inr (inl e)) = absurd (omega arith)
-never_permitted (inr (inr (inl e))) = absurd (omega arith)
-never_permitted (inr (inr (inr e))) = absurd (omega arith)
+never_permitted h = absurd (h refl)
 
 -- the verdict on one name, and what follows it
 module _ (issuer : List ℕ) (k u : ℕ) (behind : Judgement) where

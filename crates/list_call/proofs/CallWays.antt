@@ -47,6 +47,12 @@ pub halves :
     (answer ≡ (list_issuers request who book buffer).answer) × (after ≡ (list_issuers request who book buffer).buffer)
 halves who request book buffer e = (sym (ap (λ (l : Listing). l.answer) e), sym (ap (λ (l : Listing). l.buffer) e))
 
+-- the same, by the names of the clauses
+pub by_clause :
+    (who : Applicant) (request book buffer : List ℕ) {after : List ℕ} {answer : PermittedIssuers} → list_issuers request who book buffer ≡ record { answer = answer; buffer = after } →
+    record { answer : answer ≡ (list_issuers request who book buffer).answer; octets : after ≡ (list_issuers request who book buffer).buffer }
+by_clause who request book buffer e = let both = halves who request book buffer e in record { answer = both.0; octets = both.1 }
+
 -- the first refusal of some checks is the first, whatever is checked behind them
 refused_first : (cs more : List (Option Refusal)) (r : Refusal) → first_refusal cs ≡ some r → first_refusal (cs ++ more) ≡ some r
 refused_first [] more r e = let z : ◌≡◌ {A = ℕ} 0 1 = cc in absurd (omega arith)

@@ -21,9 +21,8 @@ module _ (who : Applicant) (request book table links heads onward names rounds :
   -- the three ensures from one equation
   pub parts :
       {a : Permitted} {x y : List ℕ} → permitted_in who request book table links heads onward names rounds ≡ record { answer = a; names = x; rounds = y } →
-      (a ≡ (permitted_in who request book table links heads onward names rounds).answer)
-      × ((x ≡ (permitted_in who request book table links heads onward names rounds).names) × (y ≡ (permitted_in who request book table links heads onward names rounds).rounds))
-  parts = permitted_parts
+      record { answer : a ≡ whole.answer; names : x ≡ whole.names; rounds : y ≡ whole.rounds }
+  parts e = let three = permitted_parts e in record { answer = three.0; names = three.1.0; rounds = three.1.1 }
 
   -- the answer of note_questions, by the size of the array
   module _ (j : ℕ) (size : j ≡ max_names) (answer : RelevantSets) (numbers : List ℕ)

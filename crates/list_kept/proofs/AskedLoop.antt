@@ -28,8 +28,8 @@ module _ (who : Applicant) (book table links : List ℕ) where
     pub kept_parts :
         {q : Permitted} {names' rounds' : List ℕ} →
         governed_in who book table links g (record { answer = p; names = names; rounds = rounds }) ≡ record { answer = q; names = names'; rounds = rounds' } →
-        (q ≡ kept.answer) × ((names' ≡ kept.names) × (rounds' ≡ kept.rounds))
-    kept_parts = permitted_parts
+        record { answer : q ≡ kept.answer; names : names' ≡ kept.names; rounds : rounds' ≡ kept.rounds }
+    kept_parts e = let parts = permitted_parts e in record { answer = parts.0; names = parts.1.0; rounds = parts.1.1 }
 
     pub first_governs :
         p.restricted ≡ false → (count : ℕ) (after : List ℕ) → count ≡ (collected who book table links (record { set = g.set.0; tag = g.tag }) names).count →
@@ -51,9 +51,12 @@ module _ (who : Applicant) (book table links : List ℕ) where
   module _ (qs c d : List ℕ) where
     pub asked_parts :
         {q : Permitted} {names rounds : List ℕ} → all_asked who book table links qs c d ≡ record { answer = q; names = names; rounds = rounds } →
-        (q ≡ (all_asked who book table links qs c d).answer)
-        × ((names ≡ (all_asked who book table links qs c d).names) × (rounds ≡ (all_asked who book table links qs c d).rounds))
-    asked_parts = permitted_parts
+        record {
+          answer : q ≡ (all_asked who book table links qs c d).answer;
+          names : names ≡ (all_asked who book table links qs c d).names;
+          rounds : rounds ≡ (all_asked who book table links qs c d).rounds;
+        }
+    asked_parts e = let parts = permitted_parts e in record { answer = parts.0; names = parts.1.0; rounds = parts.1.1 }
 
   module _ (numbers : List ℕ) (n : ℕ) where
     abbrev firsts : List ℕ

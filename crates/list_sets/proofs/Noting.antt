@@ -35,8 +35,11 @@ module _ (request book table links heads onward : List ℕ) where
   -- the two ensures from one equation
   pub halves :
       (d : List ℕ) {answer : RelevantSets} {numbers : List ℕ} → noted d (questions request book table links heads onward) ≡ record { answer = answer; numbers = numbers } →
-      (answer ≡ (noted d (questions request book table links heads onward)).answer) × (numbers ≡ (noted d (questions request book table links heads onward)).numbers)
-  halves d e = (sym (ap (λ (k : NotedQuestions). k.answer) e), sym (ap (λ (k : NotedQuestions). k.numbers) e))
+      record {
+        answer : answer ≡ (noted d (questions request book table links heads onward)).answer;
+        numbers : numbers ≡ (noted d (questions request book table links heads onward)).numbers;
+      }
+  halves d e = record { answer = sym (ap (λ (k : NotedQuestions). k.answer) e); numbers = sym (ap (λ (k : NotedQuestions). k.numbers) e) }
 
   abbrev from : ℕ → ℕ → List NameQuestion
   from steps at = questions_from request book table links heads onward steps at

@@ -1,0 +1,22 @@
+-- `narrow` meets its contract. The loop's invariant: the grants that are left give the same rounds in the end.
+use lib.ListN.{length}
+use Rattle.list_places.specs.Grants.{grants_from}
+use Rattle.list_places.proofs.GrantWalk.{fewer_grants}
+use Rattle.list_collect.proofs.GrantLoops.{Narrowing, narrow_start, narrow_length, all_narrowed, one_marked}
+use borrow.Author.Rules.{rules}
+use Rattle.list_collect.proofs.narrow.Goals as goal
+
+pub loop-g-init : goal.loop-g-init
+loop-g-init c = search (rules, narrow_start)
+
+pub shape_of-rounds-in_default : goal.shape_of-rounds-in_default
+shape_of-rounds-in_default c = search (rules, narrow_length)
+
+pub returns-in_default : goal.returns-in_default
+returns-in_default c = search (rules, all_narrowed)
+
+pub loop-g-smaller : goal.loop-g-smaller
+loop-g-smaller c = search (rules, fewer_grants)
+
+pub loop-g-preserved : goal.loop-g-preserved
+loop-g-preserved c = search (rules, one_marked)

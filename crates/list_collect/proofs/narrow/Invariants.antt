@@ -1,0 +1,13 @@
+-- `narrow` meets its contract. The loop's invariant: the grants that are left give the same rounds in the end.
+use lib.ListN.{length}
+use Rattle.list_places.specs.Grants.{grants_from}
+use Rattle.list_places.proofs.GrantWalk.{fewer_grants}
+use Rattle.list_collect.proofs.GrantLoops.{Narrowing, narrow_start, narrow_length, all_narrowed, one_marked}
+use borrow.Author.Rules.{rules}
+use Rattle.list_collect.proofs.narrow.Given as goal
+
+abbrev pub invariant-loop-g : goal.invariant-loop-g
+invariant-loop-g l = Narrowing (record { account = l.account; method = l.method }) l.book l.table l.links l.by l.names l.count l.t l.initial.rounds l.rounds l.at
+
+abbrev pub decreases-loop-g : goal.decreases-loop-g
+decreases-loop-g l = length (grants_from (record { account = l.account; method = l.method }) l.book l.table l.links l.by l.at)

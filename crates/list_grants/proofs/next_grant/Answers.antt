@@ -1,0 +1,33 @@
+-- `next_grant` meets its contract. The loop's invariant: the records that are left have the same first grant.
+use lib.ListN.{length}
+use Rattle.read_grantee.proofs.Grantees.{grantee_from}
+use Rattle.book_places.specs.Table.{owner_at}
+use Rattle.book_places.specs.Sets.{owned_from}
+use Rattle.book_places.proofs.OwnedWalk.{fewer_left}
+use Rattle.list_grants.proofs.GrantWays.{Left, walk_start, no_grant, untagged, nobody, somebody}
+use borrow.Author.Rules.{rules}
+use Rattle.list_grants.proofs.next_grant.Goals as goal
+
+pub loop-r-init : goal.loop-r-init
+loop-r-init c = search (rules, walk_start)
+
+pub returns-in_default : goal.returns-in_default
+returns-in_default c = search (rules, no_grant)
+
+pub loop-r-smaller-then-not-has_tag : goal.loop-r-smaller-then-not-has_tag
+loop-r-smaller-then-not-has_tag c = search (rules, fewer_left)
+
+pub loop-r-preserved-then-not-has_tag : goal.loop-r-preserved-then-not-has_tag
+loop-r-preserved-then-not-has_tag c = search (rules, untagged)
+
+pub grant_in-requires : goal.grant_in-requires
+grant_in-requires c = search (rules, grantee_from)
+
+pub returns-in-At-read_grantee : goal.returns-in-At-read_grantee
+returns-in-At-read_grantee c = search (rules, somebody)
+
+pub loop-r-smaller : goal.loop-r-smaller
+loop-r-smaller c = search (rules, fewer_left)
+
+pub loop-r-preserved : goal.loop-r-preserved
+loop-r-preserved c = search (rules, nobody)
