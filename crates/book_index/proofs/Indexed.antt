@@ -5,12 +5,11 @@ use mathlib.Core.List.{List}
 use lib.ListN.{length, replicate}
 use Rattle.spec_limits.specs.Limits.{max_records}
 use Rattle.book_places.specs.Table.{few_records, short_book, tabled, room_for, table_of}
-use Rattle.book_places.specs.Chains.{Chains, no_record, unlinked, chains_of, at_most, linked_below}
+use Rattle.book_places.specs.Chains.{Chains, no_record, chains_of, at_most, linked_below}
 use Rattle.book_places.specs.Onward.{pointed_below, onward_of}
 use Rattle.book_places.proofs.StandingRecords.{room_short, room_long}
 use Rattle.book_chains.proofs.Linking.{book_linked}
 use Rattle.book_fill.specs.Filled.{filled_rows, filled_table}
-use Rattle.book_fill.specs.Theorems.{empty_table}
 use Rattle.book_fill.proofs.Filling.{book_tabled}
 use Rattle.book_index.specs.Indexes.{indexed_chains, indexed_onward, Blank}
 use Rattle.book_index.specs.Theorems.{BookIndexed}

@@ -1,11 +1,10 @@
 -- A law for each way of book_onward: the number of a first record, one more alias written down, one more alias followed, a lookup.
 use Prim.Native.Nat.{ℕ, zero, suc, ◌+◌, ◌-◌, ◌%◌, ◌≤◌, ◌<◌}
 use native.Mathlib.Omega.{arith}
-use mathlib.Core.Path.{◌≡◌, refl, sym, ap, ◌∙◌}
+use mathlib.Core.Path.{◌≡◌, refl, sym, ◌∙◌}
 use mathlib.Core.Bool.{Bool, true, false}
 use mathlib.Core.List.{List, [], ◌∷◌}
-use lib.Dec.{ltb}
-use lib.ListN.{length, get_or, set, get_or-eq_default, length-set}
+use lib.ListN.{length, get_or, set, get_or-eq_default}
 use borrow.Author.Tests.{lt-ltb, le-ltb}
 use Rattle.spec_limits.specs.Limits.{max_aliases}
 use Rattle.spec_refusal.specs.declared.RecordNo.{RecordNo}

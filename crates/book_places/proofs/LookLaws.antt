@@ -33,7 +33,7 @@ use Rattle.book_places.specs.declared.FirstRecord.{FirstRecord}
 use Rattle.book_places.specs.declared.FirstRecord.TheVariants.{At, Nothing}
 use Rattle.book_places.specs.Table.{tabled, table_of, data_at, is_alias_at}
 use Rattle.book_places.specs.Chains.{chains_of}
-use Rattle.book_places.specs.Sets.{is_owned_of, is_owned, owned_of, owned_from, first_of, first_owned, and_then, resolved, resolved_from, looked_up_at, set_at}
+use Rattle.book_places.specs.Sets.{is_owned_of, is_owned, owned_from, first_of, first_owned, and_then, resolved, resolved_from, looked_up_at, set_at}
 use Rattle.book_places.specs.Keys.{key_of}
 use Rattle.book_places.specs.Onward.{onward_of}
 use Rattle.book_places.specs.Theorems.{numbers_from, numbers_of, first_number, Finds, LookByOffset}

@@ -1,7 +1,6 @@
 -- What CAA says about one requested name, found by the table and the chains of a book. `meaning` turns that answer into the rule's own value,
 -- `Authorization` of spec_rule.
 use Rattle.std.specs.Prelude.{ℕ, ◌+◌, ◌*◌, ◌/◌, ◌%◌, Bool, true, false, cond, List, [], ◌∷◌, eqb}
-use Rattle.std.proofs.Math.Option.{none, some}
 use Rattle.spec_refusal.specs.declared.RecordNo.{RecordNo}
 use Rattle.spec_record.specs.declared.PropertyTag.{PropertyTag}
 use Rattle.spec_record.specs.declared.PropertyTag.TheVariants.{Issue, IssueWild}

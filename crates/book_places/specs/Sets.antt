@@ -19,7 +19,7 @@ use Rattle.book_places.specs.declared.FirstRecord.{FirstRecord}
 use Rattle.book_places.specs.declared.FirstRecord.TheVariants.{At, Nothing}
 use Rattle.book_places.specs.Table.{owner_at, data_at, is_caa_at, is_alias_at}
 use Rattle.book_places.specs.Keys.{key_of}
-use Rattle.book_places.specs.Chains.{Chains, chain_from}
+use Rattle.book_places.specs.Chains.{chain_from}
 
 abbrev pub is_of_kind : Kind → List ℕ → ℕ → Bool
 is_of_kind Caa table i = is_caa_at table i

@@ -3,12 +3,10 @@ use Prim.Native.Nat.{ℕ, suc, ◌≤◌, ◌<◌, ◌+◌, ◌-◌}
 use native.Mathlib.Numerals.{add-one}
 use native.Mathlib.Omega.{arith}
 use mathlib.Core.Path.{◌≡◌, refl, sym, ap, ◌∙◌}
-use mathlib.Core.Logic.{◌⊎◌, inl, inr}
 use mathlib.Core.Bool.{Bool, true, false, cond}
 use mathlib.Core.List.{List, map}
 use mathlib.Core.Option.{none}
 use lib.ListN.{length, take, drop}
-use denote.Enum.Declared.{tag_of as variant}
 use Rattle.spec_limits.specs.Limits.{max_names}
 use Rattle.spec_octets.specs.Lists.{All}
 use Rattle.spec_octets.proofs.ListLaws.{All-head, All-tail}
@@ -33,7 +31,6 @@ use Rattle.spec_applicant.specs.Applicant.{Applicant}
 use Rattle.spec_rule.specs.declared.Judgement.{Judgement}
 use Rattle.spec_rule.specs.declared.Judgement.TheVariants.{Permitted, Refused}
 use Rattle.spec_rule.specs.RelevantSet.{as_book, labels_off}
-use Rattle.spec_rule.specs.contracts.Judgement.{the_type}
 use Rattle.spec_rule.specs.Authorizations.{Authorization, authorization, permits}
 use Rattle.spec_rule.specs.Verdicts.{Decision, decision, denied, verdict_from, verdict}
 use Rattle.spec_rule.specs.Calls.{decisions, first_refusal, judge_checks, judge}

@@ -1,7 +1,7 @@
 -- permitted_issuers: a law for each way out.
 use Prim.Native.Nat.{ℕ, ◌*◌, ◌≤◌, ◌<◌}
 use native.Mathlib.Omega.{arith}
-use mathlib.Core.Path.{◌≡◌, refl, sym, ap}
+use mathlib.Core.Path.{◌≡◌, sym, ap}
 use mathlib.Core.Bool.{true, false, not}
 use mathlib.Core.List.{List, [], ◌∷◌, ◌++◌}
 use mathlib.Core.Option.{Option, none, some}
@@ -34,7 +34,7 @@ use Rattle.book_index.specs.Indexes.{indexed_chains, indexed_onward}
 use Rattle.book_index.proofs.Indexed.{table_of_book, links_of_book, heads_of_book, onward_of_book, blank_short, blank_long}
 use Rattle.list_places.specs.declared.Permitted.{Permitted}
 use Rattle.list_places.specs.Rounds.{kept_names}
-use Rattle.list_places.specs.PermittedBy.{permitted_in, issuers_in}
+use Rattle.list_places.specs.PermittedBy.{permitted_in}
 use Rattle.list_places.proofs.ByOffset.{permitted_by_offset}
 use Rattle.list_entry.specs.declared.ListSize.{ListSize}
 use Rattle.list_entry.specs.Entries.{entries_of, size_of}

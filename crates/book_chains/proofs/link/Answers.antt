@@ -1,9 +1,7 @@
 -- `link` meets its contract. The loop's invariant: linking the records that are left gives the same chains.
-use Prim.Native.Nat.{◌≤◌}
 use borrow.Author.Rules.{rules}
 use Rattle.spec_limits.specs.Limits.{max_records}
-use Rattle.book_places.specs.Chains.{at_most}
-use Rattle.book_chains.proofs.Linking.{Left, limited, nothing_linked, linked_on, links_told, heads_told, links_long, heads_long}
+use Rattle.book_chains.proofs.Linking.{limited, nothing_linked, linked_on, links_told, heads_told, links_long, heads_long}
 use Rattle.book_chains.proofs.link.Goals as goal
 
 pub loop-i-init : goal.loop-i-init

@@ -2,9 +2,7 @@
 -- `parent_inside` is for an edit that looks at the parent: its part of the name is sound, and its answer is not.
 use Prim.Native.Nat.{◌-◌}
 use lib.ListN.{length}
-use borrow.Author.Rules.{rules}
-use Rattle.read_name.proofs.Parents.{at_before, closer}
-use Rattle.book_climb.proofs.ClimbLaws.{parent_inside, Climbing, climb_start, no_parent, off_fits, none_owned, some_owned}
+use Rattle.book_climb.proofs.ClimbLaws.{Climbing}
 use Rattle.book_climb.proofs.nearest.Given as goal
 
 abbrev pub invariant-loop-above : goal.invariant-loop-above

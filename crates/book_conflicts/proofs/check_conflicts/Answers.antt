@@ -1,8 +1,6 @@
 -- `check_conflicts` meets its contract. The loop's invariant: the first i records are not in conflict.
-use Prim.Native.Nat.{◌-◌}
-use lib.ListN.{length}
 use borrow.Author.Rules.{rules}
-use Rattle.book_conflicts.proofs.Ways.{Checked, check_start, all_checked, conflict_there, check_on}
+use Rattle.book_conflicts.proofs.Ways.{check_start, all_checked, conflict_there, check_on}
 use Rattle.book_conflicts.proofs.check_conflicts.Goals as goal
 
 pub loop-i-init : goal.loop-i-init

@@ -1,8 +1,7 @@
 -- `check_conflicts` meets its contract. The loop's invariant: the first i records are not in conflict.
 use Prim.Native.Nat.{◌-◌}
 use lib.ListN.{length}
-use borrow.Author.Rules.{rules}
-use Rattle.book_conflicts.proofs.Ways.{Checked, check_start, all_checked, conflict_there, check_on}
+use Rattle.book_conflicts.proofs.Ways.{Checked}
 use Rattle.book_conflicts.proofs.check_conflicts.Given as goal
 
 abbrev pub invariant-loop-i : goal.invariant-loop-i

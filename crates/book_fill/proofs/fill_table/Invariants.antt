@@ -1,9 +1,7 @@
 -- `fill_table` meets its contract. The loop's invariant: the rows that are left, put behind those that are written, give the same table.
 use Prim.Native.Nat.{◌-◌}
-use borrow.Author.Rules.{rules}
-use Rattle.spec_limits.specs.Limits.{max_book_octets, max_records}
-use Rattle.book_fill.proofs.RowLaws.{row_fits}
-use Rattle.book_fill.proofs.Filling.{Filling, long_count, long_rows, filling_begins, limit_reached, room_used, unreadable, rows_told, count_told, row_added}
+use Rattle.spec_limits.specs.Limits.{max_records}
+use Rattle.book_fill.proofs.Filling.{Filling}
 use Rattle.book_fill.proofs.fill_table.Given as goal
 
 abbrev pub invariant-loop-n : goal.invariant-loop-n

@@ -1,5 +1,4 @@
 -- `index_book` meets its contract.
-use borrow.Author.Rules.{rules}
 use Rattle.book_index.proofs.Indexed.{links_made, heads_made, onward_made}
 use Rattle.book_index.proofs.index_book.Goals as goal
 

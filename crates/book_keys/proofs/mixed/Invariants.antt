@@ -1,11 +1,8 @@
 -- `mixed` meets its contract. The loop's invariant: what is left, mixed with the number reached, gives the same.
 use Prim.Native.Nat.{◌-◌, ◌<◌}
-use native.Mathlib.Omega.{arith}
 use mathlib.Core.Path.{◌≡◌}
 use lib.ListN.{length, drop}
-use borrow.Author.Rules.{rules}
 use Rattle.book_places.specs.Keys.{mixed}
-use Rattle.book_keys.proofs.Mixing.{mixed_on, mixed_end}
 use Rattle.book_keys.proofs.mixed.Given as goal
 
 abbrev pub invariant-loop-i : goal.invariant-loop-i

@@ -1,9 +1,5 @@
 -- `next_owned` meets its contract. The loop's invariant: the first record of the owner is the same from the record reached.
-use Prim.Native.Nat.{◌-◌}
-use mathlib.Core.Path.{◌≡◌}
-use lib.ListN.{length}
 use borrow.Author.Rules.{rules}
-use Rattle.book_places.specs.Sets.{owned_of, first_of}
 use Rattle.book_look.proofs.ChainWalk.{none_owned, one_owned, passed_over, less_left}
 use Rattle.book_look.proofs.next_owned.Goals as goal
 

@@ -2,9 +2,7 @@
 use Prim.Native.Nat.{◌-◌}
 use mathlib.Core.Path.{◌≡◌}
 use lib.ListN.{length}
-use borrow.Author.Rules.{rules}
 use Rattle.book_places.specs.Sets.{owned_of, first_of}
-use Rattle.book_look.proofs.ChainWalk.{none_owned, one_owned, passed_over, less_left}
 use Rattle.book_look.proofs.next_owned.Given as goal
 
 abbrev pub invariant-loop-i : goal.invariant-loop-i

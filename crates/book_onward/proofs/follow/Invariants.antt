@@ -1,7 +1,5 @@
 -- `follow` meets its contract. The loop's invariant: the answer is that from the record reached, with the aliases left.
-use borrow.Author.Rules.{rules}
-use Rattle.spec_limits.specs.Limits.{max_aliases}
-use Rattle.book_onward.proofs.OnwardWays.{Following, at_first, at_the_end, too_many, leads_nowhere, followed_on}
+use Rattle.book_onward.proofs.OnwardWays.{Following}
 use Rattle.book_onward.proofs.follow.Given as goal
 
 abbrev pub invariant-loop-first : goal.invariant-loop-first

@@ -1,7 +1,6 @@
 -- `point_aliases` meets its contract. The loop's invariant: the records so far are written down.
-use Prim.Native.Nat.{◌-◌, ◌≤◌}
 use borrow.Author.Rules.{rules}
-use Rattle.book_onward.proofs.OnwardWays.{Pointed, pointed_on, same_long, all_pointed}
+use Rattle.book_onward.proofs.OnwardWays.{pointed_on, same_long, all_pointed}
 use Rattle.book_onward.proofs.point_aliases.Goals as goal
 
 pub loop-i-preserved : goal.loop-i-preserved

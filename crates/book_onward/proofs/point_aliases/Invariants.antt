@@ -1,7 +1,6 @@
 -- `point_aliases` meets its contract. The loop's invariant: the records so far are written down.
 use Prim.Native.Nat.{◌-◌, ◌≤◌}
-use borrow.Author.Rules.{rules}
-use Rattle.book_onward.proofs.OnwardWays.{Pointed, pointed_on, same_long, all_pointed}
+use Rattle.book_onward.proofs.OnwardWays.{Pointed}
 use Rattle.book_onward.proofs.point_aliases.Given as goal
 
 abbrev pub invariant-loop-i : goal.invariant-loop-i

@@ -1,10 +1,7 @@
 -- `any_grants` meets its contract. The loop's invariant: some record grants where one of those that are left does.
-use lib.ListN.{length}
 use borrow.Author.Rules.{rules}
-use Rattle.book_places.specs.Table.{owner_at}
-use Rattle.book_places.specs.Sets.{owned_from}
 use Rattle.book_places.proofs.OwnedWalk.{fewer_left}
-use Rattle.book_set.proofs.SetLaws.{GrantsLeft, grants_start, no_grant, untagged_passed, grant_found, grantless_passed}
+use Rattle.book_set.proofs.SetLaws.{grants_start, no_grant, untagged_passed, grant_found, grantless_passed}
 use Rattle.book_set.proofs.any_grants.Goals as goal
 
 pub loop-r-init : goal.loop-r-init

@@ -1,10 +1,8 @@
 -- `any_grants` meets its contract. The loop's invariant: some record grants where one of those that are left does.
 use lib.ListN.{length}
-use borrow.Author.Rules.{rules}
 use Rattle.book_places.specs.Table.{owner_at}
 use Rattle.book_places.specs.Sets.{owned_from}
-use Rattle.book_places.proofs.OwnedWalk.{fewer_left}
-use Rattle.book_set.proofs.SetLaws.{GrantsLeft, grants_start, no_grant, untagged_passed, grant_found, grantless_passed}
+use Rattle.book_set.proofs.SetLaws.{GrantsLeft}
 use Rattle.book_set.proofs.any_grants.Given as goal
 
 abbrev pub invariant-loop-r : goal.invariant-loop-r

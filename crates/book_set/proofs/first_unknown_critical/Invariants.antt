@@ -1,10 +1,8 @@
 -- `first_unknown_critical` meets its contract. The loop's invariant: the first is that of the records that are left.
 use lib.ListN.{length}
-use borrow.Author.Rules.{rules}
 use Rattle.book_places.specs.Table.{owner_at}
 use Rattle.book_places.specs.Sets.{owned_from, data_is_unknown_critical}
-use Rattle.book_places.proofs.OwnedWalk.{fewer_left}
-use Rattle.book_set.proofs.SetLaws.{FirstLeft, first_start, first_passed, none_critical, critical_first}
+use Rattle.book_set.proofs.SetLaws.{FirstLeft}
 use Rattle.book_set.proofs.first_unknown_critical.Given as goal
 
 abbrev pub invariant-loop-r : goal.invariant-loop-r

@@ -1,10 +1,7 @@
 -- `first_with_tag` meets its contract. The loop's invariant: the first is that of the records that are left.
-use lib.ListN.{length}
 use borrow.Author.Rules.{rules}
-use Rattle.book_places.specs.Table.{owner_at}
-use Rattle.book_places.specs.Sets.{owned_from, data_has_tag}
 use Rattle.book_places.proofs.OwnedWalk.{fewer_left}
-use Rattle.book_set.proofs.SetLaws.{FirstLeft, first_start, first_passed, none_tagged, tagged_first}
+use Rattle.book_set.proofs.SetLaws.{first_start, first_passed, none_tagged, tagged_first}
 use Rattle.book_set.proofs.first_with_tag.Goals as goal
 
 pub loop-r-init : goal.loop-r-init

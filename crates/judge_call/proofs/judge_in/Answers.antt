@@ -1,5 +1,4 @@
 -- `judge_in` meets its contract.
-use borrow.Author.Rules.{rules}
 use Rattle.judge_call.proofs.TableMade.{made_ready}
 use Rattle.judge_call.proofs.judge_in.Goals as goal
 

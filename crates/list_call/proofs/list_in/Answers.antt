@@ -1,5 +1,4 @@
 -- `list_in` meets its contract.
-use borrow.Author.Rules.{rules}
 use Rattle.list_call.proofs.CallWays.{found}
 use Rattle.list_call.proofs.list_in.Goals as goal
 

@@ -1,7 +1,6 @@
 -- `is_candidate` meets its contract. The loop's invariant: the text is a candidate where it is one of those that are left.
 use Prim.Native.Nat.{◌-◌}
-use Rattle.list_candidate.proofs.CandidateWays.{Held, held_start, held_done, held_here, held_next}
-use borrow.Author.Rules.{rules}
+use Rattle.list_candidate.proofs.CandidateWays.{Held}
 use Rattle.list_candidate.proofs.is_candidate.Given as goal
 
 abbrev pub invariant-loop-i : goal.invariant-loop-i

@@ -1,8 +1,6 @@
 -- `collect` meets its contract. The loop's invariant: the grants that are left, behind the candidates so far, give the same candidates.
-use lib.ListN.{length}
-use Rattle.list_places.specs.Grants.{grants_from}
 use Rattle.list_places.proofs.GrantWalk.{fewer_grants}
-use Rattle.list_collect.proofs.GrantLoops.{Collecting, collect_start, collect_length, all_counted, all_collected, known, new}
+use Rattle.list_collect.proofs.GrantLoops.{collect_start, collect_length, all_counted, all_collected, known, new}
 use borrow.Author.Rules.{rules}
 use Rattle.list_collect.proofs.collect.Goals as goal
 

@@ -1,9 +1,7 @@
 -- `narrow` meets its contract. The loop's invariant: the grants that are left give the same rounds in the end.
 use lib.ListN.{length}
 use Rattle.list_places.specs.Grants.{grants_from}
-use Rattle.list_places.proofs.GrantWalk.{fewer_grants}
-use Rattle.list_collect.proofs.GrantLoops.{Narrowing, narrow_start, narrow_length, all_narrowed, one_marked}
-use borrow.Author.Rules.{rules}
+use Rattle.list_collect.proofs.GrantLoops.{Narrowing}
 use Rattle.list_collect.proofs.narrow.Given as goal
 
 abbrev pub invariant-loop-g : goal.invariant-loop-g

@@ -1,9 +1,7 @@
 -- `list_size` meets its contract. The loop's invariant: what is counted and what the candidates left take is all.
 use Prim.Native.Nat.{◌-◌}
-use native.Mathlib.Omega.{arith}
 use Rattle.spec_limits.specs.Limits.{max_records}
-use Rattle.list_entry.proofs.EntryLoops.{Measured, measure_start, measure_done, measure_past, measure_end, measure_fits, measure_next, measure_passed}
-use borrow.Author.Rules.{rules}
+use Rattle.list_entry.proofs.EntryLoops.{Measured}
 use Rattle.list_entry.proofs.list_size.Given as goal
 
 abbrev pub invariant-loop-i : goal.invariant-loop-i

@@ -1,8 +1,7 @@
 -- `put_entries` meets its contract. The loop's invariant: the entries put, and behind them those of the candidates left, are all of them.
-use Prim.Native.Nat.{◌-◌}
 use native.Mathlib.Omega.{arith}
 use Rattle.spec_limits.specs.Limits.{max_records}
-use Rattle.list_entry.proofs.EntryLoops.{Placed, no_room, place_start, place_done, place_past, place_end, place_from, place_room, place_fits, place_next, place_passed}
+use Rattle.list_entry.proofs.EntryLoops.{no_room, place_start, place_done, place_past, place_end, place_from, place_room, place_fits, place_next, place_passed}
 use borrow.Author.Rules.{rules}
 use Rattle.list_entry.proofs.put_entries.Goals as goal
 

@@ -1,10 +1,7 @@
 -- `next_grant` meets its contract. The loop's invariant: the records that are left have the same first grant.
-use lib.ListN.{length}
 use Rattle.read_grantee.proofs.Grantees.{grantee_from}
-use Rattle.book_places.specs.Table.{owner_at}
-use Rattle.book_places.specs.Sets.{owned_from}
 use Rattle.book_places.proofs.OwnedWalk.{fewer_left}
-use Rattle.list_grants.proofs.GrantWays.{Left, walk_start, no_grant, untagged, nobody, somebody}
+use Rattle.list_grants.proofs.GrantWays.{walk_start, no_grant, untagged, nobody, somebody}
 use borrow.Author.Rules.{rules}
 use Rattle.list_grants.proofs.next_grant.Goals as goal
 

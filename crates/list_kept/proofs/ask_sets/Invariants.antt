@@ -1,8 +1,6 @@
 -- `ask_sets` meets its contract. The loop's invariant: the questions that are left give the same answer in the end.
 use Prim.Native.Nat.{◌-◌}
-use native.Mathlib.Omega.{arith}
-use borrow.Author.Rules.{rules}
-use Rattle.list_kept.proofs.AskedLoop.{asked_parts, Asking, ask_start, names_length, rounds_length, ask_done, ask_past, unrestricted_passed, forbidden_found, unresolved_found, governed_kept}
+use Rattle.list_kept.proofs.AskedLoop.{Asking}
 use Rattle.list_kept.proofs.ask_sets.Given as goal
 
 abbrev pub invariant-loop-i : goal.invariant-loop-i

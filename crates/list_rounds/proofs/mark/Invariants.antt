@@ -1,8 +1,6 @@
 -- `mark` meets its contract. The loop's invariant: the rounds that are left to move give the same rounds in the end.
 use Prim.Native.Nat.{◌-◌}
-use native.Mathlib.Omega.{arith}
-use Rattle.list_rounds.proofs.MarkLoop.{Moved, move_start, moved_length, move_done, move_past, other_round, other_name, moved_on}
-use borrow.Author.Rules.{rules}
+use Rattle.list_rounds.proofs.MarkLoop.{Moved}
 use Rattle.list_rounds.proofs.mark.Given as goal
 
 abbrev pub invariant-loop-i : goal.invariant-loop-i
