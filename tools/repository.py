@@ -17,7 +17,7 @@ MODIFIERS = r"(?:(?:pub|abbrev|unfoldable)\s+)*"
 ANTT_BLOCK = re.compile(rf"^(?P<indent> *)(?:pub\s+)?(?P<kind>record|data)\s+(?P<name>{WORD})\s")
 ANTT_NAME = re.compile(rf"^(?P<indent> *){MODIFIERS}(?P<names>{WORD}(?:\s+{WORD})*)\s*:\s*(?P<type>.*)$")
 RT_FUNCTION = re.compile(r'^(?P<indent> *)(?P<pub>pub\s+)?(?P<unsafe>unsafe\s+)?(?P<extern>extern\s+"C"\s+)?fn\s+(?P<name>\w+)')
-RT_TYPE = re.compile(r"^(?:pub\s+)?(?P<kind>struct|enum)\s+(?P<name>\w+)")
+RT_TYPE = re.compile(r"^(?:pub\s+)?(?P<kind>struct|enum|trait)\s+(?P<name>\w+)")
 RT_IMPL = re.compile(r"^impl(?:<[^>]*>)?\s+(?:[\w:<>, ]+\s+for\s+)?(?P<name>\w+)")
 RT_CONST = re.compile(r"^(?:pub\s+)?const\s+(?P<name>\w+)\s*:")
 

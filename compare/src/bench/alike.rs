@@ -333,10 +333,10 @@ mod tests {
         let top = Path::new(env!("CARGO_MANIFEST_DIR"));
         let source = fs::read_to_string(top.join("../crates/book_keys/src/lib.rt")).unwrap();
         for line in [
-            "m = (31 * m + small as usize) % 65536;",
-            "let first = n - less(n, 10);",
-            "let last = less(n, 6);",
-            "mixed(mixed(n % 65536, &x[0..first]), &x[last..n]) % MAX_RECORDS",
+            "m = (31 * m + text_ascii::to_lower(*octet) as usize) % 65536;",
+            "let first = n.min(10);",
+            "let last = n.saturating_sub(6);",
+            "mixed(mixed(n % 65536, &x[..first]), &x[last..]) % MAX_RECORDS",
         ] {
             assert_eq!(source.matches(line).count(), 1, "{line}");
         }

@@ -1,27 +1,25 @@
 -- by_issue, by_tags, set_authorization and question_number: a law for each way out, from what the set was asked.
-use Prim.Native.Nat.{ℕ, ◌+◌, ◌*◌, ◌%◌}
-use native.Mathlib.Nat.{add-zero}
-use mathlib.Core.Path.{◌≡◌, sym, ◌∙◌}
+use Rattle.std.specs.Prelude.{Option, Some, None}
+use Prim.Native.Nat.{ℕ}
+use mathlib.Core.Path.{◌≡◌, ◌∙◌}
 use mathlib.Core.Bool.{Bool, true, false}
 use mathlib.Core.List.{List}
 use Rattle.spec_refusal.specs.declared.RecordNo.{RecordNo}
 use Rattle.spec_record.specs.declared.PropertyTag.TheVariants.{Issue, IssueWild}
-use Rattle.book_places.specs.declared.FirstRecord.{FirstRecord}
-use Rattle.book_places.specs.declared.FirstRecord.TheVariants.{At, Nothing}
 use Rattle.book_places.specs.declared.NameAuthorization.{NameAuthorization}
 use Rattle.book_places.specs.declared.NameAuthorization.TheVariants.{Unrestricted, Forbidden, Governed, Unresolved}
 use Rattle.book_places.specs.Table.{is_alias_at}
 use Rattle.book_places.specs.Sets.{first_unknown_critical, first_tagged}
-use Rattle.book_places.specs.NameAuthorizations.{question_number, by_issue, by_tags, set_authorization}
+use Rattle.book_places.specs.NameAuthorizations.{by_issue, by_tags, set_authorization}
 
 module _ (book table links : List ℕ) where
   module _ (set : RecordNo) where
     -- o is the first issue record
-    module _ (o : FirstRecord) (f : o ≡ first_tagged Issue book table links set.0) where
-      pub no_issue : o ≡ Nothing → Unrestricted ≡ by_issue book table links set
+    module _ (o : Option RecordNo) (f : o ≡ first_tagged Issue book table links set.0) where
+      pub no_issue : o ≡ None → Unrestricted ≡ by_issue book table links set
       no_issue g = rw (← f, g)
 
-      pub issue_governs : (r : RecordNo) → o ≡ At r → Governed (record { set = set; first = r; tag = Issue }) ≡ by_issue book table links set
+      pub issue_governs : (r : RecordNo) → o ≡ Some r → Governed (record { set = set; first = r; tag = Issue }) ≡ by_issue book table links set
       issue_governs r g = rw (← f, g)
 
     -- a is what the issue records say
@@ -30,12 +28,12 @@ module _ (book table links : List ℕ) where
       plain_by_issue w = h ∙ rw w
 
       pub star_by_issue :
-          wildcard ≡ true → (o : FirstRecord) → o ≡ first_tagged IssueWild book table links set.0 → o ≡ Nothing →
+          wildcard ≡ true → (o : Option RecordNo) → o ≡ first_tagged IssueWild book table links set.0 → o ≡ None →
           a ≡ by_tags book table links wildcard set
       star_by_issue w o f g = h ∙ rw (w, ← f, g)
 
     pub issuewild_governs :
-        (wildcard : Bool) → wildcard ≡ true → (o : FirstRecord) → o ≡ first_tagged IssueWild book table links set.0 → (r : RecordNo) → o ≡ At r →
+        (wildcard : Bool) → wildcard ≡ true → (o : Option RecordNo) → o ≡ first_tagged IssueWild book table links set.0 → (r : RecordNo) → o ≡ Some r →
         Governed (record { set = set; first = r; tag = IssueWild }) ≡ by_tags book table links wildcard set
     issuewild_governs wildcard w o f r g = rw (w, ← f, g)
 
@@ -45,22 +43,13 @@ module _ (book table links : List ℕ) where
 
     -- u is the first unknown critical record
     module _
-        (wildcard t : Bool) (is : t ≡ is_alias_at table set.0) (no_alias : t ≡ false) (u : FirstRecord)
+        (wildcard t : Bool) (is : t ≡ is_alias_at table set.0) (no_alias : t ≡ false) (u : Option RecordNo)
         (e : u ≡ first_unknown_critical book table links set.0) where
-      pub critical_forbids : (r : RecordNo) → u ≡ At r → Forbidden r ≡ set_authorization book table links wildcard set
+      pub critical_forbids : (r : RecordNo) → u ≡ Some r → Forbidden r ≡ set_authorization book table links wildcard set
       unfolding set_authorization
       critical_forbids r h = rw (← is, no_alias, ← e, h)
 
       pub tags_decide :
-          u ≡ Nothing → (a : NameAuthorization) → a ≡ by_tags book table links wildcard set → a ≡ set_authorization book table links wildcard set
+          u ≡ None → (a : NameAuthorization) → a ≡ by_tags book table links wildcard set → a ≡ set_authorization book table links wildcard set
       unfolding set_authorization
       tags_decide h a k = k ∙ rw (← is, no_alias, ← e, h)
-
-module _ (set : RecordNo) (wildcard : Bool) where
-  pub plain_number : wildcard ≡ false → 2 * (set.0 % 32768) ≡ question_number set wildcard
-  unfolding question_number
-  plain_number e = rw e (sym (add-zero (2 * (set.0 % 32768))))
-
-  pub star_number : wildcard ≡ true → 2 * (set.0 % 32768) + 1 ≡ question_number set wildcard
-  unfolding question_number
-  star_number e = rw e

@@ -1,13 +1,13 @@
 -- The loop of `link`: what is left to link gives the same chains; a law for each way out. And the small functions that it calls.
-use Prim.Native.Nat.{ℕ, zero, suc, ◌-◌, ◌≤◌, ◌<◌}
+use Prim.Native.Nat.{ℕ, zero, suc, min, ◌-◌, ◌≤◌, ◌<◌}
 use native.Mathlib.Omega.{arith}
 use mathlib.Core.Path.{◌≡◌, refl, sym, ap, ◌∙◌}
 use mathlib.Core.Bool.{Bool, true, false, cond}
 use mathlib.Core.List.{List}
 use lib.Dec.{leb}
-use lib.ListN.{length, get_or, set, length-set, get_or-eq_default}
+use lib.ListN.{length, get_or, set, length-set}
 use lib.Seq.{set_out}
-use borrow.Author.Tests.{le-leb, lt-leb, leb-true}
+use borrow.Author.Tests.{le-leb, leb-true, leb-false}
 use Rattle.spec_limits.specs.Limits.{max_records}
 use Rattle.book_places.specs.Table.{tabled, owner_at}
 use Rattle.book_places.specs.Keys.{key_of}
@@ -15,21 +15,15 @@ use Rattle.book_places.specs.Chains.{Chains, linked, linked_below, at_most, chai
 use Rattle.book_places.proofs.StandingRecords.{few_tabled}
 use Rattle.book_chains.specs.Theorems.{BookLinked}
 
-pub over_limit : (limit n : ℕ) → limit < n → limit ≡ at_most limit n
-over_limit limit n h = rw (lt-leb n limit h)
-
 pub within_limit : (limit n : ℕ) → n ≤ limit → n ≡ at_most limit n
 within_limit limit n h = rw (le-leb n limit h)
 
-pub limited : (limit n i : ℕ) → i ≡ at_most limit n → i ≤ limit
-limited limit n i e = by (leb n limit) refl e
+pub limited : (limit n i : ℕ) → i ≡ min n limit → i ≡ at_most limit n
+limited limit n i e = by (leb n limit) refl
   where
-    by : (t : Bool) → leb n limit ≡ t → i ≡ cond t n limit → i ≤ limit
-    by true h e = omega (arith, leb-true n limit h)
-    by false h e = omega arith
-
-pub past_end : (xs : List ℕ) (at : ℕ) → length xs ≤ at → 0 ≡ get_or xs at 0
-past_end xs at h = sym (get_or-eq_default xs 0 h)
+    by : (t : Bool) → leb n limit ≡ t → i ≡ cond t n limit
+    by true h = omega (arith, leb-true n limit h)
+    by false h = omega (arith, leb-false n limit h)
 
 pub no_place : (xs : List ℕ) (at x : ℕ) → length xs ≤ at → xs ≡ set xs at x
 no_place xs at x h = sym (set_out xs at x h)

@@ -27,13 +27,13 @@ pub fn behind(links: &[u16], i: usize) -> usize
 fn number_at(xs: &[u16], at: usize) -> u16
     ensures { result ≡ get_or xs.now at 0 }
 {
-    if xs.len() <= at {
-        return 0;
+    match xs.get(at) {
+        Some(x) => *x,
+        None => 0,
     }
-    xs[at]
 }
 
-// Writes a number at an index; does nothing past the end.
+// Writes a number at an index; does nothing past the end. It writes by index: of a slice written through `get_mut` a proof knows only the length.
 pub fn put_number(xs: &mut [u16], at: usize, x: u16)
     ensures { xs.new ≡ set xs.old at x }
 {
@@ -42,25 +42,13 @@ pub fn put_number(xs: &mut [u16], at: usize, x: u16)
     }
 }
 
-// n, or the limit if n is above it.
-fn at_most(limit: usize, n: usize) -> usize
-    ensures { result ≡ at_most limit n }
-{
-    if limit < n {
-        return limit;
-    }
-    n
-}
-
 // Puts each of the first n records at the front of the chain of its owner's key. The last record goes first, so that each chain is in the
 // book's order.
 pub fn link(book: &[u8], table: &[u16], n: usize, links: &mut [u16], heads: &mut [u16])
     ensures links { links.exit.now ≡ (linked_below book.now table.now (at_most max_records n) (record { links = links.entry.now; heads = heads.old })).links }
     ensures heads { heads.new ≡ (linked_below book.now table.now (at_most max_records n) (record { links = links.entry.now; heads = heads.old })).heads }
 {
-    let mut i: usize = at_most(MAX_RECORDS, n);
-    while 0 < i {
-        i -= 1;
+    for i in (0..n.min(MAX_RECORDS)).rev() {
         let key = book_keys::key_of(book_table::owner_at(book, table, i));
         put_number(links, i, number_at(heads, key));
         put_number(heads, key, i as u16);

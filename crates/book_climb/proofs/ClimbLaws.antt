@@ -1,4 +1,5 @@
 -- The climb of `nearest`: what is left of the climb gives its answer, and a law for each way out.
+use Rattle.std.specs.Prelude.{Option, Some, None}
 use Prim.Native.Nat.{ℕ, zero, suc, ◌≤◌, ◌<◌, ◌+◌, ◌-◌, ◌^◌}
 use native.Mathlib.Omega.{arith}
 use mathlib.Core.Path.{◌≡◌, refl, sym, ap, ◌∙◌}
@@ -11,8 +12,6 @@ use Rattle.spec_octets.proofs.Walks.{rest_whole}
 use Rattle.spec_refusal.specs.declared.RecordNo.{RecordNo}
 use Rattle.read_name.specs.Places.{parent_place}
 use Rattle.read_name.proofs.Parents.{further}
-use Rattle.book_places.specs.declared.FirstRecord.{FirstRecord}
-use Rattle.book_places.specs.declared.FirstRecord.TheVariants.{At, Nothing}
 use Rattle.book_places.specs.declared.Nearest.{Nearest}
 use Rattle.book_places.specs.Sets.{looked_up_at, or_next, nearest_from, nearest_record, one_more, labels_off_from, labels_off_at}
 
@@ -20,10 +19,10 @@ use Rattle.book_places.specs.Sets.{looked_up_at, or_next, nearest_from, nearest_
 pub parent_inside : (s : List ℕ) (at p : ℕ) → p ≡ parent_place s at → (p ≡ at → ⊥) → p ≤ length s
 parent_inside s at p up other = (further s at p up other).1
 
-abbrev pub reached : FirstRecord → ℕ → Nearest
+abbrev pub reached : Option RecordNo → ℕ → Nearest
 reached o n = record { found = o; up = n }
 
-both : (o p : FirstRecord) (m n : ℕ) → o ≡ p → m ≡ n → reached p n ≡ reached o m
+both : (o p : Option RecordNo) (m n : ℕ) → o ≡ p → m ≡ n → reached p n ≡ reached o m
 both o p m n e f = rw (e, f)
 
 none_off : (n : ℕ) → n ≡ 0 + n
@@ -56,14 +55,14 @@ module _ (book table links heads onward s : List ℕ) where
   module _ (at off p : ℕ) (k : Climbing at off) (up : p ≡ parent_place s at) where
     pub no_parent :
         p ≡ at →
-        reached Nothing off ≡ reached (nearest_record book table links heads onward s) (labels_off_at book table links heads onward s)
+        reached None off ≡ reached (nearest_record book table links heads onward s) (labels_off_at book table links heads onward s)
     no_parent e =
-        both (nearest_record book table links heads onward s) Nothing (labels_off_at book table links heads onward s) off
+        both (nearest_record book table links heads onward s) None (labels_off_at book table links heads onward s) off
         (k.left ∙ (go k.steps).0) (k.counted ∙ ap (◌+◌ off) (go k.steps).1 ∙ none_more off)
       where
         go :
             (steps : ℕ) →
-            (nearest_from steps book table links heads onward s at ≡ Nothing) × (labels_off_from steps book table links heads onward s at ≡ 0)
+            (nearest_from steps book table links heads onward s at ≡ None) × (labels_off_from steps book table links heads onward s at ≡ 0)
         go zero = (refl, refl)
         go (suc steps) = rw (eq-eqb (parent_place s at) at (sym up ∙ e)) (refl, refl)
 
@@ -71,7 +70,7 @@ module _ (book table links heads onward s : List ℕ) where
       pub off_fits : length s < 2 ^ 64 → Fits w64 (off + 1)
       off_fits h = record { fits = omega (arith, further s at p up other, k.few) }
 
-      module _ (o : FirstRecord) (f : o ≡ looked_up_at book table links heads onward (take (length s - at) (drop at s))) where
+      module _ (o : Option RecordNo) (f : o ≡ looked_up_at book table links heads onward (take (length s - at) (drop at s))) where
         abbrev Looked : Type 0
         Looked =
             (steps : ℕ) × (length s ≤ steps + p)
@@ -93,7 +92,7 @@ module _ (book table links heads onward s : List ℕ) where
               c ∙ rw (ne_eqb (parent_place s at) at (λ e. other (up ∙ e)), up, f, rest_whole s at),
             )
 
-        pub none_owned : o ≡ Nothing → (off' : ℕ) → off' ≡ off + 1 → Climbing p off'
+        pub none_owned : o ≡ None → (off' : ℕ) → off' ≡ off + 1 → Climbing p off'
         none_owned g off' i =
             let (steps, enough, from, count) = looked in
             record {
@@ -107,10 +106,10 @@ module _ (book table links heads onward s : List ℕ) where
             }
 
         pub some_owned :
-            (r : RecordNo) → o ≡ At r →
-            reached (At r) off ≡ reached (nearest_record book table links heads onward s) (labels_off_at book table links heads onward s)
+            (r : RecordNo) → o ≡ Some r →
+            reached (Some r) off ≡ reached (nearest_record book table links heads onward s) (labels_off_at book table links heads onward s)
         some_owned r g =
             let (steps, enough, from, count) = looked in
-            both (nearest_record book table links heads onward s) (At r) (labels_off_at book table links heads onward s) off
+            both (nearest_record book table links heads onward s) (Some r) (labels_off_at book table links heads onward s) off
             (from ∙ ap (λ v. or_next v (nearest_from steps book table links heads onward s p)) g)
             (count ∙ ap (λ v. off + one_more v (labels_off_from steps book table links heads onward s p)) g ∙ none_more off)

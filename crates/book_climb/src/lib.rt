@@ -5,19 +5,13 @@
 ghost use Rattle.std.specs.Prelude.{◌≡◌};
 ghost use Rattle.book_places.specs.Sets.{nearest_record, labels_off_at};
 
-use book_places::{FirstRecord, Nearest};
+use book_places::{Index, Nearest};
 use read_name::Climb;
+use spec_refusal::RecordNo;
 
 // Looks up the name, then its parent, and so on. The root is not looked up.
-pub fn nearest(
-    book: &[u8],
-    table: &[u16],
-    links: &[u16],
-    heads: &[u16],
-    onward: &[u16],
-    name: &[u8],
-) -> Nearest
-    ensures { result ≡ record { found = nearest_record book.now table.now links.now heads.now onward.now name.now; up = labels_off_at book.now table.now links.now heads.now onward.now name.now } }
+pub fn nearest(index: Index, onward: &[u16], name: &[u8]) -> Nearest
+    ensures { result ≡ record { found = nearest_record index.entry.book.now index.entry.table.now index.entry.links.now index.entry.heads.now onward.now name.now; up = labels_off_at index.entry.book.now index.entry.table.now index.entry.links.now index.entry.heads.now onward.now name.now } }
 {
     let mut c = Climb { at: 0 };
     let mut off: usize = 0;
@@ -27,14 +21,14 @@ pub fn nearest(
         let parent = above.at;
         if parent == at {
             return Nearest {
-                found: FirstRecord::Nothing,
+                found: None,
                 up: off,
             };
         }
         let x = &name[at..];
-        if let FirstRecord::At(r) = book_onward::look_up(book, table, links, heads, onward, x) {
+        if let Some(r) = book_onward::look_up(index, onward, x) {
             return Nearest {
-                found: FirstRecord::At(r),
+                found: Some(r),
                 up: off,
             };
         }
@@ -44,16 +38,8 @@ pub fn nearest(
 }
 
 // The record alone.
-pub fn nearest_record(
-    book: &[u8],
-    table: &[u16],
-    links: &[u16],
-    heads: &[u16],
-    onward: &[u16],
-    name: &[u8],
-) -> FirstRecord
-    ensures { result ≡ nearest_record book.now table.now links.now heads.now onward.now name.now }
+pub fn nearest_record(index: Index, onward: &[u16], name: &[u8]) -> Option<RecordNo>
+    ensures { result ≡ nearest_record index.entry.book.now index.entry.table.now index.entry.links.now index.entry.heads.now onward.now name.now }
 {
-    let end = nearest(book, table, links, heads, onward, name);
-    end.found
+    nearest(index, onward, name).found
 }

@@ -7,54 +7,38 @@ ghost use Rattle.spec_record.specs.Records.{conflict_at};
 ghost use Rattle.book_places.specs.Table.{is_alias_at};
 ghost use Rattle.book_places.specs.Conflicts.{clashes_at, conflict_from};
 
-use book_places::{FirstRecord, Kind};
-use spec_refusal::{Check, RecordNo, Refusal};
+use book_places::{Index, Kind};
+use spec_refusal::{RecordNo, Refusal};
 
 // Whether one of two records is an alias.
 fn one_is_alias(table: &[u16], i: usize, j: usize) -> bool
     ensures { result ≡ is_alias_at table.now i || is_alias_at table.now j }
 {
-    if book_table::is_alias_at(table, i) {
-        return true;
-    }
-    book_table::is_alias_at(table, j)
+    book_table::is_alias_at(table, i) || book_table::is_alias_at(table, j)
 }
 
 // Whether record i is in conflict with the first CAA record or alias of its owner.
-fn clashes_at(book: &[u8], table: &[u16], links: &[u16], heads: &[u16], i: usize) -> bool
-    ensures { result ≡ clashes_at book.now table.now links.now heads.now i }
+fn clashes_at(index: Index, i: usize) -> bool
+    ensures { result ≡ clashes_at index.entry.book.now index.entry.table.now index.entry.links.now index.entry.heads.now i }
 {
-    if !book_look::is_of_kind(table, i, Kind::CaaOrAlias) {
+    if !book_look::is_of_kind(index.table, i, Kind::CaaOrAlias) {
         return false;
     }
-    let owner = book_table::owner_at(book, table, i);
-    let FirstRecord::At(r) = book_look::first_owned(
-        book,
-        table,
-        links,
-        heads,
-        owner,
-        Kind::CaaOrAlias,
-    ) else {
-        return false;
-    };
-    let j = r.0;
-    if i <= j {
-        return false;
+    let owner = book_table::owner_at(index.book, index.table, i);
+    match book_look::first_owned(index, owner, Kind::CaaOrAlias) {
+        Some(r) => r.0 < i && one_is_alias(index.table, i, r.0),
+        None => false,
     }
-    one_is_alias(table, i, j)
 }
 
 // Refusal 12, with the number of the first record that is in conflict.
-pub fn check_conflicts(book: &[u8], table: &[u16], links: &[u16], heads: &[u16]) -> Check
-    ensures { result ≡ checked (conflict_at (conflict_from book.now table.now links.now heads.now 0 (length links.now))) }
+pub fn check_conflicts(index: Index) -> Result<(), Refusal>
+    ensures { result ≡ checked (conflict_at (conflict_from index.entry.book.now index.entry.table.now index.entry.links.now index.entry.heads.now 0 (length index.entry.links.now))) }
 {
-    let mut i: usize = 0;
-    while i < links.len() {
-        if clashes_at(book, table, links, heads, i) {
-            return Check::Refused(Refusal::AliasConflict(RecordNo(i)));
+    for i in 0..index.links.len() {
+        if clashes_at(index, i) {
+            return Err(Refusal::AliasConflict(RecordNo(i)));
         }
-        i += 1;
     }
-    Check::Accepted
+    Ok(())
 }

@@ -1,4 +1,5 @@
 -- The loop of `fill_table`: what is left gives the same table and the same number of rows; a law for each way out.
+use Rattle.std.specs.Prelude.{Option, Some, None}
 use Prim.Native.Nat.{ℕ, zero, suc, ◌+◌, ◌-◌, ◌*◌, ◌/◌, ◌≤◌, ◌<◌}
 use native.Mathlib.Nat.{sub-zero, zero-add, add-zero}
 use native.Mathlib.Omega.{arith}
@@ -11,8 +12,6 @@ use Rattle.spec_limits.specs.Limits.{max_book_octets, max_records}
 use Rattle.spec_record.specs.Records.{Record}
 use Rattle.read_record.specs.Places.{fields_at}
 use Rattle.read_record.specs.declared.RecordAt.{RecordAt}
-use Rattle.read_record.specs.declared.RecordRead.{RecordRead}
-use Rattle.read_record.specs.declared.RecordRead.TheVariants.{Good, Fault}
 use Rattle.read_record.proofs.RecordPlaces.{RecordTo, no_fields, fields_there}
 use Rattle.book_places.specs.Readable.{readable}
 use Rattle.book_places.specs.Table.{row, rows_from, tabled, room_for, table_of}
@@ -91,7 +90,7 @@ module _ (book t₀ : List ℕ) where
     pub room_used : length t₀ / 6 ≤ n → Over at n
     room_used h = let zero_left : length t₀ / 6 - n ≡ 0 = omega arith in record { nothing = rw zero_left }
 
-    pub unreadable : (o : RecordRead) → n < max_records → o ≡ fields_at book at → o ≡ Fault → Over at n
+    pub unreadable : (o : Option RecordAt) → n < max_records → o ≡ fields_at book at → o ≡ None → Over at n
     unreadable o h f g =
         let more : max_records - n ≡ suc (max_records - suc n) = omega arith in
         record { nothing = rw (more, no_fields book at o f g) (take-nil (length t₀ / 6 - n)) }
@@ -104,7 +103,7 @@ module _ (book t₀ : List ℕ) where
         pub count_told : n ≡ filled_rows book t₀
         count_told = sym (filling.count ∙ rw over.nothing (omega arith))
 
-      module _ (o : RecordRead) (p : RecordAt) (few : n < max_records) (room : n < length t₀ / 6) (f : o ≡ fields_at book at) (g : o ≡ Good p) where
+      module _ (o : Option RecordAt) (p : RecordAt) (few : n < max_records) (room : n < length t₀ / 6) (f : o ≡ fields_at book at) (g : o ≡ Some p) where
         step : (r : Record) → RecordTo book at p r → left at n ≡ r ∷ left p.next (suc n)
         step r t =
             let more : max_records - n ≡ suc (max_records - suc n) = omega arith in

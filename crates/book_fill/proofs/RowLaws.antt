@@ -1,4 +1,5 @@
 -- The row of a record that is read: it is the row that the table has for it, and its numbers fit 16 bits.
+use Rattle.std.specs.Prelude.{Option, Some}
 use Prim.Native.Nat.{ℕ, ◌+◌, ◌-◌, ◌≤◌, ◌<◌}
 use native.Mathlib.Omega.{arith}
 use mathlib.Core.Path.{◌≡◌, sym, ap, ◌∙◌}
@@ -14,8 +15,6 @@ use Rattle.spec_name.proofs.NameLaws.{fewer_labels}
 use Rattle.spec_record.specs.Records.{Record, wire_record}
 use Rattle.read_record.specs.Places.{fields_at}
 use Rattle.read_record.specs.declared.RecordAt.{RecordAt}
-use Rattle.read_record.specs.declared.RecordRead.{RecordRead}
-use Rattle.read_record.specs.declared.RecordRead.TheVariants.{Good}
 use Rattle.read_record.proofs.RecordFields.{fields_read}
 use Rattle.read_record.proofs.RecordPlaces.{RecordTo, data_long, fields_there}
 use Rattle.book_places.specs.Table.{row}
@@ -54,6 +53,6 @@ module _ (book : List ℕ) (at : ℕ) (p : RecordAt) (r : Record) (t : RecordTo 
         }
 
 pub row_fits :
-    (book : List ℕ) (at : ℕ) (o : RecordRead) (p : RecordAt) → ((i : ℕ) → Fits w8 (get_or book i 0)) → length book ≤ max_book_octets →
-    o ≡ fields_at book at → o ≡ Good p → RowFits at p
+    (book : List ℕ) (at : ℕ) (o : Option RecordAt) (p : RecordAt) → ((i : ℕ) → Fits w8 (get_or book i 0)) → length book ≤ max_book_octets →
+    o ≡ fields_at book at → o ≡ Some p → RowFits at p
 row_fits book at o p octets short f g = let (r, t) = fields_there book at o f p g in fits book at p r t octets short

@@ -4,7 +4,7 @@
 ghost use Rattle.std.specs.Prelude.{◌≡◌, ◌++◌, ◌+◌, ◌*◌, ◌≤◌, length, take, drop};
 ghost use Rattle.book_fill.specs.Filled.{RowFits, row_at, filled_table, filled_rows};
 
-use read_record::{RecordAt, RecordRead};
+use read_record::RecordAt;
 use spec_limits::{MAX_BOOK_OCTETS, MAX_RECORDS};
 
 // Writes row n of the table: the row of the record r, which begins at offset `at` of the book.
@@ -37,7 +37,7 @@ pub fn fill_table(book: &[u8], table: &mut [u16]) -> usize
         if room <= n {
             return n;
         }
-        let RecordRead::Good(r) = read_record::read_record_fields(book, at) else {
+        let Some(r) = read_record::read_record_fields(book, at) else {
             return n;
         };
         put_row(table, n, at, r);

@@ -5,6 +5,8 @@ ghost use Rattle.std.specs.Prelude.{◌≡◌};
 ghost use Rattle.book_fill.specs.Filled.{filled_table};
 ghost use Rattle.book_index.specs.Indexes.{indexed_chains, indexed_onward};
 
+use book_places::Index;
+
 // The caller lends a table of zeros, and links, heads and a column that hold `END` everywhere, with room for the records of the book.
 pub fn index_book(
     book: &[u8],
@@ -20,5 +22,11 @@ pub fn index_book(
 {
     let n = book_fill::fill_table(book, table);
     book_chains::link(book, table, n, links, heads);
-    book_onward::point_aliases(book, table, links, heads, n, onward);
+    let index = Index {
+        book,
+        table,
+        links,
+        heads,
+    };
+    book_onward::point_aliases(index, n, onward);
 }

@@ -4,6 +4,7 @@ use native.Mathlib.Omega.{arith}
 use mathlib.Core.Path.{◌≡◌, refl, sym, ◌∙◌}
 use mathlib.Core.Bool.{Bool, true, false}
 use mathlib.Core.List.{List}
+use Rattle.std.specs.Prelude.{min}
 use lib.Dec.{leb}
 use lib.ListN.{length, take, drop, get_or, drop_of_length-le}
 use lib.Seq.{take_all}
@@ -21,15 +22,15 @@ module _ (h : ℕ) (s : List ℕ) (m i : ℕ) (left : mixed h s ≡ mixed m (dro
   mixed_end k = sym (left ∙ rw (drop_of_length-le s k))
 
 module _ (x : List ℕ) where
-  first_octets : (l : ℕ) → l ≡ length x - 10 → take (length x - l - 0) x ≡ take 10 x
-  first_octets l e = by (leb 10 (length x)) refl
+  first_octets : (n : ℕ) → n ≡ min (length x) 10 → take n x ≡ take 10 x
+  first_octets n e = by (leb 10 (length x)) refl
     where
-      by : (t : Bool) → leb 10 (length x) ≡ t → take (length x - l - 0) x ≡ take 10 x
-      by true h = let ten : length x - l - 0 ≡ 10 = omega (arith, leb-true 10 (length x) h) in rw ten
-      by false h = take_all (length x - l - 0) x (omega (arith, leb-false 10 (length x) h)) ∙ sym (take_all 10 x (omega (arith, leb-false 10 (length x) h)))
+      by : (t : Bool) → leb 10 (length x) ≡ t → take n x ≡ take 10 x
+      by true h = let ten : n ≡ 10 = omega (arith, leb-true 10 (length x) h) in rw ten
+      by false h = take_all n x (omega (arith, leb-false 10 (length x) h)) ∙ sym (take_all 10 x (omega (arith, leb-false 10 (length x) h)))
 
   pub key_told :
-      (l last m k : ℕ) → l ≡ length x - 10 → last ≡ length x - 6 → m ≡ mixed (length x % 65536) (take (length x - l - 0) x) →
+      (n last m k : ℕ) → n ≡ min (length x) 10 → last ≡ length x - 6 → m ≡ mixed (length x % 65536) (take n x) →
       k ≡ mixed m (take (length x - last) (drop last x)) → k % max_records ≡ key_of x
   unfolding key_of
-  key_told l last m k el elast em ek = rw (ek, em, first_octets l el, rest_whole x last, elast)
+  key_told n last m k en elast em ek = rw (ek, em, first_octets n en, rest_whole x last, elast)

@@ -1,4 +1,6 @@
 -- The walk along a chain: what is left of it gives the same first record; a law for each way out.
+use Rattle.spec_refusal.specs.declared.RecordNo.{RecordNo}
+use Rattle.std.specs.Prelude.{Option, Some, None}
 use Prim.Native.Nat.{ℕ, zero, suc, ◌-◌, ◌≤◌, ◌<◌}
 use native.Mathlib.Nat.{not-suc-le-zero}
 use native.Mathlib.Omega.{arith}
@@ -12,8 +14,6 @@ use Rattle.spec_octets.specs.Octets.{equal_ignoring_case}
 use Rattle.spec_octets.proofs.Texts.{same_text}
 use Rattle.book_places.specs.declared.Kind.{Kind}
 use Rattle.book_places.specs.declared.Kind.TheVariants.{Caa, CaaOrAlias}
-use Rattle.book_places.specs.declared.FirstRecord.{FirstRecord}
-use Rattle.book_places.specs.declared.FirstRecord.TheVariants.{At, Nothing}
 use Rattle.book_places.specs.Table.{owner_at, is_caa_at, is_alias_at}
 use Rattle.book_places.specs.Keys.{key_of}
 use Rattle.book_places.specs.Chains.{behind}
@@ -60,11 +60,11 @@ module _ (kind : Kind) (book table links x : List ℕ) where
   owned_step i h = rw (chain_step links i, lt-ltb i (length links) h)
 
   module _ (from i : ℕ) (left : first_of (owned from) ≡ first_of (owned i)) where
-    pub none_owned : length links ≤ i → Nothing ≡ first_of (owned from)
+    pub none_owned : length links ≤ i → None ≡ first_of (owned from)
     none_owned h = sym (left ∙ rw (chain_over i h))
 
     module _ (b : Bool) (h : i < length links) (e : b ≡ is_owned_of kind book table x i) where
-      pub one_owned : b ≡ true → At (record { 0 = i }) ≡ first_of (owned from)
+      pub one_owned : b ≡ true → Some (record { 0 = i }) ≡ first_of (owned from)
       one_owned t = sym (left ∙ rw (owned_step i h, ← e, t))
 
       pub passed_over : (j : ℕ) → b ≡ false → j ≡ behind links i → first_of (owned from) ≡ first_of (owned j)
@@ -74,12 +74,12 @@ module _ (kind : Kind) (book table links x : List ℕ) where
   less_left i j h e = omega (arith, behind_later links i h)
 
   module _ (heads : List ℕ) (k : ℕ) (e : k ≡ key_of x) where
-    pub no_chain : length heads ≤ k → Nothing ≡ first_owned kind book table links heads x
+    pub no_chain : length heads ≤ k → None ≡ first_owned kind book table links heads x
     unfolding first_owned
     no_chain h = rw (← e, get_or-eq_default heads (length links) h, chain_over (length links) (omega arith))
 
     pub chain_begins :
-        (r : FirstRecord) → k < length heads → r ≡ first_of (owned_of kind book table links x (get_or heads k 0)) → r ≡ first_owned kind book table links heads x
+        (r : Option RecordNo) → k < length heads → r ≡ first_of (owned_of kind book table links x (get_or heads k 0)) → r ≡ first_owned kind book table links heads x
     unfolding first_owned
     chain_begins r h f = rw (← e, inside heads k (length links) 0 h) f
 
@@ -87,11 +87,11 @@ module _ (kind : Kind) (book table links x : List ℕ) where
 module _ (book table links : List ℕ) (first from : ℕ) where
   pub first_itself :
       from ≡ first → first < length links → (b : Bool) → b ≡ is_caa_at table first → b ≡ true →
-      At (record { 0 = first }) ≡ first_of (owned_from book table links (owner_at book table first) from)
+      Some (record { 0 = first }) ≡ first_of (owned_from book table links (owner_at book table first) from)
   first_itself e h b f g =
       rw (e, owned_step Caa book table links (owner_at book table first) first h, ← f, g, (same_text (owner_at book table first) (owner_at book table first)).1 refl)
 
   pub with_its_owner :
-      (r : FirstRecord) (x : List ℕ) → r ≡ first_of (owned_from book table links x from) → x ≡ owner_at book table first →
+      (r : Option RecordNo) (x : List ℕ) → r ≡ first_of (owned_from book table links x from) → x ≡ owner_at book table first →
       r ≡ first_of (owned_from book table links (owner_at book table first) from)
   with_its_owner r x f e = f ∙ rw e

@@ -1,4 +1,5 @@
 -- A law for each way of book_onward: the number of a first record, one more alias written down, one more alias followed, a lookup.
+use Rattle.std.specs.Prelude.{Option, Some, None}
 use Prim.Native.Nat.{ℕ, zero, suc, ◌+◌, ◌-◌, ◌%◌, ◌≤◌, ◌<◌}
 use native.Mathlib.Omega.{arith}
 use mathlib.Core.Path.{◌≡◌, refl, sym, ◌∙◌}
@@ -9,8 +10,6 @@ use borrow.Author.Tests.{lt-ltb, le-ltb}
 use Rattle.spec_limits.specs.Limits.{max_aliases}
 use Rattle.spec_refusal.specs.declared.RecordNo.{RecordNo}
 use Rattle.book_places.specs.declared.Kind.TheVariants.{CaaOrAlias}
-use Rattle.book_places.specs.declared.FirstRecord.{FirstRecord}
-use Rattle.book_places.specs.declared.FirstRecord.TheVariants.{At, Nothing}
 use Rattle.book_places.specs.Table.{data_at, is_alias_at}
 use Rattle.book_places.specs.Chains.{no_record}
 use Rattle.book_places.specs.Sets.{first_owned, and_then, onward_at, resolved, resolved_from, looked_up_at}
@@ -18,20 +17,20 @@ use Rattle.book_places.specs.Onward.{number_found, pointed, pointed_below}
 use Rattle.book_places.proofs.OnwardLaws.{pointed_length}
 
 -- o is the first CAA record or alias
-module _ (book table links heads x : List ℕ) (o : FirstRecord) (is : o ≡ first_owned CaaOrAlias book table links heads x) where
-  pub none_found : o ≡ Nothing → 65535 ≡ number_found (first_owned CaaOrAlias book table links heads x) % 65536
+module _ (book table links heads x : List ℕ) (o : Option RecordNo) (is : o ≡ first_owned CaaOrAlias book table links heads x) where
+  pub none_found : o ≡ None → 65535 ≡ number_found (first_owned CaaOrAlias book table links heads x) % 65536
   unfolding no_record
   none_found e = rw (← is, e)
 
-  pub one_found : (r : RecordNo) → o ≡ At r → r.0 % 65536 ≡ number_found (first_owned CaaOrAlias book table links heads x) % 65536
+  pub one_found : (r : RecordNo) → o ≡ Some r → r.0 % 65536 ≡ number_found (first_owned CaaOrAlias book table links heads x) % 65536
   one_found r e = rw (← is, e)
 
   module _ (onward : List ℕ) where
-    pub nothing_there : o ≡ Nothing → Nothing ≡ looked_up_at book table links heads onward x
+    pub nothing_there : o ≡ None → None ≡ looked_up_at book table links heads onward x
     unfolding looked_up_at
     nothing_there e = rw (← is, e)
 
-    pub from_there : (r : RecordNo) (a : FirstRecord) → o ≡ At r → a ≡ resolved_from table links onward r → a ≡ looked_up_at book table links heads onward x
+    pub from_there : (r : RecordNo) (a : Option RecordNo) → o ≡ Some r → a ≡ resolved_from table links onward r → a ≡ looked_up_at book table links heads onward x
     unfolding looked_up_at
     from_there r a e f = rw (← is, e) f
 
@@ -65,17 +64,17 @@ inside (x ∷ s) zero d e h = refl
 inside (x ∷ s) (suc i) d e h = inside s i d e (omega arith)
 
 module _ (links onward : List ℕ) (i : ℕ) where
-  pub no_number : length onward ≤ i → Nothing ≡ onward_at links onward i
+  pub no_number : length onward ≤ i → None ≡ onward_at links onward i
   no_number h = rw (get_or-eq_default onward (length links) h, le-ltb (length links) (length links) (omega arith))
 
   module _ (k : ℕ) (h : i < length onward) (read : k ≡ get_or onward i 0) where
     number : get_or onward i (length links) ≡ k
     number = inside onward i (length links) 0 h ∙ sym read
 
-    pub no_record_lem : length links ≤ k → Nothing ≡ onward_at links onward i
+    pub no_record_lem : length links ≤ k → None ≡ onward_at links onward i
     no_record_lem l = rw (number, le-ltb k (length links) l)
 
-    pub one_record : k < length links → At (record { 0 = k }) ≡ onward_at links onward i
+    pub one_record : k < length links → Some (record { 0 = k }) ≡ onward_at links onward i
     one_record l = rw (number, lt-ltb k (length links) l)
 
 -- with `left` aliases still to follow, from record r on
@@ -88,14 +87,14 @@ module _ (table links onward : List ℕ) (first : RecordNo) where
   at_first = refl
 
   module _ (left r : ℕ) (inv : Following left r) (a : Bool) (is : a ≡ is_alias_at table r) where
-    pub at_the_end : a ≡ false → At (record { 0 = r }) ≡ resolved_from table links onward first
+    pub at_the_end : a ≡ false → Some (record { 0 = r }) ≡ resolved_from table links onward first
     at_the_end e = sym (inv ∙ go left)
       where
-        go : (n : ℕ) → resolved n table links onward first (record { 0 = r }) ≡ At (record { 0 = r })
+        go : (n : ℕ) → resolved n table links onward first (record { 0 = r }) ≡ Some (record { 0 = r })
         go zero = rw (← is, e)
         go (suc n) = rw (← is, e)
 
-    pub too_many : a ≡ true → left ≡ 0 → At first ≡ resolved_from table links onward first
+    pub too_many : a ≡ true → left ≡ 0 → Some first ≡ resolved_from table links onward first
     too_many e z = sym (inv ∙ rw (z, ← is, e))
 
     further : a ≡ true → (left ≡ 0 → ⊥) → (n : ℕ) × (left ≡ suc n) × (resolved_from table links onward first ≡ and_then (onward_at links onward r) (resolved n table links onward first))
@@ -105,11 +104,11 @@ module _ (table links onward : List ℕ) (first : RecordNo) where
         go zero z = absurd (more z)
         go (suc m) z = (m, z, inv ∙ rw (z, ← is, e))
 
-    module _ (e : a ≡ true) (more : left ≡ 0 → ⊥) (o : FirstRecord) (there : o ≡ onward_at links onward r) where
-      pub leads_nowhere : o ≡ Nothing → Nothing ≡ resolved_from table links onward first
+    module _ (e : a ≡ true) (more : left ≡ 0 → ⊥) (o : Option RecordNo) (there : o ≡ onward_at links onward r) where
+      pub leads_nowhere : o ≡ None → None ≡ resolved_from table links onward first
       leads_nowhere f = let (n, z, g) = further e more in sym (g ∙ rw (← there, f))
 
-      pub followed_on : (next : RecordNo) → o ≡ At next → Following (left - 1) next.0
+      pub followed_on : (next : RecordNo) → o ≡ Some next → Following (left - 1) next.0
       followed_on next f =
           let (n, z, g) = further e more in
           let less : left - 1 ≡ n = omega arith in

@@ -1,9 +1,10 @@
 -- The records of an accepted book are those whose fields can be read, none clashes with another, and their data is well formed.
+use Rattle.std.proofs.lemmas.Option.{none-some}
+use Rattle.std.specs.Prelude.{Option, None, Some}
 use Prim.Native.Nat.{ℕ, zero, suc, ◌+◌}
 use mathlib.Core.Path.{◌≡◌, refl, sym, ap}
 use mathlib.Core.Bool.{Bool, true, false, cond}
 use mathlib.Core.List.{List, [], ◌∷◌, ◌++◌, append-eq-nil_iff}
-use mathlib.Core.Option.{Option, none, some, none-ne-some}
 use lib.Dec.{ltb}
 use lib.ListN.{length}
 use Rattle.spec_limits.specs.Limits.{max_book_octets, max_records}
@@ -27,7 +28,7 @@ use Rattle.book_places.specs.Readable.{readable}
 
 -- a record that is read begins with its owner, whatever the octets
 owner_first :
-    (s : List ℕ) (r : Record) (rest : List ℕ) → record_fields s ≡ some (r, rest) →
+    (s : List ℕ) (r : Record) (rest : List ℕ) → record_fields s ≡ Some (r, rest) →
     (mid : List ℕ) × (s ≡ wire r.owner ++ mid) × GoodName r.owner
 unfolding record_fields
 owner_first s r rest h =
@@ -37,56 +38,56 @@ owner_first s r rest h =
     let (front, good) = (name_is_its_labels s owner mid).0 found in
     (mid, rw same at front, rw same at good)
 
-nothing_left : record_fields [] ≡ none
+nothing_left : record_fields [] ≡ None
 nothing_left = go (record_fields []) refl
   where
-    go : (o : Option (Record × List ℕ)) → record_fields [] ≡ o → o ≡ none
-    go none e = refl
-    go (some x) e =
+    go : (o : Option (Record × List ℕ)) → record_fields [] ≡ o → o ≡ None
+    go None e = refl
+    go (Some x) e =
         let (mid, front, good) = owner_first [] x.0 x.1 e in
         absurd (wire_full x.0.owner (append-eq-nil_iff.0 (sym front)).0)
 
 -- where no record is refused, those whose fields can be read are the items
 abbrev pub Unrefused : ℕ → List ℕ → Type 0
-Unrefused room s = record_refusal (items resource_record room s) ≡ none → readable room s ≡ whole_items (items resource_record room s)
+Unrefused room s = record_refusal (items resource_record room s) ≡ None → readable room s ≡ whole_items (items resource_record room s)
 
 pub unrefused : (room : ℕ) (s : List ℕ) → Unrefused room s
 unrefused zero [] e = refl
-unrefused zero (x ∷ s) e = absurd (none-ne-some _ (sym e))
+unrefused zero (x ∷ s) e = absurd (none-some _ (sym e))
 unrefused (suc room) [] e = rw nothing_left
 unrefused (suc room) (x ∷ s) e = go (resource_record (x ∷ s)) refl (unrefused room) e
   where
     more :
-        (r : Record) (i : Items Record) (rs : List Record) → (record_refusal i ≡ none → rs ≡ whole_items i) →
-        record_refusal (follow r i) ≡ none → r ∷ rs ≡ whole_items (follow r i)
+        (r : Record) (i : Items Record) (rs : List Record) → (record_refusal i ≡ None → rs ≡ whole_items i) →
+        record_refusal (follow r i) ≡ None → r ∷ rs ≡ whole_items (follow r i)
     more r (whole xs) rs ih e = ap (◌∷◌ r) (ih refl)
-    more r (broken k) rs ih e = absurd (none-ne-some _ (sym e))
-    more r over rs ih e = absurd (none-ne-some _ (sym e))
+    more r (broken k) rs ih e = absurd (none-some _ (sym e))
+    more r over rs ih e = absurd (none-some _ (sym e))
 
     go :
         (o : Option (Record × List ℕ)) → resource_record (x ∷ s) ≡ o → ((s : List ℕ) → Unrefused room s) →
-        record_refusal (beforeItems o (items resource_record room)) ≡ none →
+        record_refusal (beforeItems o (items resource_record room)) ≡ None →
         readable (suc room) (x ∷ s) ≡ whole_items (beforeItems o (items resource_record room))
-    go none f ih e = absurd (none-ne-some _ (sym e))
-    go (some y) f ih e =
+    go None f ih e = absurd (none-some _ (sym e))
+    go (Some y) f ih e =
         rw ((fields_and_data (x ∷ s) y.0 y.1).0 f).0
         (more y.0 (items resource_record room y.1) (readable room y.1) (ih y.1) e)
 
 -- an accepted book passes both checks
-pub laid_out_book : (book : List ℕ) → book_refusal book ≡ none → layout_refusal book ≡ none
+pub laid_out_book : (book : List ℕ) → book_refusal book ≡ None → layout_refusal book ≡ None
 unfolding book_refusal
 laid_out_book book h = ((or_none (layout_refusal book) (conflict_refusal (records book))).0 h).0
 
-pub clash_free : (book : List ℕ) → book_refusal book ≡ none → ClashFree (records book)
+pub clash_free : (book : List ℕ) → book_refusal book ≡ None → ClashFree (records book)
 unfolding book_refusal
 clash_free book h = (conflict_none (records book)).0 ((or_none (layout_refusal book) (conflict_refusal (records book))).0 h).1
 
-pub accepted_readable : (book : List ℕ) → book_refusal book ≡ none → readable max_records book ≡ records book
+pub accepted_readable : (book : List ℕ) → book_refusal book ≡ None → readable max_records book ≡ records book
 unfolding layout_refusal records record_items
 accepted_readable book h = unrefused max_records book (go (ltb max_book_octets (length book)) (record_refusal (record_items book)) (laid_out_book book h))
   where
-    go : (t : Bool) (o : Option Refusal) → cond t (some BookTooLong) o ≡ none → o ≡ none
-    go true o e = absurd (none-ne-some _ (sym e))
+    go : (t : Bool) (o : Option Refusal) → cond t (Some BookTooLong) o ≡ None → o ≡ None
+    go true o e = absurd (none-some _ (sym e))
     go false o e = e
 
 -- the data of each record is what its type and class ask for
@@ -108,8 +109,8 @@ items_hold (suc room) (x ∷ s) = go (resource_record (x ∷ s)) refl (items_hol
     go :
         (o : Option (Record × List ℕ)) → resource_record (x ∷ s) ≡ o → ((s : List ℕ) → All HoldsData (whole_items (items resource_record room s))) →
         All HoldsData (whole_items (beforeItems o (items resource_record room)))
-    go none e ih = all_nil
-    go (some y) e ih =
+    go None e ih = all_nil
+    go (Some y) e ih =
         let r = y.0 in
         more r (items resource_record room y.1) ((laid_out r.type r.class r.rdata).0 ((fields_and_data (x ∷ s) r y.1).0 e).1) (ih y.1)
 

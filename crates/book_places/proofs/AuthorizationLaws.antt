@@ -1,10 +1,10 @@
 -- What CAA says of a name by a set that was found means what the rule says of it.
+use Rattle.std.specs.Prelude.{Option, None, Some}
 use Prim.Native.Nat.{ℕ}
 use native.Mathlib.Omega.{arith}
 use mathlib.Core.Path.{◌≡◌, refl, ap, ◌∙◌}
 use mathlib.Core.Bool.{Bool, true, false, ◌||◌}
 use mathlib.Core.List.{List, [], ◌∷◌}
-use mathlib.Core.Option.{Option, none, some}
 use Rattle.spec_refusal.specs.declared.RecordNo.{RecordNo}
 use Rattle.spec_octets.specs.Lists.{any, cons_if, select, All, all_nil, all_cons}
 use Rattle.spec_octets.specs.Octets.{same, lowered}
@@ -18,8 +18,6 @@ use Rattle.spec_rule.specs.RelevantSet.{CaaRecord, Lookup, empty, found, endless
 use Rattle.spec_rule.specs.Authorizations.{Authorization, unrestricted, granted, unresolved, is_unknown_critical, is_issue, is_issue_wild, is_grantee, cons_some, or_else, governing, grantees, governed_by as ruleGovernedBy, unless_forbidden, authorization_from}
 use Rattle.read_grantee.specs.Places.{grantee_of_data}
 use Rattle.read_grantee.proofs.Grantees.{grantee_of_data_lem}
-use Rattle.book_places.specs.declared.FirstRecord.{FirstRecord}
-use Rattle.book_places.specs.declared.FirstRecord.TheVariants.{At, Nothing}
 use Rattle.book_places.specs.declared.NameAuthorization.{NameAuthorization}
 use Rattle.book_places.specs.declared.NameAuthorization.TheVariants.{Unrestricted}
 use Rattle.book_places.specs.Table.{table_of, data_at, is_alias_at}
@@ -32,7 +30,7 @@ use Rattle.book_places.proofs.ClimbLaws.{climb_by_offset, looked_have, relevant_
 
 -- the test q says of data what p says of a record that holds it
 abbrev Tells : (List ℕ → Bool) → (CaaRecord → Bool) → Type 0
-Tells q p = (d : List ℕ) (c : CaaRecord) → property d ≡ some c.property → q d ≡ p c
+Tells q p = (d : List ℕ) (c : CaaRecord) → property d ≡ Some c.property → q d ≡ p c
 
 tells_critical : Tells data_is_unknown_critical is_unknown_critical
 unfolding data_is_unknown_critical is_unknown_critical
@@ -115,7 +113,7 @@ module _ (who : Applicant) (book table links : List ℕ) where
     unless_critical_lem [] n a e = e
     unless_critical_lem (u ∷ us) n a e = refl
 
-    by_set_lem : (wildcard : Bool) → meaning who book table links (by_set book table links wildcard (At first)) ≡ authorization_from who wildcard (found cs)
+    by_set_lem : (wildcard : Bool) → meaning who book table links (by_set book table links wildcard (Some first)) ≡ authorization_from who wildcard (found cs)
     unfolding set_authorization
     by_set_lem wildcard = rw (no_alias, first_critical) (unless_critical_lem (select is_unknown_critical cs) _ _ (by_tags_lem wildcard))
 
@@ -125,19 +123,19 @@ module _ (who : Applicant) (book table links : List ℕ) where
   nothing_governs false = refl
 
   found_means :
-      (wildcard : Bool) (l : Lookup) (o : FirstRecord) → Finds book table links l o → All (Holds book table) (records_in l) →
+      (wildcard : Bool) (l : Lookup) (o : Option RecordNo) → Finds book table links l o → All (Holds book table) (records_in l) →
       meaning who book table links (by_set book table links wildcard o) ≡ authorization_from who wildcard l
   unfolding set_authorization
-  found_means wildcard empty Nothing f all = refl
-  found_means wildcard empty (At r) f all = let e = f.first in let z : ◌≡◌ {A = ℕ} 0 1 = cc in absurd (omega arith)
-  found_means wildcard (found []) Nothing f all = nothing_governs wildcard
-  found_means wildcard (found (c ∷ cs)) Nothing f all = let e = f.first in let z : ◌≡◌ {A = ℕ} 0 1 = cc in absurd (omega arith)
-  found_means wildcard (found cs) (At r) f all = by_set_lem r cs (f.whole r refl refl) all (f.alias r refl) wildcard
-  found_means wildcard (endless q) Nothing f all = let e = f.first in let z : ◌≡◌ {A = ℕ} 0 1 = cc in absurd (omega arith)
-  found_means wildcard (endless q) (At r) f all = unresolved_by r q (f.alias r refl) f.first
+  found_means wildcard empty None f all = refl
+  found_means wildcard empty (Some r) f all = let e = f.first in let z : ◌≡◌ {A = ℕ} 0 1 = cc in absurd (omega arith)
+  found_means wildcard (found []) None f all = nothing_governs wildcard
+  found_means wildcard (found (c ∷ cs)) None f all = let e = f.first in let z : ◌≡◌ {A = ℕ} 0 1 = cc in absurd (omega arith)
+  found_means wildcard (found cs) (Some r) f all = by_set_lem r cs (f.whole r refl refl) all (f.alias r refl) wildcard
+  found_means wildcard (endless q) None f all = let e = f.first in let z : ◌≡◌ {A = ℕ} 0 1 = cc in absurd (omega arith)
+  found_means wildcard (endless q) (Some r) f all = unresolved_by r q (f.alias r refl) f.first
     where
       unresolved_by :
-          (r : RecordNo) (q : ℕ) → is_alias_at table r.0 ≡ true → At r ≡ At (record { 0 = q }) →
+          (r : RecordNo) (q : ℕ) → is_alias_at table r.0 ≡ true → Some r ≡ Some (record { 0 = q }) →
           meaning who book table links (set_authorization book table links wildcard r) ≡ unresolved q
       unresolved_by r q e f = let same : r.0 ≡ q = cc in rw (e, same)
 
@@ -150,8 +148,8 @@ module _ (who : Applicant) (book table links : List ℕ) where
       one :
           (o : Option (List ℕ)) → any (λ i. is_grantee d (grantee_of_data who (data_at book table i))) is ≡ any (same d) (grantees_at who book table links is) →
           is_grantee d o || any (λ i. is_grantee d (grantee_of_data who (data_at book table i))) is ≡ any (same d) (cons_some o (grantees_at who book table links is))
-      one none e = e
-      one (some n) e = ap (◌||◌ (same d n)) e
+      one None e = e
+      one (Some n) e = ap (◌||◌ (same d n)) e
 
 pub authorization_by_offset : AuthorizationByOffset
 unfolding name_authorization

@@ -1,4 +1,5 @@
 -- The records that an answer names have links; what governs are issue or issuewild records.
+use Rattle.std.specs.Prelude.{Option, Some, None}
 use Prim.Native.Nat.{ℕ, zero, suc, ◌<◌}
 use mathlib.Core.Path.{◌≡◌, refl}
 use mathlib.Core.Logic.{◌⊎◌, inl, inr}
@@ -17,8 +18,6 @@ use Rattle.spec_record.specs.declared.PropertyTag.{PropertyTag}
 use Rattle.spec_record.specs.declared.PropertyTag.TheVariants.{Issue, IssueWild}
 use Rattle.book_places.specs.declared.Kind.{Kind}
 use Rattle.book_places.specs.declared.Kind.TheVariants.{Caa, CaaOrAlias}
-use Rattle.book_places.specs.declared.FirstRecord.{FirstRecord}
-use Rattle.book_places.specs.declared.FirstRecord.TheVariants.{At, Nothing}
 use Rattle.book_places.specs.declared.NameAuthorization.{NameAuthorization}
 use Rattle.book_places.specs.declared.NameAuthorization.TheVariants.{Unrestricted, Forbidden, Governed, Unresolved}
 use Rattle.book_places.specs.Table.{data_at, is_alias_at}
@@ -32,9 +31,9 @@ module _ (links : List ℕ) where
   Below i = i < length links
 
   -- the record that is answered, if any, has a link
-  abbrev pub FirstBelow : FirstRecord → Type 0
-  FirstBelow Nothing = Unit
-  FirstBelow (At r) = r.0 < length links
+  abbrev pub FirstBelow : Option RecordNo → Type 0
+  FirstBelow None = Unit
+  FirstBelow (Some r) = r.0 < length links
 
   along_below : (steps i : ℕ) → All Below (along steps links i)
   along_below zero i = all_nil
@@ -86,23 +85,23 @@ module _ (links : List ℕ) where
           where
             go :
                 (t : Bool) → ltb (get_or onward i (length links)) (length links) ≡ t →
-                FirstBelow (cond t (At (record { 0 = get_or onward i (length links) })) Nothing)
+                FirstBelow (cond t (Some (record { 0 = get_or onward i (length links) })) None)
             go true e = ltb-true (get_or onward i (length links)) (length links) e
             go false e = tt
 
-        then_below : (o : FirstRecord) (next : RecordNo → FirstRecord) → FirstBelow o → ((r : RecordNo) → r.0 < length links → FirstBelow (next r)) → FirstBelow (and_then o next)
-        then_below Nothing next h k = tt
-        then_below (At r) next h k = k r h
+        then_below : (o : Option RecordNo) (next : RecordNo → Option RecordNo) → FirstBelow o → ((r : RecordNo) → r.0 < length links → FirstBelow (next r)) → FirstBelow (and_then o next)
+        then_below None next h k = tt
+        then_below (Some r) next h k = k r h
 
-        either_below : (t : Bool) (a b : FirstRecord) → FirstBelow a → FirstBelow b → FirstBelow (cond t a b)
+        either_below : (t : Bool) (a b : Option RecordNo) → FirstBelow a → FirstBelow b → FirstBelow (cond t a b)
         either_below true a b h k = h
         either_below false a b h k = k
 
         resolved_below :
             (n : ℕ) (first r : RecordNo) → first.0 < length links → r.0 < length links → FirstBelow (resolved n table links onward first r)
-        resolved_below zero first r h k = either_below (is_alias_at table r.0) (At first) (At r) h k
+        resolved_below zero first r h k = either_below (is_alias_at table r.0) (Some first) (Some r) h k
         resolved_below (suc n) first r h k =
-            either_below (is_alias_at table r.0) _ (At r)
+            either_below (is_alias_at table r.0) _ (Some r)
             (then_below (onward_at links onward r.0) (resolved n table links onward first) (onward_below r.0) (λ q l. resolved_below n first q h l)) k
 
         look_below : (x : List ℕ) → FirstBelow (looked_up_at book table links heads onward x)
@@ -111,9 +110,9 @@ module _ (links : List ℕ) where
             then_below (first_owned CaaOrAlias book table links heads x) (λ r. resolved max_aliases table links onward r r) (owned_first_below CaaOrAlias x)
             (λ r h. resolved_below max_aliases r r h h)
 
-        or_below : (o next : FirstRecord) → FirstBelow o → FirstBelow next → FirstBelow (or_next o next)
-        or_below Nothing next h k = k
-        or_below (At r) next h k = h
+        or_below : (o next : Option RecordNo) → FirstBelow o → FirstBelow next → FirstBelow (or_next o next)
+        or_below None next h k = k
+        or_below (Some r) next h k = h
 
         climb_below : (steps : ℕ) (s : List ℕ) (at : ℕ) → FirstBelow (nearest_from steps book table links heads onward s at)
         climb_below zero s at = tt
@@ -121,7 +120,7 @@ module _ (links : List ℕ) where
             go (eqb (parent_place s at) at) _
             (or_below (looked_up_at book table links heads onward (drop at s)) _ (look_below (drop at s)) (climb_below steps s (parent_place s at)))
           where
-            go : (t : Bool) (o : FirstRecord) → FirstBelow o → FirstBelow (cond t Nothing o)
+            go : (t : Bool) (o : Option RecordNo) → FirstBelow o → FirstBelow (cond t None o)
             go true o h = tt
             go false o h = h
 
@@ -138,10 +137,10 @@ module _ (links : List ℕ) where
 
     module _ (set : RecordNo) (below : set.0 < length links) where
       governed_below :
-          (tag : PropertyTag) → (tag ≡ Issue) ⊎ (tag ≡ IssueWild) → (o : FirstRecord) → FirstBelow o →
+          (tag : PropertyTag) → (tag ≡ Issue) ⊎ (tag ≡ IssueWild) → (o : Option RecordNo) → FirstBelow o →
           (otherwise : NameAuthorization) → AnswerBelow otherwise → AnswerBelow (governed_by book table links set tag o otherwise)
-      governed_below tag known Nothing h otherwise k = k
-      governed_below tag known (At r) h otherwise k = (below, h, known)
+      governed_below tag known None h otherwise k = k
+      governed_below tag known (Some r) h otherwise k = (below, h, known)
 
       issue_below : AnswerBelow (by_issue book table links set)
       issue_below = governed_below Issue (inl refl) (first_tagged Issue book table links set.0) (tagged_below Issue set.0) Unrestricted tt
@@ -151,14 +150,14 @@ module _ (links : List ℕ) where
       tags_below true =
           governed_below IssueWild (inr refl) (first_tagged IssueWild book table links set.0) (tagged_below IssueWild set.0) _ issue_below
 
-      unless_below : (o : FirstRecord) → FirstBelow o → (otherwise : NameAuthorization) → AnswerBelow otherwise → AnswerBelow (unless_critical book table links o otherwise)
-      unless_below Nothing h otherwise k = k
-      unless_below (At r) h otherwise k = h
+      unless_below : (o : Option RecordNo) → FirstBelow o → (otherwise : NameAuthorization) → AnswerBelow otherwise → AnswerBelow (unless_critical book table links o otherwise)
+      unless_below None h otherwise k = k
+      unless_below (Some r) h otherwise k = h
 
-    set_below : (wildcard : Bool) (o : FirstRecord) → FirstBelow o → AnswerBelow (by_set book table links wildcard o)
+    set_below : (wildcard : Bool) (o : Option RecordNo) → FirstBelow o → AnswerBelow (by_set book table links wildcard o)
     unfolding set_authorization
-    set_below wildcard Nothing h = tt
-    set_below wildcard (At set) h =
+    set_below wildcard None h = tt
+    set_below wildcard (Some set) h =
         go (is_alias_at table set.0) _
         (unless_below set h (first_unknown_critical book table links set.0) (critical_below set.0) _ (tags_below set h wildcard))
       where

@@ -1,10 +1,11 @@
 -- The climb from a name finds the relevant set of that name, and takes off as many labels as the rule.
+use Rattle.spec_refusal.specs.declared.RecordNo.{RecordNo}
+use Rattle.std.specs.Prelude.{None, Option, Some}
 use Prim.Native.Nat.{ℕ, zero, suc, ◌+◌, ◌<◌}
 use native.Mathlib.Nat.{not-suc-le-zero}
 use native.Mathlib.Omega.{arith}
 use mathlib.Core.Path.{◌≡◌, refl, ap}
 use mathlib.Core.List.{List, [], ◌∷◌, ◌++◌, map, append-nil}
-use mathlib.Core.Option.{none}
 use lib.ListN.{length, drop, length-append}
 use borrow.Author.Tests.{eq-eqb, ne_eqb}
 use Rattle.spec_octets.specs.Lists.{All, all_nil, all_cons}
@@ -15,8 +16,6 @@ use Rattle.spec_name.proofs.NameLaws.{fewer_labels}
 use Rattle.read_name.proofs.Parents.{root_stays, behind_label, label_passed}
 use Rattle.spec_record.specs.Records.{book_refusal}
 use Rattle.spec_rule.specs.RelevantSet.{CaaRecord, Book, Lookup, empty, found, endless, lookup, first_found, relevant_set, empty_before, labels_off}
-use Rattle.book_places.specs.declared.FirstRecord.{FirstRecord}
-use Rattle.book_places.specs.declared.FirstRecord.TheVariants.{At, Nothing}
 use Rattle.book_places.specs.Table.{table_of}
 use Rattle.book_places.specs.Chains.{chains_of}
 use Rattle.book_places.specs.Sets.{looked_up_at, or_next, nearest_from, nearest_record, one_more, labels_off_from, labels_off_at}
@@ -29,24 +28,24 @@ pub good_parent : (l : Label) (ls : Name) → GoodName (l ∷ ls) → GoodName l
 good_parent l ls (all_cons g gs, long) = (gs, omega (arith, length-append l (wire ls)))
 
 module _ (book table links heads onward : List ℕ) (rule : Book) where
-  abbrev Found : Lookup → FirstRecord → Type 0
+  abbrev Found : Lookup → Option RecordNo → Type 0
   Found l o = Finds book table links l o
 
   -- the first of these looks that finds anything is told, with the number of looks before it
-  abbrev Climbed : List Lookup → FirstRecord → ℕ → Type 0
+  abbrev Climbed : List Lookup → Option RecordNo → ℕ → Type 0
   Climbed ls o n = Found (first_found ls) o × (n ≡ empty_before ls)
 
   -- a look that finds nothing leaves it to the next; one that finds a record ends the climb
   first_place :
-      (l : Lookup) (o next : FirstRecord) (n : ℕ) (after : List Lookup) → Found l o → Climbed after next n → (l ≡ found [] → ⊥) →
+      (l : Lookup) (o next : Option RecordNo) (n : ℕ) (after : List Lookup) → Found l o → Climbed after next n → (l ≡ found [] → ⊥) →
       Climbed (l ∷ after) (or_next o next) (one_more o n)
-  first_place empty Nothing next n after here rest some-set = (rest.0, ap suc rest.1)
-  first_place empty (At r) next n after here rest some-set = let e = here.first in let z : ◌≡◌ {A = ℕ} 0 1 = cc in absurd (omega arith)
+  first_place empty None next n after here rest some-set = (rest.0, ap suc rest.1)
+  first_place empty (Some r) next n after here rest some-set = let e = here.first in let z : ◌≡◌ {A = ℕ} 0 1 = cc in absurd (omega arith)
   first_place (found []) o next n after here rest some-set = absurd (some-set refl)
-  first_place (found (c ∷ cs)) Nothing next n after here rest some-set = let e = here.first in let z : ◌≡◌ {A = ℕ} 0 1 = cc in absurd (omega arith)
-  first_place (found (c ∷ cs)) (At r) next n after here rest some-set = (here, refl)
-  first_place (endless q) Nothing next n after here rest some-set = let e = here.first in let z : ◌≡◌ {A = ℕ} 0 1 = cc in absurd (omega arith)
-  first_place (endless q) (At r) next n after here rest some-set = (here, refl)
+  first_place (found (c ∷ cs)) None next n after here rest some-set = let e = here.first in let z : ◌≡◌ {A = ℕ} 0 1 = cc in absurd (omega arith)
+  first_place (found (c ∷ cs)) (Some r) next n after here rest some-set = (here, refl)
+  first_place (endless q) None next n after here rest some-set = let e = here.first in let z : ◌≡◌ {A = ℕ} 0 1 = cc in absurd (omega arith)
+  first_place (endless q) (Some r) next n after here rest some-set = (here, refl)
 
   module _ (look : (x : Name) → GoodName x → Found (lookup rule x) (looked_up_at book table links heads onward (wire x))) where
     -- with a step for each label and one for the root
@@ -66,7 +65,7 @@ module _ (book table links heads onward : List ℕ) (rule : Book) where
         never_bare : (x : Name) → lookup rule x ≡ found [] → ⊥
         never_bare x e = let (y, ends, selects, some-set) = ((a_lookup rule x).1 []).0 e in some-set refl
 
-module _ (book : List ℕ) (x : Name) (accepted : book_refusal book ≡ none) (good : GoodName x) where
+module _ (book : List ℕ) (x : Name) (accepted : book_refusal book ≡ None) (good : GoodName x) where
   from_the_name :
       Climbed book (table_of book) (chains_of book).links (chains_of book).heads (onward_of book) (ruled book accepted)
       (map (lookup (ruled book accepted)) (ancestors x))

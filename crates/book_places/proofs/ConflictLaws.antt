@@ -1,4 +1,6 @@
 -- The first conflict by table and chains is the first conflict of the records.
+use Rattle.std.proofs.lemmas.Option.{none-some}
+use Rattle.std.specs.Prelude.{Option, None, Some}
 use Prim.Native.Nat.{ℕ, zero, suc, ◌+◌, ◌-◌, ◌*◌, ◌≤◌}
 use native.Mathlib.Nat.{zero-add}
 use native.Mathlib.Omega.{arith}
@@ -6,7 +8,6 @@ use mathlib.Core.Path.{◌≡◌, refl, sym, ap, ap₂, ◌∙◌}
 use mathlib.Core.Logic.{◌⊎◌, inl, inr}
 use mathlib.Core.Bool.{Bool, true, false, cond, ◌&&◌, ◌||◌}
 use mathlib.Core.List.{List, [], ◌∷◌, ◌++◌}
-use mathlib.Core.Option.{Option, none, some, none-ne-some}
 use lib.Dec.{ltb}
 use lib.ListN.{length, get_or, replicate}
 use lib.Seq.{get_or-append-add}
@@ -33,14 +34,14 @@ use Rattle.book_places.proofs.ChainedRecords.{chains_fit, chains_skip_nothing}
 use Rattle.book_places.proofs.StandingRecords.{room_enough}
 
 -- the records of a book that is well laid out have rows, all of them
-pub laid_out_tabled : (book : List ℕ) → layout_refusal book ≡ none → tabled book ≡ records book
+pub laid_out_tabled : (book : List ℕ) → layout_refusal book ≡ None → tabled book ≡ records book
 unfolding tabled layout_refusal records record_items
 laid_out_tabled book h =
     let (short, whole) = parts (ltb max_book_octets (length book)) (record_refusal (record_items book)) h in
     rw (le-leb (length book) max_book_octets (ltb-false max_book_octets (length book) short)) (unrefused max_records book whole)
   where
-    parts : (t : Bool) (o : Option Refusal) → cond t (some BookTooLong) o ≡ none → (t ≡ false) × (o ≡ none)
-    parts true o e = absurd (none-ne-some _ (sym e))
+    parts : (t : Bool) (o : Option Refusal) → cond t (Some BookTooLong) o ≡ None → (t ≡ false) × (o ≡ None)
+    parts true o e = absurd (none-some _ (sym e))
     parts false o e = (refl, e)
 
 same_turned : (m n : Name) → same_name m n ≡ same_name n m
@@ -161,7 +162,7 @@ module _ (book : List ℕ) where
   abbrev find : ℕ → ℕ → Option ℕ
   find = conflict_from book (table_of book) (chains_of book).links (chains_of book).heads
 
-  none_behind : (m k : ℕ) → length (tabled book) ≤ k → find k m ≡ none
+  none_behind : (m k : ℕ) → length (tabled book) ≤ k → find k m ≡ None
   unfolding clashes_at is_caa_at is_alias_at is_caa is_alias
   none_behind zero k h = refl
   none_behind (suc m) k h = rw (empty_cell k 1 h) (none_behind m (suc k) (omega arith))
@@ -170,7 +171,7 @@ module _ (book : List ℕ) where
   no_more zero m k h e = none_behind m k (omega arith)
   no_more (suc n) zero k h e = absurd (omega arith)
   no_more (suc n) (suc m) k h e =
-      ap (cond (clashes_at book (table_of book) (chains_of book).links (chains_of book).heads k) (some k)) (no_more n m (suc k) (omega arith) (omega arith))
+      ap (cond (clashes_at book (table_of book) (chains_of book).links (chains_of book).heads k) (Some k)) (no_more n m (suc k) (omega arith) (omega arith))
 
 pub conflict_by_table : ConflictByTable
 unfolding first_conflict

@@ -1,11 +1,12 @@
 -- A look at a name, by a table that tells of the records and chains that skip none, finds what the rule's lookup finds.
+use Rattle.std.proofs.lemmas.Option.{none-some}
+use Rattle.std.specs.Prelude.{Option, None, Some}
 use Prim.Native.Nat.{ℕ, zero, suc, ◌+◌, ◌<◌}
 use native.Mathlib.Omega.{arith}
 use mathlib.Core.Path.{◌≡◌, refl, sym, ap, ◌∙◌}
 use mathlib.Core.Logic.{◌⊎◌, inl, inr, ⊎_elim}
 use mathlib.Core.Bool.{Bool, true, false, cond, ◌&&◌, ◌||◌, and-false, or-true, true≢false}
 use mathlib.Core.List.{List, [], ◌∷◌, ◌++◌, map}
-use mathlib.Core.Option.{Option, none, some, none-ne-some}
 use lib.Dec.{ltb}
 use lib.ListN.{length, get_or}
 use borrow.Author.Tests.{ltb-false, le-leb}
@@ -29,8 +30,6 @@ use Rattle.spec_rule.specs.Aliases.{Alias, as_alias, aliases_from, aliases_of, f
 use Rattle.spec_rule.specs.RelevantSet.{CaaRecord, as_caa, caa_records_from, Book, as_book, empty, as_lookup, caa_at, looked_up, lookup}
 use Rattle.book_places.proofs.AcceptedBook.{laid_out_book, clash_free, accepted_readable, HoldsData, records_hold}
 use Rattle.book_places.specs.declared.Kind.TheVariants.{Caa, CaaOrAlias}
-use Rattle.book_places.specs.declared.FirstRecord.{FirstRecord}
-use Rattle.book_places.specs.declared.FirstRecord.TheVariants.{At, Nothing}
 use Rattle.book_places.specs.Table.{tabled, table_of, data_at, is_alias_at}
 use Rattle.book_places.specs.Chains.{chains_of}
 use Rattle.book_places.specs.Sets.{is_owned_of, is_owned, owned_from, first_of, first_owned, and_then, resolved, resolved_from, looked_up_at, set_at}
@@ -43,41 +42,41 @@ use Rattle.book_places.proofs.SetLaws.{set_by_its_first}
 use Rattle.book_places.proofs.OnwardLaws.{onward_told}
 
 -- the records of an accepted book have rows, all of them
-pub accepted_tabled : (book : List ℕ) → book_refusal book ≡ none → tabled book ≡ records book
+pub accepted_tabled : (book : List ℕ) → book_refusal book ≡ None → tabled book ≡ records book
 unfolding tabled layout_refusal
 accepted_tabled book h =
     rw (le-leb (length book) max_book_octets (ltb-false max_book_octets (length book) (short (ltb max_book_octets (length book)) (laid_out_book book h))))
     (accepted_readable book h)
   where
-    short : (t : Bool) → cond t (some BookTooLong) (record_refusal (record_items book)) ≡ none → t ≡ false
-    short true e = absurd (none-ne-some _ (sym e))
+    short : (t : Bool) → cond t (Some BookTooLong) (record_refusal (record_items book)) ≡ None → t ≡ false
+    short true e = absurd (none-some _ (sym e))
     short false e = refl
 
 module _ (book table : List ℕ) where
   -- a row tells of the data of the CAA record c
   abbrev pub Holds : CaaRecord → Type 0
-  Holds c = property (data_at book table c.number) ≡ some c.property
+  Holds c = property (data_at book table c.number) ≡ Some c.property
 
   caa_hold : (k : ℕ) (rs : List Record) → TellsFrom book table k rs → All Holds (caa_records_from k rs)
   caa_hold k [] t = all_nil
   caa_hold k (r ∷ rs) t = All-join (one (is_caa r.type r.class) (property r.rdata) refl) (caa_hold (suc k) rs t.1)
     where
       one : (b : Bool) (o : Option Property) → property r.rdata ≡ o → All Holds (cond b (kept (as_caa k r.owner) o) [])
-      one true none e = all_nil
-      one true (some q) e = let there : property (data_at book table k) ≡ some q = rw t.0.rdata e in all_cons there all_nil
+      one true None e = all_nil
+      one true (Some q) e = let there : property (data_at book table k) ≡ Some q = rw t.0.rdata e in all_cons there all_nil
       one false o e = all_nil
 
   module _ (x : Name) (good : GoodName x) where
     abbrev is_of : CaaRecord → Bool
     is_of c = same_name c.owner x
 
-    holds_property : (r : Record) → HoldsData r → is_caa r.type r.class ≡ true → (q : Property) × (property r.rdata ≡ some q)
+    holds_property : (r : Record) → HoldsData r → is_caa r.type r.class ≡ true → (q : Property) × (property r.rdata ≡ Some q)
     holds_property r h e =
         let (t, c) = (caa_exactly r.type r.class).0 e in
         let (q, whole, long, tag) = h.0 t c in
         (q, (property_is_its_parts r.rdata q).1 (whole, long))
 
-    holds_target : (r : Record) → HoldsData r → is_alias r.type r.class ≡ true → (t : Name) × (r.rdata ≡ wire t) × GoodName t × (target r.rdata ≡ some t)
+    holds_target : (r : Record) → HoldsData r → is_alias r.type r.class ≡ true → (t : Name) × (r.rdata ≡ wire t) × GoodName t × (target r.rdata ≡ Some t)
     holds_target r h e =
         let (t, c) = (alias_exactly r.type r.class).0 e in
         let (n, whole, valid) = h.1 t c in
@@ -104,8 +103,8 @@ module _ (book table : List ℕ) where
         caa :
             (b : Bool) → is_caa r.type r.class ≡ b → (o : Option Property) → property r.rdata ≡ o → rest ≡ numbers_of (select is_of more) →
             cons_if (b && same_name r.owner x) k rest ≡ numbers_of (select is_of (cond b (kept (as_caa k r.owner) o) [] ++ more))
-        caa true f (some q) g e = owner (same_name r.owner x) (record { number = k; owner = r.owner; property = q }) refl e
-        caa true f none g e = let (q, h) = holds_property r holds f in absurd (none-ne-some q (sym g ∙ h))
+        caa true f (Some q) g e = owner (same_name r.owner x) (record { number = k; owner = r.owner; property = q }) refl e
+        caa true f None g e = let (q, h) = holds_property r holds f in absurd (none-some q (sym g ∙ h))
         caa false f o g e = e
 
     -- the records of one kind with the owner x: the first of rs is passed, or stands before the others
@@ -124,11 +123,11 @@ module _ (book table : List ℕ) where
               (t : Bool) (o : Option A) →
               having (cond t (kept (made k r.owner) o) [] ++ of_kind_from isIt read made (suc k) rs) ≡ having (of_kind_from isIt read made (suc k) rs)
           go false o = refl
-          go true none = refl
-          go true (some a) = rw (law k r.owner a, e)
+          go true None = refl
+          go true (Some a) = rw (law k r.owner a, e)
 
       taken :
-          (k : ℕ) (r : Record) (rs : List Record) (a : A) → isIt r.type r.class ≡ true → read r.rdata ≡ some a → same_name r.owner x ≡ true →
+          (k : ℕ) (r : Record) (rs : List Record) (a : A) → isIt r.type r.class ≡ true → read r.rdata ≡ Some a → same_name r.owner x ≡ true →
           having (of_kind_from isIt read made k (r ∷ rs)) ≡ made k r.owner a ∷ having (of_kind_from isIt read made (suc k) rs)
       taken k r rs a e f g = rw (e, f, law k r.owner a, g)
 
@@ -165,16 +164,16 @@ module _ (book table : List ℕ) where
         stands : caa_at (caa_records_from k rs) x ≡ caa ∷ others
         numbered : caa.number ≡ i
 
-      abbrev HeadTells : FirstRecord → Type 0
-      HeadTells Nothing = (aliases_of (aliases_from k rs) x ≡ []) × (caa_at (caa_records_from k rs) x ≡ [])
-      HeadTells (At r) = ByAlias r.0 ⊎ ByCaa r.0
+      abbrev HeadTells : Option RecordNo → Type 0
+      HeadTells None = (aliases_of (aliases_from k rs) x ≡ []) × (caa_at (caa_records_from k rs) x ≡ [])
+      HeadTells (Some r) = ByAlias r.0 ⊎ ByCaa r.0
 
     -- a record of another owner, or of neither kind, changes nothing
     one_more_lem :
         (k : ℕ) (r : Record) (rs : List Record) → aliases_of (aliases_from k (r ∷ rs)) x ≡ aliases_of (aliases_from (suc k) rs) x →
-        caa_at (caa_records_from k (r ∷ rs)) x ≡ caa_at (caa_records_from (suc k) rs) x → (o : FirstRecord) → HeadTells (suc k) rs o → HeadTells k (r ∷ rs) o
-    one_more_lem k r rs e f Nothing (g, h) = (e ∙ g, f ∙ h)
-    one_more_lem k r rs e f (At i) (inl h) = inl (record {
+        caa_at (caa_records_from k (r ∷ rs)) x ≡ caa_at (caa_records_from (suc k) rs) x → (o : Option RecordNo) → HeadTells (suc k) rs o → HeadTells k (r ∷ rs) o
+    one_more_lem k r rs e f None (g, h) = (e ∙ g, f ∙ h)
+    one_more_lem k r rs e f (Some i) (inl h) = inl (record {
       is_alias_lem = h.is_alias_lem;
       alias = h.alias;
       others = h.others;
@@ -183,7 +182,7 @@ module _ (book table : List ℕ) where
       leads = h.leads;
       target_good = h.target_good;
     })
-    one_more_lem k r rs e f (At i) (inr h) = inr (record {
+    one_more_lem k r rs e f (Some i) (inr h) = inr (record {
       no_alias = h.no_alias;
       none_aliased = e ∙ h.none_aliased;
       caa = h.caa;
@@ -248,28 +247,28 @@ set_named :
 set_named book table links x i c cs e = set_by_its_first book table links x i (record { 0 = c.number }) (rw e) ∙ e
 
 -- the first of some numbers in a row is one of them
-first_within : (p : ℕ → Bool) (k n : ℕ) (r : RecordNo) → first_of (select p (numbers_from k n)) ≡ At r → r.0 < k + n
+first_within : (p : ℕ → Bool) (k n : ℕ) (r : RecordNo) → first_of (select p (numbers_from k n)) ≡ Some r → r.0 < k + n
 first_within p k zero r e = let z : ◌≡◌ {A = ℕ} 0 1 = cc in absurd (omega arith)
 first_within p k (suc n) r e = go (p k) e (first_within p (suc k) n r)
   where
     go :
-        (t : Bool) → first_of (cons_if t k (select p (numbers_from (suc k) n))) ≡ At r →
-        (first_of (select p (numbers_from (suc k) n)) ≡ At r → r.0 < suc k + n) → r.0 < k + suc n
+        (t : Bool) → first_of (cons_if t k (select p (numbers_from (suc k) n))) ≡ Some r →
+        (first_of (select p (numbers_from (suc k) n)) ≡ Some r → r.0 < suc k + n) → r.0 < k + suc n
     go true f later = let same : k ≡ r.0 = cc in omega arith
     go false f later = omega (arith, later f)
 
-ended : (n : ℕ) (al : List Alias) (x : Name) → aliases_of al x ≡ [] → followed n al x ≡ some x
+ended : (n : ℕ) (al : List Alias) (x : Name) → aliases_of al x ≡ [] → followed n al x ≡ Some x
 ended zero al x e = rw e
 ended (suc n) al x e = rw e
 
-pub found_nothing : (book table links : List ℕ) → Finds book table links empty Nothing
+pub found_nothing : (book table links : List ℕ) → Finds book table links empty None
 found_nothing book table links = record {
   first = refl;
   alias = λ r e. let z : ◌≡◌ {A = ℕ} 0 1 = cc in absurd (omega arith);
   whole = λ r e f. let z : ◌≡◌ {A = ℕ} 0 1 = cc in absurd (omega arith);
 }
 
-module _ (book : List ℕ) (accepted : book_refusal book ≡ none) where
+module _ (book : List ℕ) (accepted : book_refusal book ≡ None) where
   abbrev pub ruled : Book
   ruled = as_book (records book)
 
@@ -298,7 +297,7 @@ module _ (book : List ℕ) (accepted : book_refusal book ≡ none) where
       ∙ rw (← accepted_tabled book accepted) (owned_numbers book table x good 0 (tabled book) (rows_tell book) (good_owners book) held)
 
   module _ (x : Name) (good : GoodName x) where
-    abbrev head_of : FirstRecord
+    abbrev head_of : Option RecordNo
     head_of = first_owned CaaOrAlias book table links heads (wire x)
 
     head_first : head_of ≡ first_of (select (is_owned_of CaaOrAlias book table (wire x)) (numbers_from 0 (length (tabled book))))
@@ -311,24 +310,24 @@ module _ (book : List ℕ) (accepted : book_refusal book ≡ none) where
         (head_tells book table x good 0 (tabled book) (rows_tell book) (good_owners book) held
         (rw (accepted_tabled book accepted) (clash_free book accepted)))
 
-    head_within : (r : RecordNo) → head_of ≡ At r → r.0 < length (tabled book)
+    head_within : (r : RecordNo) → head_of ≡ Some r → r.0 < length (tabled book)
     head_within r e = omega (arith, first_within _ 0 (length (tabled book)) r (sym head_first ∙ e))
 
   abbrev al : List Alias
   al = ruled.aliases
 
   -- the answer o after at most n aliases from the name y, of which `first` was the first
-  abbrev Resolves : ℕ → Name → RecordNo → FirstRecord → Type 0
+  abbrev Resolves : ℕ → Name → RecordNo → Option RecordNo → Type 0
   Resolves n y first o =
-      ((z : Name) × (followed n al y ≡ some z) × Finds book table links (as_lookup (caa_at caas z)) o) ⊎ ((followed n al y ≡ none) × (o ≡ At first))
+      ((z : Name) × (followed n al y ≡ Some z) × Finds book table links (as_lookup (caa_at caas z)) o) ⊎ ((followed n al y ≡ None) × (o ≡ Some first))
 
   -- the name y has CAA records, and r is the first
-  by_caa : (n : ℕ) (y : Name) (good : GoodName y) (first r : RecordNo) → ByCaa book table y good 0 (records book) r.0 → Resolves n y first (At r)
+  by_caa : (n : ℕ) (y : Name) (good : GoodName y) (first r : RecordNo) → ByCaa book table y good 0 (records book) r.0 → Resolves n y first (Some r)
   by_caa n y good first r h = inl (
     y,
     ended n al y h.none_aliased,
     rw h.stands (record {
-      first = ap (λ k. At (record { 0 = k })) (sym h.numbered);
+      first = ap (λ k. Some (record { 0 = k })) (sym h.numbered);
       alias = λ q e. let same : r.0 ≡ q.0 = cc in rw (← same) h.no_alias;
       whole = λ q e f. let same : r.0 ≡ q.0 = cc in
           rw (← same, ← h.numbered) (set_named book table links (wire y) _ h.caa h.others (caa_numbers y good ∙ rw h.stands));
@@ -336,7 +335,7 @@ module _ (book : List ℕ) (accepted : book_refusal book ≡ none) where
   )
 
   abbrev Resolved : ℕ → Type 0
-  Resolved n = (y : Name) (good : GoodName y) (first r : RecordNo) → head_of y good ≡ At r → Resolves n y first (resolved n table links (onward_of book) first r)
+  Resolved n = (y : Name) (good : GoodName y) (first r : RecordNo) → head_of y good ≡ Some r → Resolves n y first (resolved n table links (onward_of book) first r)
 
   resolves : (n : ℕ) → Resolved n
   resolves zero y good first r e = ⊎_elim
@@ -349,12 +348,12 @@ module _ (book : List ℕ) (accepted : book_refusal book ≡ none) where
       (rw e at (head_told y good))
     where
       further :
-          Resolved n → (t : Name) (valid : GoodName t) (o : FirstRecord) → head_of t valid ≡ o →
+          Resolved n → (t : Name) (valid : GoodName t) (o : Option RecordNo) → head_of t valid ≡ o →
           Resolves n t first (and_then o (resolved n table links (onward_of book) first))
-      further rest t valid Nothing f =
+      further rest t valid None f =
           let (none_aliased, no_caa) = rw f at (head_told t valid) in
           inl (t, ended n al t none_aliased, rw no_caa (found_nothing book table links))
-      further rest t valid (At q) f = rest t valid first q f
+      further rest t valid (Some q) f = rest t valid first q f
 
       aliased : Resolved n → ByAlias book table y good 0 (records book) r.0 → Resolves (suc n) y first (resolved (suc n) table links (onward_of book) first r)
       aliased rest h =
@@ -372,18 +371,18 @@ module _ (book : List ℕ) (accepted : book_refusal book ≡ none) where
   look_finds x good = go (head_of x good) refl
     where
       go :
-          (o : FirstRecord) → head_of x good ≡ o →
+          (o : Option RecordNo) → head_of x good ≡ o →
           Finds book table links (looked_up caas (aliases_of al x) (followed max_aliases al x)) (and_then o (λ r. resolved max_aliases table links (onward_of book) r r))
-      go Nothing e =
+      go None e =
           let (none_aliased, no_caa) = rw e at (head_told x good) in
           rw (ended max_aliases al x none_aliased, no_caa) (found_nothing book table links)
-      go (At r) e = ⊎_elim
+      go (Some r) e = ⊎_elim
           (λ (z, f, finds). rw f finds)
           (λ (f, o). endless_found r e f o (rw e at (head_told x good)))
           (resolves max_aliases x good r r e)
         where
           endless_found :
-              (r : RecordNo) → head_of x good ≡ At r → followed max_aliases al x ≡ none → resolved max_aliases table links (onward_of book) r r ≡ At r →
+              (r : RecordNo) → head_of x good ≡ Some r → followed max_aliases al x ≡ None → resolved max_aliases table links (onward_of book) r r ≡ Some r →
               ByAlias book table x good 0 (records book) r.0 ⊎ ByCaa book table x good 0 (records book) r.0 →
               Finds book table links (looked_up caas (aliases_of al x) (followed max_aliases al x)) (resolved max_aliases table links (onward_of book) r r)
           endless_found r e f o (inl h) = rw (f, o, h.stands, h.numbered) (record {
@@ -391,7 +390,7 @@ module _ (book : List ℕ) (accepted : book_refusal book ≡ none) where
             alias = λ q g. let same : r.0 ≡ q.0 = cc in rw (← same) h.is_alias_lem;
             whole = λ q g k. absurd (true≢false k);
           })
-          endless_found r e f o (inr h) = absurd (none-ne-some x (sym f ∙ ended max_aliases al x h.none_aliased))
+          endless_found r e f o (inr h) = absurd (none-some x (sym f ∙ ended max_aliases al x h.none_aliased))
 
 pub look_by_offset : LookByOffset
 look_by_offset book x accepted good = look_finds book accepted x good

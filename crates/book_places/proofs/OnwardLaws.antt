@@ -1,4 +1,6 @@
 -- The column of a book says for each alias which record is the first CAA record or alias of its target.
+use Rattle.spec_refusal.specs.declared.RecordNo.{RecordNo}
+use Rattle.std.specs.Prelude.{Option, Some, None}
 use Prim.Native.Nat.{ℕ, zero, suc, ◌%◌, ◌≤◌, ◌<◌}
 use native.Mathlib.Omega.{arith}
 use mathlib.Core.Path.{◌≡◌, refl, ◌∙◌}
@@ -12,8 +14,6 @@ use borrow.Author.Tests.{lt-ltb, le-ltb, eqb-true, eqb-false}
 use Rattle.spec_limits.specs.Limits.{max_records}
 use Rattle.spec_octets.proofs.ListLaws.{true_or_false}
 use Rattle.book_places.specs.declared.Kind.TheVariants.{CaaOrAlias}
-use Rattle.book_places.specs.declared.FirstRecord.{FirstRecord}
-use Rattle.book_places.specs.declared.FirstRecord.TheVariants.{At, Nothing}
 use Rattle.book_places.specs.Table.{tabled, room_for, table_of, data_at, is_alias_at}
 use Rattle.book_places.specs.Chains.{no_record, chains_of}
 use Rattle.book_places.specs.Sets.{first_owned, onward_at}
@@ -24,7 +24,7 @@ use Rattle.book_places.proofs.ChainedRecords.{chains_fit}
 
 module _ (book table links heads : List ℕ) where
   -- the first CAA record or alias of the target of record i
-  abbrev head_after : ℕ → FirstRecord
+  abbrev head_after : ℕ → Option RecordNo
   head_after i = first_owned CaaOrAlias book table links heads (data_at book table i)
 
   pub pointed_length : (n : ℕ) (onward : List ℕ) → length (pointed_below book table links heads n onward) ≡ length onward
@@ -71,11 +71,11 @@ module _ (book : List ℕ) where
 
   -- a number of the column, read back
   read_back :
-      (k : ℕ) (o : FirstRecord) → FirstBelow links o → k ≡ number_found o % 65536 →
-      cond (ltb k (length links)) (At (record { 0 = k })) Nothing ≡ o
+      (k : ℕ) (o : Option RecordNo) → FirstBelow links o → k ≡ number_found o % 65536 →
+      cond (ltb k (length links)) (Some (record { 0 = k })) None ≡ o
   unfolding max_records no_record
-  read_back k Nothing h e = rw (le-ltb k (length links) (omega (arith, few_links)))
-  read_back k (At r) h e =
+  read_back k None h e = rw (le-ltb k (length links) (omega (arith, few_links)))
+  read_back k (Some r) h e =
       let small : k ≡ r.0 = omega (arith, few_links) in
       rw (small, lt-ltb r.0 (length links) h)
 

@@ -1,5 +1,6 @@
 -- A walk over the records of an owner along a chain: behind the first of them come the others. An answer over the whole set is the
 -- answer over what is left of it.
+use Rattle.std.specs.Prelude.{Option, Some, None}
 use Prim.Native.Nat.{ℕ, ◌<◌}
 use native.Mathlib.Omega.{arith}
 use mathlib.Core.Path.{◌≡◌, refl, sym, ◌∙◌}
@@ -9,22 +10,20 @@ use lib.ListN.{length}
 use borrow.Author.Tests.{lt-ltb}
 use Rattle.spec_octets.specs.Lists.{cons_if, select}
 use Rattle.spec_refusal.specs.declared.RecordNo.{RecordNo}
-use Rattle.book_places.specs.declared.FirstRecord.{FirstRecord}
-use Rattle.book_places.specs.declared.FirstRecord.TheVariants.{At, Nothing}
 use Rattle.book_places.specs.Table.{owner_at, data_at}
 use Rattle.book_places.specs.Chains.{behind}
 use Rattle.book_places.specs.Sets.{owned_of, owned_from, first_of, set_at, in_set}
 use Rattle.book_places.proofs.ChainLaws.{chain_step}
 use Rattle.book_places.proofs.SetLaws.{first_owned_lem, first_at}
 
-none_there : (is : List ℕ) → first_of is ≡ Nothing → is ≡ []
+none_there : (is : List ℕ) → first_of is ≡ None → is ≡ []
 none_there [] e = refl
 none_there (i ∷ is) e = let z : ◌≡◌ {A = ℕ} 0 1 = cc in absurd (omega arith)
 
 module _ (book table links x : List ℕ) where
   -- the first, and those behind it
   first_of_some :
-      (i : ℕ) (r : RecordNo) → first_of (owned_from book table links x i) ≡ At r →
+      (i : ℕ) (r : RecordNo) → first_of (owned_from book table links x i) ≡ Some r →
       owned_from book table links x i ≡ r.0 ∷ owned_from book table links x (behind links r.0)
   unfolding owned_of
   first_of_some i r e =
@@ -33,15 +32,15 @@ module _ (book table links x : List ℕ) where
       all ∙ sym here.same ∙ rw (chain_step links r.0, lt-ltb r.0 (length links) here.below, here.passes)
 
   -- o is the answer of next_owned
-  module _ (i : ℕ) (o : FirstRecord) (f : o ≡ first_of (owned_from book table links x i)) where
-    pub owned_over : o ≡ Nothing → owned_from book table links x i ≡ []
+  module _ (i : ℕ) (o : Option RecordNo) (f : o ≡ first_of (owned_from book table links x i)) where
+    pub owned_over : o ≡ None → owned_from book table links x i ≡ []
     owned_over g = none_there (owned_from book table links x i) (sym f ∙ g)
 
-    pub owned_on : (r : RecordNo) → o ≡ At r → owned_from book table links x i ≡ r.0 ∷ owned_from book table links x (behind links r.0)
+    pub owned_on : (r : RecordNo) → o ≡ Some r → owned_from book table links x i ≡ r.0 ∷ owned_from book table links x (behind links r.0)
     owned_on r g = first_of_some i r (sym f ∙ g)
 
     pub fewer_left :
-        (r : RecordNo) → o ≡ At r → (j : ℕ) → j ≡ behind links r.0 →
+        (r : RecordNo) → o ≡ Some r → (j : ℕ) → j ≡ behind links r.0 →
         length (owned_from book table links x j) < length (owned_from book table links x i)
     fewer_left r g j b = rw (b, owned_on r g) (omega arith)
 
@@ -58,12 +57,12 @@ module _ {A : Type 0} (answer : List ℕ → A) (test : List ℕ → Bool) (book
   unfolding set_at
   set_start x e = rw e
 
-  module _ (x : List ℕ) (i : ℕ) (left : Left x i) (o : FirstRecord) (f : o ≡ first_of (owned_from book table links x i)) where
-    pub set_over : o ≡ Nothing → answer [] ≡ answer (in_set test book table links first)
+  module _ (x : List ℕ) (i : ℕ) (left : Left x i) (o : Option RecordNo) (f : o ≡ first_of (owned_from book table links x i)) where
+    pub set_over : o ≡ None → answer [] ≡ answer (in_set test book table links first)
     set_over g = sym (left ∙ rw (owned_over book table links x i o f g))
 
     -- d is the data of the next record, t what the test says of it
-    module _ (r : RecordNo) (g : o ≡ At r) (d : List ℕ) (told : d ≡ data_at book table r.0) (t : Bool) (s : t ≡ test d) where
+    module _ (r : RecordNo) (g : o ≡ Some r) (d : List ℕ) (told : d ≡ data_at book table r.0) (t : Bool) (s : t ≡ test d) where
       next : answer (in_set test book table links first) ≡ answer (cons_if t r.0 (left_from x (behind links r.0)))
       next = left ∙ rw (owned_on book table links x i o f r g, s, told)
 

@@ -1,4 +1,5 @@
 -- The set that is named by its first record: the same as along the chain before it, and of numbers that have a link.
+use Rattle.std.specs.Prelude.{Some}
 use Prim.Native.Nat.{ℕ, zero, suc, ◌+◌, ◌≤◌, ◌<◌}
 use native.Mathlib.Omega.{arith}
 use mathlib.Core.Path.{◌≡◌, refl, sym, ◌∙◌}
@@ -13,7 +14,6 @@ use Rattle.spec_octets.specs.Octets.{equal_ignoring_case}
 use Rattle.spec_octets.proofs.Texts.{same_text}
 use Rattle.book_places.specs.declared.Kind.{Kind}
 use Rattle.book_places.specs.declared.Kind.TheVariants.{Caa}
-use Rattle.book_places.specs.declared.FirstRecord.TheVariants.{At}
 use Rattle.book_places.specs.Table.{owner_at}
 use Rattle.book_places.specs.Chains.{behind, chain_from}
 use Rattle.book_places.specs.Sets.{is_of_kind, is_owned_of, is_owned, owned_of, owned_from, first_of, set_at}
@@ -75,7 +75,7 @@ module _ (book table links : List ℕ) where
         select_alike (is_owned book table (owner_at book table f)) (is_owned book table x) (owned_alike x (owner_at book table f) owner) (chain_from links f)
         ∙ first_owned_lem.same
 
-pub first_at : (is : List ℕ) (r : RecordNo) → first_of is ≡ At r → (fs : List ℕ) × (is ≡ r.0 ∷ fs)
+pub first_at : (is : List ℕ) (r : RecordNo) → first_of is ≡ Some r → (fs : List ℕ) × (is ≡ r.0 ∷ fs)
 first_at [] r e = let z : ◌≡◌ {A = ℕ} 0 1 = cc in absurd (omega arith)
 first_at (i ∷ is) r e = let same : i ≡ r.0 = cc in (is, rw same)
 

@@ -1,11 +1,11 @@
 -- The records whose fields can be read stand in the book end to end, and each has its parts where a row of the table says.
+use Rattle.std.specs.Prelude.{Option, None, Some}
 use Prim.Native.Nat.{ℕ, zero, suc, ◌+◌, ◌-◌, ◌*◌, ◌≤◌, ◌<◌}
 use native.Mathlib.Omega.{arith}
 use mathlib.Core.Path.{◌≡◌, refl, subst}
 use mathlib.Core.Logic.{⊎_elim}
 use mathlib.Core.Bool.{Bool, true, false, cond}
 use mathlib.Core.List.{List, [], ◌∷◌}
-use mathlib.Core.Option.{Option, none, some}
 use lib.Dec.{leb}
 use lib.ListN.{length, drop, length-append}
 use borrow.Author.Tests.{le-leb, lt-leb, leb-true}
@@ -36,7 +36,7 @@ module _ (book : List ℕ) where
   StandFrom at [] = Unit
   StandFrom at (r ∷ rs) = Standing at r × StandFrom (at + length (wire_record r)) rs
 
-  module _ (at : ℕ) (r : Record) (rest : List ℕ) (h : record_fields (drop at book) ≡ some (r, rest)) where
+  module _ (at : ℕ) (r : Record) (rest : List ℕ) (h : record_fields (drop at book) ≡ Some (r, rest)) where
     -- a record that is read stands at its places
     places : (p : RecordAt) × RecordTo book at p r × (drop p.next book ≡ rest)
     unfolding record_fields
@@ -73,8 +73,8 @@ module _ (book : List ℕ) where
       go :
           (o : Option (Record × List ℕ)) → record_fields (drop at book) ≡ o → ((at : ℕ) → StandFrom at (readable room (drop at book))) →
           StandFrom at (before o (readable room))
-      go none e rest = tt
-      go (some x) e rest = let (p, t, behind) = places at x.0 x.1 e in first x.0 x.1 p t behind rest
+      go None e rest = tt
+      go (Some x) e rest = let (p, t, behind) = places at x.0 x.1 e in first x.0 x.1 p t behind rest
 
   -- each takes eleven octets at least
   abbrev ElevenEach : ℕ → Type 0
@@ -93,8 +93,8 @@ module _ (book : List ℕ) where
       go :
           (o : Option (Record × List ℕ)) → record_fields (drop at book) ≡ o → ElevenEach room →
           at + 11 * length (before o (readable room)) ≤ length book
-      go none e more = omega arith
-      go (some x) e more = let (p, t, behind) = places at x.0 x.1 e in first x.0 x.1 p t behind more
+      go None e more = omega arith
+      go (Some x) e more = let (p, t, behind) = places at x.0 x.1 e in first x.0 x.1 p t behind more
 
   tabled_octets : 11 * length (tabled book) ≤ length book
   unfolding tabled
@@ -117,8 +117,8 @@ few_readable zero s = omega arith
 few_readable (suc room) s = go (record_fields s) (few_readable room)
   where
     go : (o : Option (Record × List ℕ)) → ((s : List ℕ) → length (readable room s) ≤ room) → length (before o (readable room)) ≤ suc room
-    go none rest = omega arith
-    go (some r) rest = omega (arith, rest r.1)
+    go None rest = omega arith
+    go (Some r) rest = omega (arith, rest r.1)
 
 pub few_tabled : (book : List ℕ) → length (tabled book) ≤ max_records
 unfolding tabled

@@ -1,10 +1,11 @@
 -- Each row of the table of a book tells of the record of its number.
+use Rattle.std.proofs.lemmas.Option.{none-some, same_Some}
+use Rattle.std.specs.Prelude.{Some, slice_get}
 use Prim.Native.Nat.{ℕ, zero, suc, ◌+◌, ◌-◌, ◌*◌, ◌≤◌}
 use native.Mathlib.Omega.{arith}
 use mathlib.Core.Path.{◌≡◌, refl, sym, ◌∙◌}
 use mathlib.Core.List.{List, [], ◌∷◌, ◌++◌, append_assoc}
-use mathlib.Core.Option.{some, none-ne-some, some-injective}
-use lib.ListN.{length, get_or, get_elem?, replicate, length-append, length-replicate}
+use lib.ListN.{length, get_or, replicate, length-append, length-replicate}
 use lib.Seq.{get_or-append-add}
 use borrow.Author.Tests.{lt-ltb}
 use Rattle.spec_limits.specs.Limits.{max_records}
@@ -54,9 +55,9 @@ module _ (book table : List ℕ) where
         s.1,
   )
 
-  row_of : (rs : List Record) (k i : ℕ) (r : Record) → TellsFrom k rs → get_elem? rs i ≡ some r → RowTells book table (k + i) r
-  row_of [] k i r t e = absurd (none-ne-some _ e)
-  row_of (x ∷ rs) k zero r t e = let same = some-injective _ _ e in let there : k + 0 ≡ k = omega arith in rw (there, ← same) t.0
+  row_of : (rs : List Record) (k i : ℕ) (r : Record) → TellsFrom k rs → slice_get rs i ≡ Some r → RowTells book table (k + i) r
+  row_of [] k i r t e = absurd (none-some _ e)
+  row_of (x ∷ rs) k zero r t e = let same = same_Some _ _ e in let there : k + 0 ≡ k = omega arith in rw (there, ← same) t.0
   row_of (x ∷ rs) k (suc i) r t e = let there : k + suc i ≡ suc k + i = omega arith in rw there (row_of rs (suc k) i r t.1 e)
 
 pub rows_tell : (book : List ℕ) → TellsFrom book (table_of book) 0 (tabled book)

@@ -1,14 +1,12 @@
 -- What CAA says about one requested name, found by the table and the chains of a book. `meaning` turns that answer into the rule's own value,
 -- `Authorization` of spec_rule.
-use Rattle.std.specs.Prelude.{ℕ, ◌+◌, ◌*◌, ◌/◌, ◌%◌, Bool, true, false, cond, List, [], ◌∷◌, eqb}
+use Rattle.std.specs.Prelude.{ℕ, ◌+◌, ◌*◌, ◌/◌, ◌%◌, Bool, true, false, cond, List, [], ◌∷◌, eqb, Option, Some, None}
 use Rattle.spec_refusal.specs.declared.RecordNo.{RecordNo}
 use Rattle.spec_record.specs.declared.PropertyTag.{PropertyTag}
 use Rattle.spec_record.specs.declared.PropertyTag.TheVariants.{Issue, IssueWild}
 use Rattle.spec_applicant.specs.Applicant.{Applicant}
 use Rattle.spec_rule.specs.Authorizations.{Authorization, unrestricted, forbidden, granted, unresolved, cons_some}
 use Rattle.read_grantee.specs.Places.{grantee_of_data}
-use Rattle.book_places.specs.declared.FirstRecord.{FirstRecord}
-use Rattle.book_places.specs.declared.FirstRecord.TheVariants.{At, Nothing}
 use Rattle.book_places.specs.declared.NameAuthorization.{NameAuthorization}
 use Rattle.book_places.specs.declared.NameAuthorization.TheVariants.{Unrestricted, Forbidden, Governed, Unresolved}
 use Rattle.book_places.specs.Table.{data_at, is_alias_at}
@@ -21,9 +19,9 @@ question_number set wildcard = 2 * (set.0 % 32768) + cond wildcard 1 0
 
 module _ (book table links : List ℕ) where
   -- The answer where the first record of the set with this tag is known: if there is one, the records with this tag govern. If not, `otherwise`.
-  abbrev pub governed_by : RecordNo → PropertyTag → FirstRecord → NameAuthorization → NameAuthorization
-  governed_by set tag Nothing otherwise = otherwise
-  governed_by set tag (At r) otherwise = Governed (record { set = set; first = r; tag = tag })
+  abbrev pub governed_by : RecordNo → PropertyTag → Option RecordNo → NameAuthorization → NameAuthorization
+  governed_by set tag None otherwise = otherwise
+  governed_by set tag (Some r) otherwise = Governed (record { set = set; first = r; tag = tag })
 
   -- The issue records govern; without any, the name is unrestricted.
   abbrev pub by_issue : RecordNo → NameAuthorization
@@ -35,9 +33,9 @@ module _ (book table links : List ℕ) where
   by_tags true set = governed_by set IssueWild (first_tagged IssueWild book table links set.0) (by_issue set)
 
   -- A critical record with an unknown tag forbids, whatever else the set holds.
-  abbrev pub unless_critical : FirstRecord → NameAuthorization → NameAuthorization
-  unless_critical Nothing otherwise = otherwise
-  unless_critical (At r) otherwise = Forbidden r
+  abbrev pub unless_critical : Option RecordNo → NameAuthorization → NameAuthorization
+  unless_critical None otherwise = otherwise
+  unless_critical (Some r) otherwise = Forbidden r
 
   -- What a relevant set says about X (`wildcard` is false), or about *.X. An alias stands for aliases that can't be followed to their end.
   unfoldable pub set_authorization : Bool → RecordNo → NameAuthorization
@@ -45,9 +43,9 @@ module _ (book table links : List ℕ) where
       cond (is_alias_at table set.0) (Unresolved set) (unless_critical (first_unknown_critical book table links set.0) (by_tags wildcard set))
 
   -- The same where there may be no relevant set: then the name is unrestricted.
-  abbrev pub by_set : Bool → FirstRecord → NameAuthorization
-  by_set wildcard Nothing = Unrestricted
-  by_set wildcard (At set) = set_authorization wildcard set
+  abbrev pub by_set : Bool → Option RecordNo → NameAuthorization
+  by_set wildcard None = Unrestricted
+  by_set wildcard (Some set) = set_authorization wildcard set
 
   -- The answer to the question with this number.
   unfoldable pub answer_to : ℕ → NameAuthorization

@@ -1,15 +1,14 @@
 -- The column that says for each alias where it leads (Sets.antt, `onward_at`), made once for a book.
-use Rattle.std.specs.Prelude.{ℕ, zero, suc, ◌%◌, cond, List, length, set, replicate}
+use Rattle.spec_refusal.specs.declared.RecordNo.{RecordNo}
+use Rattle.std.specs.Prelude.{ℕ, zero, suc, ◌%◌, cond, List, length, set, replicate, Option, Some, None}
 use Rattle.book_places.specs.declared.Kind.TheVariants.{CaaOrAlias}
-use Rattle.book_places.specs.declared.FirstRecord.{FirstRecord}
-use Rattle.book_places.specs.declared.FirstRecord.TheVariants.{At, Nothing}
 use Rattle.book_places.specs.Table.{tabled, room_for, table_of, data_at, is_alias_at}
 use Rattle.book_places.specs.Chains.{no_record, chains_of}
 use Rattle.book_places.specs.Sets.{first_owned}
 
-abbrev pub number_found : FirstRecord → ℕ
-number_found Nothing = no_record
-number_found (At r) = r.0
+abbrev pub number_found : Option RecordNo → ℕ
+number_found None = no_record
+number_found (Some r) = r.0
 
 -- Record i, if it is an alias, gets the number of the first CAA record or alias of its target. The column holds numbers of 16 bits.
 abbrev pub pointed : List ℕ → List ℕ → List ℕ → List ℕ → ℕ → List ℕ → List ℕ

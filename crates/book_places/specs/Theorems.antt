@@ -1,7 +1,5 @@
 -- What the definitions of this crate mean, in terms of the rule (spec_rule). Each statement is proved under its name in proofs/.
-use Rattle.std.specs.Prelude.{ℕ, zero, suc, ◌*◌, ◌≤◌, ◌<◌, ◌≡◌, ◌↔◌, ◌⊎◌, Bool, true, false, List, [], ◌∷◌, map, length, get_or}
-use Rattle.std.proofs.Math.Option.{none, some}
-use Rattle.std.proofs.Math.ListN.{get_elem?}
+use Rattle.std.specs.Prelude.{ℕ, zero, suc, ◌*◌, ◌≤◌, ◌<◌, ◌≡◌, ◌↔◌, ◌⊎◌, Bool, true, false, List, [], ◌∷◌, map, length, get_or, None, Some, Option, slice_get}
 use Rattle.spec_limits.specs.Limits.{max_records}
 use Rattle.spec_refusal.specs.declared.RecordNo.{RecordNo}
 use Rattle.spec_octets.specs.Lists.{any, select}
@@ -21,8 +19,6 @@ use Rattle.book_places.specs.Sets.{is_owned_of, owned_of, owned_from, first_of, 
 use Rattle.book_places.specs.Onward.{onward_of}
 use Rattle.book_places.specs.declared.Kind.{Kind}
 use Rattle.book_places.specs.NameAuthorizations.{question_number, set_authorization, by_set, name_authorization, answer_to, set_grantees, meaning}
-use Rattle.book_places.specs.declared.FirstRecord.{FirstRecord}
-use Rattle.book_places.specs.declared.FirstRecord.TheVariants.{At, Nothing}
 use Rattle.book_places.specs.declared.Governing.{Governing}
 use Rattle.book_places.specs.declared.NameAuthorization.TheVariants.{Forbidden, Governed, Unresolved}
 
@@ -39,7 +35,7 @@ pub record RowTells (book table : List ℕ) (i : ℕ) (r : Record) : Type 0 wher
 
 -- Row i of a book's table describes record i. This holds for any octets, accepted or not.
 abbrev pub TableTells : Type 0
-TableTells = (book : List ℕ) (i : ℕ) (r : Record) → get_elem? (tabled book) i ≡ some r → RowTells book (table_of book) i r
+TableTells = (book : List ℕ) (i : ℕ) (r : Record) → slice_get (tabled book) i ≡ Some r → RowTells book (table_of book) i r
 
 -- There is room for every record of a book that gets a row, and never for more than `max_records`.
 abbrev pub RoomEnough : Type 0
@@ -68,7 +64,7 @@ ChainsSkipNothing =
 -- Naming a set by its first record loses nothing: from there the chain leads to all other records of the set. This holds for any table and links.
 abbrev pub SetByItsFirst : Type 0
 SetByItsFirst =
-    (book table links x : List ℕ) (i : ℕ) (r : RecordNo) → first_of (owned_from book table links x i) ≡ At r →
+    (book table links x : List ℕ) (i : ℕ) (r : RecordNo) → first_of (owned_from book table links x i) ≡ Some r →
     set_at book table links r.0 ≡ owned_from book table links x i
 
 -- The CAA records that a lookup by the rule finds, their numbers, and the number of the first.
@@ -80,15 +76,15 @@ records_in (endless r) = []
 abbrev pub numbers_of : List CaaRecord → List ℕ
 numbers_of cs = map (λ c. c.number) cs
 
-abbrev pub first_number : List CaaRecord → FirstRecord
-first_number [] = Nothing
-first_number (c ∷ cs) = At (record { 0 = c.number })
+abbrev pub first_number : List CaaRecord → Option RecordNo
+first_number [] = None
+first_number (c ∷ cs) = Some (record { 0 = c.number })
 
 -- The record that the rule reports: the first CAA record, or the first alias where following them does not end.
-abbrev pub first_in : Lookup → FirstRecord
-first_in empty = Nothing
+abbrev pub first_in : Lookup → Option RecordNo
+first_in empty = None
 first_in (found cs) = first_number cs
-first_in (endless r) = At (record { 0 = r })
+first_in (endless r) = Some (record { 0 = r })
 
 abbrev pub is_endless : Lookup → Bool
 is_endless empty = false
@@ -97,46 +93,46 @@ is_endless (endless r) = true
 
 -- The answer o, found by offset, is what the rule finds: o is the rule's first record; it is an alias exactly when the rule reports an alias; otherwise
 -- the set named by it has exactly the rule's records.
-pub record Finds (book table links : List ℕ) (l : Lookup) (o : FirstRecord) : Type 0 where
+pub record Finds (book table links : List ℕ) (l : Lookup) (o : Option RecordNo) : Type 0 where
   pub first : o ≡ first_in l
-  pub alias : (r : RecordNo) → o ≡ At r → is_alias_at table r.0 ≡ is_endless l
-  pub whole : (r : RecordNo) → o ≡ At r → is_endless l ≡ false → set_at book table links r.0 ≡ numbers_of (records_in l)
+  pub alias : (r : RecordNo) → o ≡ Some r → is_alias_at table r.0 ≡ is_endless l
+  pub whole : (r : RecordNo) → o ≡ Some r → is_endless l ≡ false → set_at book table links r.0 ≡ numbers_of (records_in l)
 
 -- For an accepted book, a lookup by table and chains finds what the rule's lookup of that name finds.
 abbrev pub LookByOffset : Type 0
 LookByOffset =
-    (book : List ℕ) (x : Name) → book_refusal book ≡ none → GoodName x →
+    (book : List ℕ) (x : Name) → book_refusal book ≡ None → GoodName x →
     Finds book (table_of book) (chains_of book).links (lookup (as_book (records book)) x)
     (looked_up_at book (table_of book) (chains_of book).links (chains_of book).heads (onward_of book) (wire x))
 
 -- For an accepted book, the climb by table and chains finds the relevant set of the name.
 abbrev pub ClimbByOffset : Type 0
 ClimbByOffset =
-    (book : List ℕ) (x : Name) → book_refusal book ≡ none → GoodName x →
+    (book : List ℕ) (x : Name) → book_refusal book ≡ None → GoodName x →
     Finds book (table_of book) (chains_of book).links (relevant_set (as_book (records book)) x)
     (nearest_record book (table_of book) (chains_of book).links (chains_of book).heads (onward_of book) (wire x))
 
 -- For an accepted book, the climb by table and chains takes off as many labels as the rule. This holds where nothing is found, too.
 abbrev pub LabelsOffByOffset : Type 0
 LabelsOffByOffset =
-    (book : List ℕ) (x : Name) → book_refusal book ≡ none → GoodName x →
+    (book : List ℕ) (x : Name) → book_refusal book ≡ None → GoodName x →
     labels_off_at book (table_of book) (chains_of book).links (chains_of book).heads (onward_of book) (wire x) ≡ labels_off (as_book (records book)) x
 
 -- The tests on CAA data hold exactly when the property that is read from the data is so. Malformed data passes none of them.
 abbrev pub TestsOfData : Type 0
 TestsOfData =
     (d : List ℕ) →
-    ((p : Property) → property d ≡ some p →
+    ((p : Property) → property d ≡ Some p →
     ((tag : PropertyTag) → (data_has_tag tag d ≡ true) ↔ (tag_of p.tag ≡ tag))
     × ((data_is_unknown_critical d ≡ true) ↔ ((is_critical p ≡ true) × (tag_of p.tag ≡ Unknown))))
-    × (property d ≡ none →
+    × (property d ≡ None →
     ((tag : PropertyTag) → data_has_tag tag d ≡ false) × (data_is_unknown_critical d ≡ false) × ((who : Applicant) (issuer : List ℕ) → data_grants who issuer d ≡ false))
 
 -- For an accepted book, the answer about X or *.X by table and chains is the rule's answer. They agree in the kind of answer, in the number of the
 -- record that it names, and in the issuers that the governing records grant.
 abbrev pub AuthorizationByOffset : Type 0
 AuthorizationByOffset =
-    (who : Applicant) (book : List ℕ) (x : Name) (wildcard : Bool) → book_refusal book ≡ none → GoodName x →
+    (who : Applicant) (book : List ℕ) (x : Name) (wildcard : Bool) → book_refusal book ≡ None → GoodName x →
     meaning who book (table_of book) (chains_of book).links
     (name_authorization book (table_of book) (chains_of book).links (chains_of book).heads (onward_of book) (wire x) wildcard)
     ≡ authorization_from who wildcard (relevant_set (as_book (records book)) x)
@@ -144,7 +140,7 @@ AuthorizationByOffset =
 -- The same for a lookup of X alone, without the climb.
 abbrev pub LookAuthorizationByOffset : Type 0
 LookAuthorizationByOffset =
-    (who : Applicant) (book : List ℕ) (x : Name) (wildcard : Bool) → book_refusal book ≡ none → GoodName x →
+    (who : Applicant) (book : List ℕ) (x : Name) (wildcard : Bool) → book_refusal book ≡ None → GoodName x →
     meaning who book (table_of book) (chains_of book).links
     (by_set book (table_of book) (chains_of book).links wildcard
     (looked_up_at book (table_of book) (chains_of book).links (chains_of book).heads (onward_of book) (wire x)))

@@ -23,24 +23,27 @@ pub const SHORT_TABLE: usize = 6 * FEW_RECORDS;
 // The number that ends a chain. No record has it. Both its octets are the same, so an array of it is cleared as fast as one of zeros.
 pub const END: u16 = 65535;
 
-// Which records a walk along a chain looks for.
+// A book, and what a call wrote down of it: the table of its records, the chains through them (for each record the next one in its chain), and the
+// first record of the chain of each key.
+#[derive(Clone, Copy)]
+pub struct Index<'a> {
+    pub book: &'a [u8],
+    pub table: &'a [u16],
+    pub links: &'a [u16],
+    pub heads: &'a [u16],
+}
+
+// Which records a walk along a chain looks for. It is a value and not a closure, because the definitions in specs/Sets.antt choose the test by it.
 #[derive(Clone, Copy)]
 pub enum Kind {
     Caa,
     CaaOrAlias,
 }
 
-// The first record that a search found, if there is one.
-#[derive(Clone, Copy)]
-pub enum FirstRecord {
-    At(RecordNo),
-    Nothing,
-}
-
 // The end of a climb: the record found, if there is one, and how many labels were taken off the name.
 #[derive(Clone, Copy)]
 pub struct Nearest {
-    pub found: FirstRecord,
+    pub found: Option<RecordNo>,
     pub up: usize,
 }
 

@@ -3,81 +3,61 @@
 
 ghost use Rattle.std.specs.Prelude.{◌≡◌};
 ghost use Rattle.book_places.specs.Sets.{first_unknown_critical, first_tagged, set_grants};
+ghost use Rattle.spec_applicant.specs.Applicants.{texts};
 
-use book_places::FirstRecord;
+use book_places::Index;
+use spec_applicant::Applicant;
 use spec_record::PropertyTag;
+use spec_refusal::RecordNo;
 
 // The first record of a set that is critical and has an unknown tag, if there is one.
-pub fn first_unknown_critical(
-    book: &[u8],
-    table: &[u16],
-    links: &[u16],
-    first: usize,
-) -> FirstRecord
-    ensures { result ≡ first_unknown_critical book.now table.now links.now first }
+pub fn first_unknown_critical(index: Index, first: usize) -> Option<RecordNo>
+    ensures { result ≡ first_unknown_critical index.entry.book.now index.entry.table.now index.entry.links.now first }
 {
-    let mut at: usize = first;
-    let rr = loop {
-        let FirstRecord::At(r) = book_look::next_in_set(book, table, links, first, at) else {
-            return FirstRecord::Nothing;
-        };
-        let i = r.0;
-        at = book_chains::behind(links, i);
-        if book_tests::is_unknown_critical(book_table::data_at(book, table, i)) {
+    let mut at = first;
+    let found = loop {
+        let r = book_look::next_in_set(index, first, at)?;
+        at = book_chains::behind(index.links, r.0);
+        if book_tests::is_unknown_critical(book_table::data_at(index.book, index.table, r.0)) {
             break r;
         }
     };
-    FirstRecord::At(rr)
+    Some(found)
 }
 
 // The first record of a set with this tag, if there is one.
-pub fn first_with_tag(
-    book: &[u8],
-    table: &[u16],
-    links: &[u16],
-    first: usize,
-    tag: PropertyTag,
-) -> FirstRecord
-    ensures { result ≡ first_tagged tag book.now table.now links.now first }
+pub fn first_with_tag(index: Index, first: usize, tag: PropertyTag) -> Option<RecordNo>
+    ensures { result ≡ first_tagged tag index.entry.book.now index.entry.table.now index.entry.links.now first }
 {
-    let mut at: usize = first;
+    let mut at = first;
     loop {
-        let FirstRecord::At(r) = book_look::next_in_set(book, table, links, first, at) else {
-            return FirstRecord::Nothing;
-        };
-        let i = r.0;
-        at = book_chains::behind(links, i);
-        if book_tests::has_tag(book_table::data_at(book, table, i), tag) {
-            return FirstRecord::At(r);
+        let r = book_look::next_in_set(index, first, at)?;
+        at = book_chains::behind(index.links, r.0);
+        if book_tests::has_tag(book_table::data_at(index.book, index.table, r.0), tag) {
+            return Some(r);
         }
     }
 }
 
 // Whether any record of a set with this tag grants the issuer to the applicant.
 pub fn any_grants(
-    book: &[u8],
-    table: &[u16],
-    links: &[u16],
+    index: Index,
     first: usize,
     tag: PropertyTag,
     issuer: &[u8],
-    account: &[u8],
-    method: &[u8],
+    applicant: Applicant,
 ) -> bool
-    ensures { result ≡ set_grants (record { account = account.entry.now; method = method.now }) tag issuer.now book.now table.now links.now first }
+    ensures { result ≡ set_grants (texts applicant.entry) tag issuer.now index.entry.book.now index.entry.table.now index.entry.links.now first }
 {
-    let mut from: usize = first;
-    loop {
-        let FirstRecord::At(r) = book_look::next_in_set(book, table, links, first, from) else {
-            return false;
-        };
-        let i = r.0;
-        from = book_chains::behind(links, i);
-        let d = book_table::data_at(book, table, i);
+    let mut from = first;
+    while let Some(r) = book_look::next_in_set(index, first, from) {
+        from = book_chains::behind(index.links, r.0);
+        let d = book_table::data_at(index.book, index.table, r.0);
         if book_tests::has_tag(d, tag) {
-            if book_tests::grants(d, issuer, account, method) {
+            if book_tests::grants(d, issuer, applicant) {
                 return true;
             }
         }
     }
+    false
 }

@@ -23,49 +23,27 @@ const ACCOUNT_ROOM: usize = MAX_ACCOUNT_OCTETS + 1;
 
 const BOOK_ROOM: usize = MAX_BOOK_OCTETS + 1;
 
-// The result of reading a file: whether it could be read, and how many of its octets are at the start of the buffer.
-#[derive(Clone, Copy)]
-struct FileRead {
-    pub found: bool,
-    pub length: usize,
-}
-
-// Reads to the end of the file, or until the buffer is full. If a read fails, the file counts as missing, never as a shorter file.
-fn read_open(file: &mut File, out: &mut [u8]) -> FileRead
+// Reads to the end of the file, or until the buffer is full, and returns how many of its octets are at the start of the buffer. If a read
+// fails, the file counts as missing (None), never as a shorter file.
+fn read_open(file: &mut File, out: &mut [u8]) -> Option<usize>
     ensures { Taken result out.new }
 {
-    let mut n: usize = 0;
+    let mut n = 0;
     while n < out.len() {
-        let Ok(more) = file.read(&mut out[n..]) else {
-            return FileRead {
-                found: false,
-                length: 0,
-            };
-        };
+        let more = file.read(&mut out[n..]).ok()?;
         if more == 0 {
-            return FileRead {
-                found: true,
-                length: n,
-            };
+            break;
         }
         n += more;
     }
-    FileRead {
-        found: true,
-        length: n,
-    }
+    Some(n)
 }
 
 // Reads a file of the current folder.
-fn read_file(rt: &impl Files<File = File>, path: &str, out: &mut [u8]) -> FileRead
+fn read_file(rt: &impl Files<File = File>, path: &str, out: &mut [u8]) -> Option<usize>
     ensures { Taken result out.new }
 {
-    let Ok(mut file) = File::open(rt, path) else {
-        return FileRead {
-            found: false,
-            length: 0,
-        };
-    };
+    let mut file = File::open(rt, path).ok()?;
     read_open(&mut file, out)
 }
 
@@ -75,20 +53,20 @@ fn main(rt: HostRuntime) {
     let mut account = [0u8; ACCOUNT_ROOM];
     let mut method = [0u8; ACCOUNT_ROOM];
     let mut book = [0u8; BOOK_ROOM];
-    let requested = read_file(&rt, "request.bin", &mut request).length;
-    let named = read_file(&rt, "issuer.txt", &mut issuer).length;
-    let held = read_file(&rt, "account.txt", &mut account).length;
-    let validated = read_file(&rt, "method.txt", &mut method).length;
-    let records = read_file(&rt, "book.bin", &mut book);
-    let booked = records.length;
+    // A missing file is an empty text. Only a missing book is told.
+    let requested = read_file(&rt, "request.bin", &mut request).unwrap_or(0);
+    let named = read_file(&rt, "issuer.txt", &mut issuer).unwrap_or(0);
+    let held = read_file(&rt, "account.txt", &mut account).unwrap_or(0);
+    let validated = read_file(&rt, "method.txt", &mut method).unwrap_or(0);
+    let booked = read_file(&rt, "book.bin", &mut book);
     let mut line = [0u8; LINE_OCTETS];
     let n = desk_line::put_desk_line(
-        records.found,
+        booked.is_some(),
         &request[..requested],
         &issuer[..named],
         &account[..held],
         &method[..validated],
-        &book[..booked],
+        &book[..booked.unwrap_or(0)],
         &mut line,
     );
     // A failed write can't be reported to anybody.

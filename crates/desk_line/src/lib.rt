@@ -4,6 +4,7 @@
 ghost use Rattle.spec_octets.specs.Buffer.{Put};
 ghost use Rattle.spec_desk.specs.Lines.{desk_line};
 
+use spec_applicant::Applicant;
 use spec_desk::LINE_OCTETS;
 
 // Writes the line at the start of the buffer. If there is no book (`found` is false), the line is `no book`.
@@ -22,7 +23,7 @@ pub fn put_desk_line(
         return text_buffer::put_octets(b"no book\n", out);
     }
     desk_judgement::put_judgement(
-        judge_call::judge(request, issuer, account, method, book),
+        judge_call::judge(request, issuer, Applicant { account, method }, book),
         out,
     )
 }

@@ -1,16 +1,16 @@
 -- A number written from its last octet on, and words written one after the other.
-use Prim.Native.Nat.{ℕ, zero, suc, ◌+◌, ◌-◌, ◌*◌, ◌/◌, ◌%◌, ◌≤◌, ◌<◌}
+use Prim.Native.Nat.{ℕ, suc, ◌+◌, ◌-◌, ◌/◌, ◌%◌, ◌≤◌, ◌<◌}
 use native.Mathlib.Numerals.{add-one}
 use native.Mathlib.Omega.{arith}
 use mathlib.Core.Path.{◌≡◌, refl, sym, ap, ◌∙◌}
 use mathlib.Core.List.{List, [], ◌∷◌, ◌++◌, map, append_assoc, append-nil, map-append}
-use lib.ListN.{length, take, drop, get_or, set, length-drop, drop_of_length-le}
+use lib.ListN.{length, take, drop, get_or, set, drop_of_length-le}
 use lib.Seq.{set_split, drop_at, length-take-le, take-suc, take_all}
 use Rattle.spec_octets.specs.Lists.{flatten}
 use Rattle.spec_octets.specs.Reader.{in_octets}
 use Rattle.spec_octets.specs.Buffer.{Put, filled, filled_length}
 use Rattle.spec_octets.proofs.Numbers.{length_in_octets}
-use Rattle.text_buffer.proofs.LentRest.{put_more, put_length, rest_room}
+use Rattle.text_buffer.proofs.LentRest.{put_more, rest_room}
 use Rattle.text_buffer.proofs.Filled.{no_room_answer, no_room_octets, put_room, put_answer, put_octets}
 use Rattle.spec_digest.specs.Family.{State, Member, state_words, hash_value, digest}
 

@@ -13,12 +13,10 @@ pub fn put_number(x: u64, k: usize, out: &mut [u8]) -> usize
     if out.len() < k {
         return 0;
     }
-    let mut i: usize = k;
     let mut left = x;
-    while 0 < i {
-        i -= 1;
+    for i in (0..k).rev() {
         out[i] = (left % 256) as u8;
-        left = left / 256;
+        left /= 256;
     }
     k
 }

@@ -1,12 +1,10 @@
 -- Writing the padding: the octet 128 and the zeros from the front, the length from its last octet.
 use Prim.Native.Nat.{ℕ, zero, suc, ◌+◌, ◌-◌, ◌*◌, ◌/◌, ◌%◌, ◌^◌, ◌≤◌, ◌<◌}
-use native.Mathlib.Numerals.{add-one}
 use native.Mathlib.Nat.{mod-add-mod, div-add-mod', mod-lt}
 use native.Mathlib.Omega.{arith}
-use mathlib.Core.Path.{◌≡◌, refl, sym, ap, ap₂, subst, ◌∙◌}
-use mathlib.Core.List.{List, [], ◌∷◌, ◌++◌}
-use lib.ListN.{length, take, drop, set, replicate, length-append, length-replicate, length-drop, length-set, replicate-append-replicate}
-use lib.Seq.{drop-set-lt}
+use mathlib.Core.Path.{◌≡◌, refl, sym, ap, ap₂, ◌∙◌}
+use mathlib.Core.List.{List, ◌∷◌, ◌++◌}
+use lib.ListN.{length, take, drop, set, replicate, length-append, length-replicate, length-drop, length-set}
 use borrow.Author.Tests.{le-leb}
 use mir.Syntax.{w64}
 use mir.Val.{Fits}
@@ -15,7 +13,7 @@ use Rattle.spec_octets.specs.Buffer.{Put, filled, filled_length}
 use Rattle.spec_octets.proofs.Numbers.{length_in_octets}
 use Rattle.spec_octets.proofs.Walks.{rest_whole}
 use Rattle.digest_octets.proofs.NumberWrites.{octet_before}
-use Rattle.text_buffer.proofs.LentRest.{put_octet, put_more, put_length, rest_room}
+use Rattle.text_buffer.proofs.LentRest.{put_more, put_length, rest_room}
 use Rattle.text_buffer.proofs.Filled.{no_room_answer, no_room_octets, put_room, put_answer, put_octets}
 use Rattle.spec_digest.specs.Padding.{zeros, padding}
 use Rattle.digest_padding.specs.Tails.{tail}
@@ -27,34 +25,6 @@ remainder_below l n h = mod-lt l (omega arith)
 pub zeros_counted : (n l r f : ℕ) → r ≡ l % (16 * n) → f ≡ (r + 2 * n) % (16 * n) → 16 * n - 1 - f ≡ zeros n l
 unfolding zeros
 zeros_counted n l r f e g = rw (g, e, mod-add-mod)
-
--- The octet 128 is written first, and then the zeros, to what the buffer is then.
-pub marker_start : (d : List ℕ) (count : ℕ) → 1 + count ≤ length d → Put (128 ∷ replicate 0 0) (set d 0 128) (set d 0 128) (1 + 0)
-marker_start [] count h = absurd (omega arith)
-marker_start (x ∷ d) count h = record { count = refl; octets = refl }
-
-module _ (d x : List ℕ) (i count : ℕ) where
-  pub marker_room : length x ≡ length (set d 0 128) → 1 + count ≤ length d → i < count → 1 + i < length x
-  marker_room same room h = omega (arith, length-set d 0 128)
-
-  module _ (p : Put (128 ∷ replicate i 0) (set d 0 128) x (1 + i)) where
-    pub marker_turn :
-        length x ≡ length (set d 0 128) → 1 + count ≤ length d → i < count → Put (128 ∷ replicate (i + 1) 0) (set d 0 128) (set x (1 + i) 0) (1 + (i + 1))
-    marker_turn same room h =
-        let q = put_octet p 0 (128 ∷ replicate (i + 1) 0) (marker_room same room h)
-        (ap (λ (l : List ℕ). 128 ∷ l) (sym (replicate-append-replicate i 1 0))) in
-        record { count = omega (arith, q.count); octets = q.octets }
-
-    pub marker_end : i ≤ count → count ≤ i → Put (128 ∷ replicate count 0) d x (1 + i)
-    marker_end low high =
-        subst (λ (k : ℕ). Put (128 ∷ replicate k 0) d x (1 + i)) all
-        (record { count = p.count; octets = p.octets ∙ ap (λ (l : List ℕ). (128 ∷ replicate i 0) ++ l) behind })
-      where
-        all : i ≡ count
-        all = omega arith
-
-        behind : drop (suc (length {A = ℕ} (replicate i 0))) (set d 0 128) ≡ drop (suc (length {A = ℕ} (replicate i 0))) d
-        behind = drop-set-lt (suc (length {A = ℕ} (replicate i 0))) d 0 128 (omega arith)
 
 -- the length in bits: its last octet, and a 32nd of the length before it
 pub length_put :

@@ -1,11 +1,11 @@
 -- The first CAA record or alias of a name, by the table and the chains of an accepted book, says whether the name has an alias, and which.
+use Rattle.std.specs.Prelude.{Option, None, Some}
 use Prim.Native.Nat.{ℕ, zero, suc, ◌+◌, ◌<◌}
 use native.Mathlib.Omega.{arith}
 use mathlib.Core.Path.{◌≡◌, refl, sym, ap, ◌∙◌}
 use mathlib.Core.Logic.{◌⊎◌, inl, inr, ⊎_elim}
 use mathlib.Core.Bool.{Bool, true, false, cond, ◌&&◌, ◌||◌, and-false, or-true}
 use mathlib.Core.List.{List, [], ◌∷◌, ◌++◌, map}
-use mathlib.Core.Option.{Option, none, some}
 use lib.ListN.{length}
 use Rattle.spec_refusal.specs.declared.RecordNo.{RecordNo}
 use Rattle.spec_octets.specs.Lists.{cons_if, select, All, all_nil, all_cons}
@@ -21,8 +21,6 @@ use Rattle.spec_record.proofs.KindLaws.{caa_exactly, alias_exactly}
 use Rattle.spec_record.proofs.FirstOfOwner.{ClashFree, free_behind, free_first}
 use Rattle.spec_rule.specs.Aliases.{Alias, as_alias, aliases_from, aliases, aliases_of}
 use Rattle.book_places.specs.declared.Kind.TheVariants.{CaaOrAlias}
-use Rattle.book_places.specs.declared.FirstRecord.{FirstRecord}
-use Rattle.book_places.specs.declared.FirstRecord.TheVariants.{At, Nothing}
 use Rattle.book_places.specs.Table.{tabled, table_of, data_at, is_alias_at}
 use Rattle.book_places.specs.Chains.{chains_of}
 use Rattle.book_places.specs.Sets.{is_owned_of, first_of, first_owned}
@@ -43,9 +41,9 @@ module _ (book table : List ℕ) where
     pub target_good : GoodName alias.target
 
   -- the aliases of a name, by the first CAA record or alias of that name
-  abbrev pub Says : List Alias → FirstRecord → Type 0
-  Says al Nothing = al ≡ []
-  Says al (At r) = ((is_alias_at table r.0 ≡ false) × (al ≡ [])) ⊎ First r.0 al
+  abbrev pub Says : List Alias → Option RecordNo → Type 0
+  Says al None = al ≡ []
+  Says al (Some r) = ((is_alias_at table r.0 ≡ false) × (al ≡ [])) ⊎ First r.0 al
 
   module _ (x : Name) (good : GoodName x) where
     abbrev having : ℕ → List Record → List Alias
@@ -60,8 +58,8 @@ module _ (book table : List ℕ) where
             (t : Bool) (o : Option Name) →
             aliases_of (cond t (kept (as_alias k r.owner) o) [] ++ aliases_from (suc k) rs) x ≡ having (suc k) rs
         go false o = refl
-        go true none = refl
-        go true (some a) = rw e
+        go true None = refl
+        go true (Some a) = rw e
 
     -- no alias of x comes after a CAA record of x
     none_later :
@@ -109,18 +107,18 @@ module _ (book table : List ℕ) where
             }))
 
 -- the first of some numbers in a row is one of them
-first_within : (p : ℕ → Bool) (k n : ℕ) (r : RecordNo) → first_of (select p (numbers_from k n)) ≡ At r → r.0 < k + n
+first_within : (p : ℕ → Bool) (k n : ℕ) (r : RecordNo) → first_of (select p (numbers_from k n)) ≡ Some r → r.0 < k + n
 first_within p k zero r e = let z : ◌≡◌ {A = ℕ} 0 1 = cc in absurd (omega arith)
 first_within p k (suc n) r e = go (p k) e (first_within p (suc k) n r)
   where
     go :
-        (t : Bool) → first_of (cons_if t k (select p (numbers_from (suc k) n))) ≡ At r →
-        (first_of (select p (numbers_from (suc k) n)) ≡ At r → r.0 < suc k + n) → r.0 < k + suc n
+        (t : Bool) → first_of (cons_if t k (select p (numbers_from (suc k) n))) ≡ Some r →
+        (first_of (select p (numbers_from (suc k) n)) ≡ Some r → r.0 < suc k + n) → r.0 < k + suc n
     go true f later = let same : k ≡ r.0 = cc in omega arith
     go false f later = omega (arith, later f)
 
-module _ (book : List ℕ) (accepted : book_refusal book ≡ none) (x : Name) (good : GoodName x) where
-  abbrev pub head_of : FirstRecord
+module _ (book : List ℕ) (accepted : book_refusal book ≡ None) (x : Name) (good : GoodName x) where
+  abbrev pub head_of : Option RecordNo
   head_of = first_owned CaaOrAlias book (table_of book) (chains_of book).links (chains_of book).heads (wire x)
 
   head_first : head_of ≡ first_of (select (is_owned_of CaaOrAlias book (table_of book) (wire x)) (numbers_from 0 (length (tabled book))))
@@ -134,5 +132,5 @@ module _ (book : List ℕ) (accepted : book_refusal book ≡ none) (x : Name) (g
       (rw (accepted_tabled book accepted) (records_hold book))
       (rw (accepted_tabled book accepted) (clash_free book accepted)))
 
-  pub head_within : (r : RecordNo) → head_of ≡ At r → r.0 < length (tabled book)
+  pub head_within : (r : RecordNo) → head_of ≡ Some r → r.0 < length (tabled book)
   head_within r e = omega (arith, first_within _ 0 (length (tabled book)) r (sym head_first ∙ e))

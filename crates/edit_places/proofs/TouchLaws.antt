@@ -1,4 +1,5 @@
 -- By the table and the chains of an accepted book, an owner touches a name exactly when it does so by the rule.
+use Rattle.std.specs.Prelude.{None, Option, Some}
 use Prim.Native.Nat.{ℕ, zero, suc, ◌+◌, ◌<◌}
 use native.Mathlib.Nat.{not-suc-le-zero}
 use native.Mathlib.Omega.{arith}
@@ -6,7 +7,6 @@ use mathlib.Core.Path.{◌≡◌, refl, sym, ap, ◌∙◌}
 use mathlib.Core.Logic.{◌⊎◌, inl, inr, ⊎_elim}
 use mathlib.Core.Bool.{Bool, true, false, ◌||◌}
 use mathlib.Core.List.{List, [], ◌∷◌, ◌++◌, append-nil}
-use mathlib.Core.Option.{none}
 use lib.ListN.{length, drop}
 use borrow.Author.Tests.{eq-eqb, ne_eqb}
 use Rattle.spec_limits.specs.Limits.{max_aliases}
@@ -22,8 +22,6 @@ use Rattle.spec_record.specs.Records.{records, book_refusal}
 use Rattle.spec_rule.specs.Aliases.{Alias, aliases, aliases_of}
 use Rattle.spec_session.specs.Meaning.{targets}
 use Rattle.spec_edit.specs.Edits.{touches_from}
-use Rattle.book_places.specs.declared.FirstRecord.{FirstRecord}
-use Rattle.book_places.specs.declared.FirstRecord.TheVariants.{At, Nothing}
 use Rattle.book_places.specs.Table.{table_of, is_alias_at}
 use Rattle.book_places.specs.Chains.{chains_of}
 use Rattle.book_places.specs.Onward.{onward_of}
@@ -38,7 +36,7 @@ no_targets : (n : ℕ) (al : List Alias) (x : Name) → aliases_of al x ≡ [] �
 no_targets zero al x e = refl
 no_targets (suc n) al x e = rw e refl
 
-module _ (book : List ℕ) (accepted : book_refusal book ≡ none) (o : Name) (owner-good : GoodName o) where
+module _ (book : List ℕ) (accepted : book_refusal book ≡ None) (o : Name) (owner-good : GoodName o) where
   abbrev al : List Alias
   al = aliases (records book)
 
@@ -50,12 +48,12 @@ module _ (book : List ℕ) (accepted : book_refusal book ≡ none) (o : Name) (o
   Led n y = any (same_name o) (targets n al y)
 
   abbrev Tells : ℕ → Type 0
-  Tells n = (y : Name) (good : GoodName y) (r : RecordNo) → head_of book accepted y good ≡ At r → within n r ≡ Led n y
+  Tells n = (y : Name) (good : GoodName y) (r : RecordNo) → head_of book accepted y good ≡ Some r → within n r ≡ Led n y
 
   -- from the first record of a name on, whatever it is
-  from_head : (n : ℕ) → Tells n → (t : Name) (good : GoodName t) (h : FirstRecord) → head_of book accepted t good ≡ h → if_found h (within n) ≡ Led n t
-  from_head n tells t good Nothing e = sym (rw (no_targets n al t (rw e at (head_says book accepted t good))) refl)
-  from_head n tells t good (At q) e = tells t good q e
+  from_head : (n : ℕ) → Tells n → (t : Name) (good : GoodName t) (h : Option RecordNo) → head_of book accepted t good ≡ h → if_found h (within n) ≡ Led n t
+  from_head n tells t good None e = sym (rw (no_targets n al t (rw e at (head_says book accepted t good))) refl)
+  from_head n tells t good (Some q) e = tells t good q e
 
   leads_told : (n : ℕ) → Tells n
   leads_told zero y good r e = refl

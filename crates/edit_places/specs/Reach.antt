@@ -1,19 +1,17 @@
 -- Whether an owner touches a name, found by the table, the chains and the column of aliases of a book. Names and the owner are in wire form.
-use Rattle.std.specs.Prelude.{ℕ, zero, suc, Bool, false, cond, ◌||◌, List, eqb, length, drop}
+use Rattle.std.specs.Prelude.{ℕ, zero, suc, Bool, false, cond, ◌||◌, List, eqb, length, drop, Option, Some, None}
 use Rattle.spec_limits.specs.Limits.{max_aliases}
 use Rattle.spec_refusal.specs.declared.RecordNo.{RecordNo}
 use Rattle.spec_octets.specs.Octets.{equal_ignoring_case}
 use Rattle.read_name.specs.Places.{parent_place}
 use Rattle.book_places.specs.declared.Kind.TheVariants.{CaaOrAlias}
-use Rattle.book_places.specs.declared.FirstRecord.{FirstRecord}
-use Rattle.book_places.specs.declared.FirstRecord.TheVariants.{At, Nothing}
 use Rattle.book_places.specs.Table.{data_at, is_alias_at}
 use Rattle.book_places.specs.Sets.{first_owned, onward_at}
 
 -- A test of a record that was found; false if none was.
-abbrev pub if_found : FirstRecord → (RecordNo → Bool) → Bool
-if_found Nothing test = false
-if_found (At r) test = test r
+abbrev pub if_found : Option RecordNo → (RecordNo → Bool) → Bool
+if_found None test = false
+if_found (Some r) test = test r
 
 module _ (book table links onward owner : List ℕ) where
   -- From record r on, at most n aliases are followed: whether one of them leads to the owner.

@@ -1,5 +1,6 @@
 -- A law for each way of edit_reach: one more alias followed, a name, and one name after the other upward.
-use Prim.Native.Nat.{ℕ, zero, suc, ◌+◌, ◌-◌, ◌≤◌, ◌<◌}
+use Rattle.std.specs.Prelude.{Option, Some, None}
+use Prim.Native.Nat.{ℕ, zero, suc, ◌+◌, ◌-◌, ◌≤◌}
 use native.Mathlib.Omega.{arith}
 use mathlib.Core.Path.{◌≡◌, refl, sym, ap, ◌∙◌}
 use mathlib.Core.Bool.{Bool, true, false, ◌||◌}
@@ -13,8 +14,6 @@ use Rattle.spec_octets.proofs.Walks.{rest_whole}
 use Rattle.read_name.specs.Places.{parent_place}
 use Rattle.read_name.proofs.Parents.{further}
 use Rattle.book_places.specs.declared.Kind.TheVariants.{CaaOrAlias}
-use Rattle.book_places.specs.declared.FirstRecord.{FirstRecord}
-use Rattle.book_places.specs.declared.FirstRecord.TheVariants.{At, Nothing}
 use Rattle.book_places.specs.Table.{data_at, is_alias_at}
 use Rattle.book_places.specs.Sets.{first_owned, onward_at}
 use Rattle.edit_places.specs.Reach.{if_found, leads_within, leads_to, touches_at, touched_from, name_touched}
@@ -56,17 +55,17 @@ module _ (book table links onward owner : List ℕ) (first : RecordNo) where
         pub leads_here : s ≡ true → true ≡ leads_to book table links onward owner first
         leads_here f = let (n, z, g) = one_less in sym (g ∙ ap (λ v. v || if_found (onward_at links onward r) (leads_within book table links onward owner n)) f)
 
-        module _ (f : s ≡ false) (o : FirstRecord) (next_is : o ≡ onward_at links onward r) where
+        module _ (f : s ≡ false) (o : Option RecordNo) (next_is : o ≡ onward_at links onward r) where
           onward_from : (n : ℕ) × (left ≡ suc n) × (leads_to book table links onward owner first ≡ if_found o (leads_within book table links onward owner n))
           onward_from =
               let (n, z, g) = one_less in
               let tail = leads_within book table links onward owner n in
               (n, z, g ∙ ap (λ v. v || if_found (onward_at links onward r) tail) f ∙ ap (λ q. if_found q tail) (sym next_is))
 
-          pub leads_nowhere : o ≡ Nothing → false ≡ leads_to book table links onward owner first
+          pub leads_nowhere : o ≡ None → false ≡ leads_to book table links onward owner first
           leads_nowhere k = let (n, z, g) = onward_from in sym (g ∙ ap (λ q. if_found q (leads_within book table links onward owner n)) k)
 
-          pub leads_on : (next : RecordNo) → o ≡ At next → Leading (left - 1) next.0
+          pub leads_on : (next : RecordNo) → o ≡ Some next → Leading (left - 1) next.0
           leads_on next k =
               let (n, z, g) = onward_from in
               let less : left - 1 ≡ n = omega arith in
@@ -78,12 +77,12 @@ module _ (book table links heads onward owner x : List ℕ) (s : Bool) (same : s
   unfolding touches_at
   is_owner e = rw (← same, e) refl
 
-  module _ (e : s ≡ false) (o : FirstRecord) (is : o ≡ first_owned CaaOrAlias book table links heads x) where
-    pub no_record_lem : o ≡ Nothing → false ≡ touches_at book table links onward owner heads x
+  module _ (e : s ≡ false) (o : Option RecordNo) (is : o ≡ first_owned CaaOrAlias book table links heads x) where
+    pub no_record_lem : o ≡ None → false ≡ touches_at book table links onward owner heads x
     unfolding touches_at
     no_record_lem f = rw (← same, e, ← is, f) refl
 
-    pub from_record : (r : RecordNo) (t : Bool) → o ≡ At r → t ≡ leads_to book table links onward owner r → t ≡ touches_at book table links onward owner heads x
+    pub from_record : (r : RecordNo) (t : Bool) → o ≡ Some r → t ≡ leads_to book table links onward owner r → t ≡ touches_at book table links onward owner heads x
     unfolding touches_at
     from_record r t f g = rw (← same, e, ← is, f) g
 

@@ -1,8 +1,8 @@
 -- What an answer that is the definition's says, by the theorems about the rule.
+use Rattle.std.specs.Prelude.{Option, None, Some}
 use Prim.Native.Nat.{ℕ}
 use mathlib.Core.Path.{◌≡◌, refl}
 use mathlib.Core.List.{List}
-use mathlib.Core.Option.{Option, none, some}
 use Rattle.spec_refusal.specs.declared.Refusal.{Refusal}
 use Rattle.spec_octets.specs.Octets.{Octets}
 use Rattle.spec_request.specs.Request.{requested_names}
@@ -27,8 +27,8 @@ module _ (request issuer : List ℕ) (who : Applicant) (book : List ℕ) where
       first_refusal (judge_checks request issuer who book) ≡ c →
       VerdictOn who (as_book (records book)) (requested_names request) issuer (judge request issuer who book)
   unfolding decisions
-  accepted o p empty none h = rw (judged none h) (verdict_by_the_rule who (as_book (records book)) (requested_names request) issuer)
-  accepted o p empty (some r) h = absurd (empty r ((judge_refusals request issuer who book o p r).0 (judged (some r) h)).0)
+  accepted o p empty None h = rw (judged None h) (verdict_by_the_rule who (as_book (records book)) (requested_names request) issuer)
+  accepted o p empty (Some r) h = absurd (empty r ((judge_refusals request issuer who book o p r).0 (judged (Some r) h)).0)
 
 pub answer_exactly : AnswerExactly
 answer_exactly request issuer who book o p answer e = (

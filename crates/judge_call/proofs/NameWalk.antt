@@ -1,11 +1,11 @@
 -- judge: its checks in their order, then name by name. With k names permitted, the names left from `at` on give the answer.
+use Rattle.std.specs.Prelude.{None, Result, Ok, Err, Option, Some}
 use Prim.Native.Nat.{ℕ, suc, ◌≤◌, ◌<◌, ◌+◌, ◌-◌}
 use native.Mathlib.Numerals.{add-one}
 use native.Mathlib.Omega.{arith}
 use mathlib.Core.Path.{◌≡◌, refl, sym, ap, ◌∙◌}
 use mathlib.Core.Bool.{Bool, true, false, cond}
 use mathlib.Core.List.{List, map}
-use mathlib.Core.Option.{none}
 use lib.ListN.{length, take, drop}
 use Rattle.spec_limits.specs.Limits.{max_names}
 use Rattle.spec_octets.specs.Lists.{All}
@@ -15,12 +15,8 @@ use Rattle.spec_refusal.proofs.Checked.{refused, accepted}
 use Rattle.spec_refusal.specs.declared.RecordNo.{RecordNo}
 use Rattle.spec_refusal.specs.declared.Refusal.{Refusal}
 use Rattle.spec_refusal.specs.declared.Refusal.TheVariants.{BadName}
-use Rattle.spec_refusal.specs.declared.Check.{Check}
-use Rattle.spec_refusal.specs.declared.Check.TheVariants.{Accepted, Refused as CheckRefused}
 use Rattle.spec_name.specs.Names.{Name, wire, GoodName}
 use Rattle.read_request.specs.declared.Requested.{Requested}
-use Rattle.read_request.specs.declared.RequestedRead.{RequestedRead}
-use Rattle.read_request.specs.declared.RequestedRead.TheVariants.{Good, Fault}
 use Rattle.spec_request.specs.Request.{is_wildcard, base, requested_names}
 use Rattle.read_request.specs.Places.{requested_at}
 use Rattle.read_request.proofs.RequestPlaces.{requested_there, next_after}
@@ -35,8 +31,6 @@ use Rattle.spec_rule.specs.Authorizations.{Authorization, authorization, permits
 use Rattle.spec_rule.specs.Verdicts.{Decision, decision, denied, verdict_from, verdict}
 use Rattle.spec_rule.specs.Calls.{decisions, first_refusal, judge_checks, judge}
 use Rattle.read_inputs.proofs.CheckLaws.{none_refuses}
-use Rattle.book_places.specs.declared.FirstRecord.{FirstRecord}
-use Rattle.book_places.specs.declared.FirstRecord.TheVariants.{At, Nothing}
 use Rattle.book_places.specs.declared.Nearest.{Nearest}
 use Rattle.book_places.specs.Table.{room_for}
 use Rattle.book_places.specs.Sets.{nearest_record, labels_off_at}
@@ -68,12 +62,12 @@ module _ (issuer : List ℕ) (k u : ℕ) (behind : Judgement) where
       go false f = f
 
 -- the checks that come before
-module _ (who : Applicant) (request issuer book : List ℕ) (c : Check) (f : c ≡ checked (first_refusal (judge_checks request issuer who book))) where
-  pub input_refused : (r : Refusal) → c ≡ CheckRefused r → Refused r ≡ judge request issuer who book
+module _ (who : Applicant) (request issuer book : List ℕ) (c : Result Unit Refusal) (f : c ≡ checked (first_refusal (judge_checks request issuer who book))) where
+  pub input_refused : (r : Refusal) → c ≡ Err r → Refused r ≡ judge request issuer who book
   unfolding judge
   input_refused r g = rw (refused (first_refusal (judge_checks request issuer who book)) f r g)
 
-  pub none_refused : c ≡ Accepted → first_refusal (judge_checks request issuer who book) ≡ none
+  pub none_refused : c ≡ (Ok tt) → first_refusal (judge_checks request issuer who book) ≡ None
   none_refused g = accepted (first_refusal (judge_checks request issuer who book)) f g
 
 module _ (who : Applicant) (request issuer book table links heads onward : List ℕ) where
@@ -88,10 +82,10 @@ module _ (who : Applicant) (request issuer book table links heads onward : List 
     pub ready : Ready who request issuer book table links heads onward
 
   module _ (ready : Ready who request issuer book table links heads onward) where
-    passes : All (λ check. check ≡ none) (judge_checks request issuer who book)
+    passes : All (λ check. check ≡ None) (judge_checks request issuer who book)
     passes = none_refuses (judge_checks request issuer who book) ready.accepted
 
-    book_passes : book_refusal book ≡ none
+    book_passes : book_refusal book ≡ None
     book_passes = All-head (All-tail (All-tail (All-tail passes)))
 
     pub names_start : (at k : ℕ) → at ≡ 0 → k ≡ 0 → Judged at k
@@ -128,11 +122,11 @@ module _ (who : Applicant) (request issuer book table links heads onward : List 
       pub few : k < max_names
       few = names_few request w.left h
 
-      module _ (o : RequestedRead) (f : o ≡ requested_at request at) where
-        pub no_bad_name : o ≡ Fault → Refused (BadName (record { 0 = k })) ≡ judge request issuer who book
+      module _ (o : Option Requested) (f : o ≡ requested_at request at) where
+        pub no_bad_name : o ≡ None → Refused (BadName (record { 0 = k })) ≡ judge request issuer who book
         no_bad_name g = absurd (names_good request w.left h o f g)
 
-        module _ (r : Requested) (g : o ≡ Good r) where
+        module _ (r : Requested) (g : o ≡ Some r) where
           pub base_first : r.base ≤ r.next
           base_first = let (n, to) = requested_there request at o f r g in omega (arith, to.onward)
 
@@ -153,7 +147,7 @@ module _ (who : Applicant) (request issuer book table links heads onward : List 
             abbrev behind : Judgement
             behind = verdict_from (suc k) issuer (map decided this.others)
 
-            abbrev by : FirstRecord → Authorization
+            abbrev by : Option RecordNo → Authorization
             by first = meaning who book table links (by_set book table links r.wildcard first)
 
             found_there : p.found ≡ nearest_record book table links heads onward (take (r.next - r.base) (drop r.base request))
@@ -162,7 +156,7 @@ module _ (who : Applicant) (request issuer book table links heads onward : List 
             off_there : p.up ≡ labels_off (as_book (records book)) (base this.first)
             off_there = ap (λ (q : Nearest). q.up) d ∙ off_by_table w.ready this.first this.good this.octets
 
-            by_name : (first : FirstRecord) → p.found ≡ first → judge request issuer who book ≡ cond (permits issuer (by first)) behind (denied k p.up (by first))
+            by_name : (first : Option RecordNo) → p.found ≡ first → judge request issuer who book ≡ cond (permits issuer (by first)) behind (denied k p.up (by first))
             unfolding name_authorization decision
             by_name first e =
                 w.answer ∙ ap (λ ns. verdict_from k issuer (map decided ns)) this.split
@@ -173,10 +167,10 @@ module _ (who : Applicant) (request issuer book table links heads onward : List 
             passed : judge request issuer who book ≡ behind → (k' : ℕ) → k' ≡ k + 1 → Judged r.next k'
             passed e k' i = rw (i, add-one) (record { names = this.others; left = this.after; answer = e; ready = w.ready })
 
-            pub name_unrestricted : p.found ≡ Nothing → (k' : ℕ) → k' ≡ k + 1 → Judged r.next k'
-            name_unrestricted e = passed (by_name Nothing e)
+            pub name_unrestricted : p.found ≡ None → (k' : ℕ) → k' ≡ k + 1 → Judged r.next k'
+            name_unrestricted e = passed (by_name None e)
 
-            module _ (set : RecordNo) (e : p.found ≡ At set) where
+            module _ (set : RecordNo) (e : p.found ≡ Some set) where
               pub set_below : set.0 < room_for book
               set_below =
                   omega (arith, rw (sym found_there ∙ e) at (nearest_below links book table heads onward (take (r.next - r.base) (drop r.base request))), ap length w.ready.chained, (chains_fit book).0)
@@ -185,9 +179,9 @@ module _ (who : Applicant) (request issuer book table links heads onward : List 
               module _ (j : Judgement) where
                 pub name_denied : j ≡ verdict_by_set who issuer book table links k set p.up r.wildcard → NotPermitted j → j ≡ judge request issuer who book
                 unfolding verdict_by_set
-                name_denied q h = denies_it issuer k p.up behind (by (At set)) j q h ∙ sym (by_name (At set) e)
+                name_denied q h = denies_it issuer k p.up behind (by (Some set)) j q h ∙ sym (by_name (Some set) e)
 
                 pub name_permitted :
                     (u : ℕ) → j ≡ verdict_by_set who issuer book table links k set u r.wildcard → j ≡ Permitted → (k' : ℕ) → k' ≡ k + 1 → Judged r.next k'
                 unfolding verdict_by_set
-                name_permitted u q h = passed (by_name (At set) e ∙ rw (permits_it issuer k u (by (At set)) (sym h ∙ q)))
+                name_permitted u q h = passed (by_name (Some set) e ∙ rw (permits_it issuer k u (by (Some set)) (sym h ∙ q)))

@@ -1,19 +1,20 @@
 -- What is made for a call: the table, the chains and the column of aliases are those of the book.
+use Rattle.std.specs.Prelude.{None}
 use Prim.Native.Nat.{ℕ, ◌*◌, ◌≤◌, ◌<◌}
-use mathlib.Core.Path.{◌≡◌, refl}
+use native.Mathlib.Omega.{arith}
+use mathlib.Core.Path.{◌≡◌, refl, sym}
 use mathlib.Core.Bool.{Bool, false}
 use mathlib.Core.List.{List}
-use mathlib.Core.Option.{none}
 use lib.ListN.{length, replicate}
 use Rattle.spec_limits.specs.Limits.{max_records}
 use Rattle.spec_applicant.specs.Applicant.{Applicant}
 use Rattle.spec_rule.specs.Calls.{first_refusal, judge_checks}
-use Rattle.book_places.specs.Table.{few_records, short_book}
+use Rattle.book_places.specs.Table.{few_records, short_book, room_for}
 use Rattle.book_places.specs.Chains.{no_record}
-use Rattle.book_places.proofs.StandingRecords.{room_short, room_long}
+use Rattle.book_places.proofs.StandingRecords.{room_short, room_long, room_enough}
 use Rattle.book_fill.specs.Filled.{filled_table}
 use Rattle.book_index.specs.Indexes.{indexed_chains, indexed_onward}
-use Rattle.book_index.proofs.Indexed.{table_of_book, links_of_book, heads_of_book, onward_of_book, blank_short, blank_long}
+use Rattle.book_index.proofs.Indexed.{table_of_book, links_of_book, heads_of_book, onward_of_book}
 use Rattle.judge_call.specs.Asked.{Ready, Asked, Lent, HeadsLent}
 use Rattle.judge_call.proofs.AskedLaws.{none_asked}
 
@@ -36,25 +37,30 @@ module _ (who : Applicant) (request issuer book : List ℕ) where
     none_asked who issuer book table links asked lent.unasked,
   )
 
-  pub heads_lent : first_refusal (judge_checks request issuer who book) ≡ none → HeadsLent who request issuer book (replicate max_records no_record)
+  pub heads_lent : first_refusal (judge_checks request issuer who book) ≡ None → HeadsLent who request issuer book (replicate max_records no_record)
   heads_lent h = record { accepted = h; headed = refl }
 
   -- by the sizes of the arrays
   module _ (heads : List ℕ) (lent : HeadsLent who request issuer book heads) (m k n : ℕ) where
-    pub lent_short :
-        length book ≤ short_book → m ≡ 6 * few_records → k ≡ few_records → n ≡ 2 * few_records →
+    pub lent_sized :
+        (k ≡ room_for book) × (m ≡ 6 * k) × (n ≡ 2 * k) →
         Lent who request issuer book (replicate m 0) (replicate k no_record) heads (replicate k no_record) (replicate n false)
-    lent_short h rows links notes = record {
+    lent_sized (records, cells, questions) = record {
       accepted = lent.accepted;
-      blank = blank_short book m k heads lent.headed h rows links;
-      unasked = rw (notes, room_short book h);
+      blank = rw (cells, records) (record { rows = refl; chained = refl; headed = lent.headed; pointing = refl });
+      unasked = rw (questions, records);
     }
 
-    pub lent_long :
-        short_book < length book → m ≡ 6 * max_records → k ≡ max_records → n ≡ 2 * max_records →
-        Lent who request issuer book (replicate m 0) (replicate k no_record) heads (replicate k no_record) (replicate n false)
-    lent_long h rows links notes = record {
-      accepted = lent.accepted;
-      blank = blank_long book m k heads lent.headed h rows links;
-      unasked = rw (notes, room_long book h);
-    }
+-- the table is far smaller than the memory
+module _ (book : List ℕ) (m k n : ℕ) (sizes : (k ≡ room_for book) × (m ≡ 6 * k) × (n ≡ 2 * k)) where
+  pub cells_fit : m * 2 < 9223372036854775808
+  unfolding max_records
+  cells_fit = omega (arith, (room_enough book).1, sizes.0, sizes.1)
+
+-- a short book, and any other
+module _ (book : List ℕ) where
+  pub few_fit : length book ≤ short_book → few_records ≡ room_for book
+  few_fit h = sym (room_short book h)
+
+  pub all_fit : short_book < length book → max_records ≡ room_for book
+  all_fit h = sym (room_long book h)

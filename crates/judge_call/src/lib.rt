@@ -1,17 +1,17 @@
 // May this issuer issue for every name of the request, for this account and by this method? This is the call that judges.
 #![tactic(auto)]
 
-ghost use Rattle.std.specs.Prelude.{◌≡◌, ◌≤◌, ◌<◌, length};
-ghost use Rattle.std.proofs.Math.Option.{none};
+ghost use Rattle.std.specs.Prelude.{◌≡◌, ◌*◌, ◌<◌};
 ghost use Rattle.spec_rule.specs.Calls.{first_refusal, judge_checks, judge};
 ghost use Rattle.judge_set.specs.BySet.{verdict_by_set};
 ghost use Rattle.judge_call.specs.Asked.{Ready, Asked, Lent, HeadsLent};
-ghost use Rattle.book_places.specs.Table.{short_book, room_for};
+ghost use Rattle.book_places.specs.Table.{room_for};
+ghost use Rattle.spec_applicant.specs.Applicants.{texts};
 
-use book_places::{END, FEW_RECORDS, FirstRecord, SHORT_BOOK, SHORT_TABLE, TABLE};
-use read_request::RequestedRead;
+use book_places::{END, FEW_RECORDS, Index, SHORT_BOOK, SHORT_TABLE, TABLE};
+use spec_applicant::Applicant;
 use spec_limits::MAX_RECORDS;
-use spec_refusal::{Check, NameNo, RecordNo, Refusal};
+use spec_refusal::{NameNo, RecordNo, Refusal};
 use spec_rule::{Judgement, LabelsOff};
 
 // Two notes for each record: the set that begins with this record permits the issuer for X; and it does so for *.X.
@@ -22,28 +22,23 @@ const SHORT_NOTES: usize = 2 * FEW_RECORDS;
 // Judges one name by its relevant set, and notes if the set permits the issuer. Where that is noted already, the set is not asked again.
 fn judge_once(
     issuer: &[u8],
-    account: &[u8],
-    method: &[u8],
-    book: &[u8],
-    table: &[u16],
-    links: &[u16],
+    applicant: Applicant,
+    index: Index,
     name: NameNo,
     set: RecordNo,
     up: LabelsOff,
     wildcard: bool,
     asked: &mut [bool],
 ) -> Judgement
-    requires { Asked (record { account = account.now; method = method.now }) issuer.now book.now table.now links.now asked.old × (set.0 < room_for book.now) }
-    ensures answer { result ≡ verdict_by_set (record { account = account.entry.now; method = method.now }) issuer.now book.now table.now links.now name.0 set up.0 wildcard }
-    ensures notes { Asked (record { account = account.entry.now; method = method.now }) issuer.now book.now table.now links.now asked.new }
+    requires { Asked (texts applicant) issuer.now index.book.now index.table.now index.links.now asked.old × (set.0 < room_for index.book.now) }
+    ensures answer { result ≡ verdict_by_set (texts applicant.entry) issuer.now index.entry.book.now index.entry.table.now index.entry.links.now name.0 set up.0 wildcard }
+    ensures notes { Asked (texts applicant.entry) issuer.now index.entry.book.now index.entry.table.now index.entry.links.now asked.new }
 {
     let question = book_authorization::question_number(set, wildcard);
     if asked[question] {
         return Judgement::Permitted;
     }
-    let judgement = judge_set::judge_by_set(
-        issuer, account, method, book, table, links, name, set, up, wildcard,
-    );
+    let judgement = judge_set::judge_by_set(issuer, applicant, index, name, set, up, wildcard);
     let Judgement::Permitted = judgement else {
         return judgement;
     };
@@ -55,42 +50,32 @@ fn judge_once(
 fn judge_names(
     request: &[u8],
     issuer: &[u8],
-    account: &[u8],
-    method: &[u8],
-    book: &[u8],
-    table: &[u16],
-    links: &[u16],
-    heads: &[u16],
+    applicant: Applicant,
+    index: Index,
     onward: &[u16],
     asked: &mut [bool],
 ) -> Judgement
-    requires { Ready (record { account = account.now; method = method.now }) request.now issuer.now book.now table.now links.now heads.now onward.now × Asked (record { account = account.now; method = method.now }) issuer.now book.now table.now links.now asked.old }
-    ensures { result ≡ judge request.now issuer.now (record { account = account.entry.now; method = method.now }) book.now }
+    requires { Ready (texts applicant) request.now issuer.now index.book.now index.table.now index.links.now index.heads.now onward.now × Asked (texts applicant) issuer.now index.book.now index.table.now index.links.now asked.old }
+    ensures { result ≡ judge request.now issuer.now (texts applicant.entry) index.entry.book.now }
 {
     let mut at: usize = 0;
     let mut k: usize = 0;
     while at < request.len() {
         // An accepted request doesn't get here: its names are all good. A bad name would be refused.
-        let RequestedRead::Good(n) = read_request::requested_name(request, at) else {
+        let Some(n) = read_request::requested_name(request, at) else {
             return Judgement::Refused(Refusal::BadName(NameNo(k)));
         };
-        let base = n.base;
-        let next = n.next;
         let name = NameNo(k);
-        at = next;
+        let nearest = book_climb::nearest(index, onward, &request[n.base..n.next]);
+        at = n.next;
         k += 1;
-        let nearest = book_climb::nearest(book, table, links, heads, onward, &request[base..next]);
-        let found = nearest.found;
-        let FirstRecord::At(set) = found else {
+        let Some(set) = nearest.found else {
             continue;
         };
         let judgement = judge_once(
             issuer,
-            account,
-            method,
-            book,
-            table,
-            links,
+            applicant,
+            index,
             name,
             set,
             LabelsOff(nearest.up),
@@ -109,8 +94,7 @@ fn judge_names(
 fn judge_in(
     request: &[u8],
     issuer: &[u8],
-    account: &[u8],
-    method: &[u8],
+    applicant: Applicant,
     book: &[u8],
     table: &mut [u16],
     links: &mut [u16],
@@ -118,66 +102,39 @@ fn judge_in(
     onward: &mut [u16],
     asked: &mut [bool],
 ) -> Judgement
-    requires { Lent (record { account = account.now; method = method.now }) request.now issuer.now book.now table.old links.old heads.old onward.old asked.old }
-    ensures { result ≡ judge request.now issuer.now (record { account = account.entry.now; method = method.now }) book.now }
+    requires { Lent (texts applicant) request.now issuer.now book.now table.old links.old heads.old onward.old asked.old }
+    ensures { result ≡ judge request.now issuer.now (texts applicant.entry) book.now }
 {
     book_index::index_book(book, table, links, heads, onward);
-    judge_names(
-        request, issuer, account, method, book, table, links, heads, onward, asked,
-    )
-}
-
-// For a short book small arrays are enough, and are cleared faster.
-fn judge_short(
-    request: &[u8],
-    issuer: &[u8],
-    account: &[u8],
-    method: &[u8],
-    book: &[u8],
-    heads: &mut [u16],
-) -> Judgement
-    requires { HeadsLent (record { account = account.now; method = method.now }) request.now issuer.now book.now heads.old × (length book.now ≤ short_book) }
-    ensures { result ≡ judge request.now issuer.now (record { account = account.entry.now; method = method.now }) book.now }
-{
-    let mut table = [0u16; SHORT_TABLE];
-    let mut links = [END; FEW_RECORDS];
-    let mut onward = [END; FEW_RECORDS];
-    let mut asked = [false; SHORT_NOTES];
-    judge_in(
-        request,
-        issuer,
-        account,
-        method,
+    let index = Index {
         book,
-        &mut table,
-        &mut links,
+        table,
+        links,
         heads,
-        &mut onward,
-        &mut asked,
-    )
+    };
+    judge_names(request, issuer, applicant, index, onward, asked)
 }
 
-// For any other book.
-fn judge_long(
+// Judges with arrays for so many records. A table has six numbers for each record, and there are two questions for each.
+fn judge_with<const RECORDS: usize, const CELLS: usize, const QUESTIONS: usize>(
     request: &[u8],
     issuer: &[u8],
-    account: &[u8],
-    method: &[u8],
+    applicant: Applicant,
     book: &[u8],
     heads: &mut [u16],
 ) -> Judgement
-    requires { HeadsLent (record { account = account.now; method = method.now }) request.now issuer.now book.now heads.old × (short_book < length book.now) }
-    ensures { result ≡ judge request.now issuer.now (record { account = account.entry.now; method = method.now }) book.now }
+    requires lent { HeadsLent (texts applicant) request.now issuer.now book.now heads.old }
+    requires sizes { (RECORDS ≡ room_for book.now) × (CELLS ≡ 6 * RECORDS) × (QUESTIONS ≡ 2 * RECORDS) }
+    ensures { result ≡ judge request.now issuer.now (texts applicant.entry) book.now }
 {
-    let mut table = [0u16; TABLE];
-    let mut links = [END; MAX_RECORDS];
-    let mut onward = [END; MAX_RECORDS];
-    let mut asked = [false; NOTES];
+    let mut table = [0u16; CELLS];
+    let mut links = [END; RECORDS];
+    let mut onward = [END; RECORDS];
+    let mut asked = [false; QUESTIONS];
     judge_in(
         request,
         issuer,
-        account,
-        method,
+        applicant,
         book,
         &mut table,
         &mut links,
@@ -188,29 +145,26 @@ fn judge_long(
 }
 
 // Judges accepted inputs.
-fn judge_accepted(
-    request: &[u8],
-    issuer: &[u8],
-    account: &[u8],
-    method: &[u8],
-    book: &[u8],
-) -> Judgement
-    requires { first_refusal (judge_checks request.now issuer.now (record { account = account.now; method = method.now }) book.now) ≡ none }
-    ensures { result ≡ judge request.now issuer.now (record { account = account.entry.now; method = method.now }) book.now }
+fn judge_accepted(request: &[u8], issuer: &[u8], applicant: Applicant, book: &[u8]) -> Judgement
+    requires { first_refusal (judge_checks request.now issuer.now (texts applicant) book.now) ≡ None }
+    ensures { result ≡ judge request.now issuer.now (texts applicant.entry) book.now }
 {
     let mut heads = [END; MAX_RECORDS];
     if book.len() <= SHORT_BOOK {
-        return judge_short(request, issuer, account, method, book, &mut heads);
+        // Small arrays have room for the few records of a short book, and are cleared faster.
+        return judge_with::<FEW_RECORDS, SHORT_TABLE, SHORT_NOTES>(
+            request, issuer, applicant, book, &mut heads,
+        );
     }
-    judge_long(request, issuer, account, method, book, &mut heads)
+    judge_with::<MAX_RECORDS, TABLE, NOTES>(request, issuer, applicant, book, &mut heads)
 }
 
 // Checks the inputs in the order of the table of refusals, then judges.
-pub fn judge(request: &[u8], issuer: &[u8], account: &[u8], method: &[u8], book: &[u8]) -> Judgement
-    ensures { result ≡ judge request.now issuer.now (record { account = account.entry.now; method = method.now }) book.now }
+pub fn judge(request: &[u8], issuer: &[u8], applicant: Applicant, book: &[u8]) -> Judgement
+    ensures { result ≡ judge request.now issuer.now (texts applicant.entry) book.now }
 {
-    if let Check::Refused(r) = read_inputs::check_inputs(request, issuer, account, method, book) {
+    if let Err(r) = read_inputs::check_inputs(request, issuer, applicant, book) {
         return Judgement::Refused(r);
     }
-    judge_accepted(request, issuer, account, method, book)
+    judge_accepted(request, issuer, applicant, book)
 }

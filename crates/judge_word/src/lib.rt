@@ -11,13 +11,11 @@ use spec_rule::{Denial, Judgement};
 fn pack_denial(number: u64, d: Denial) -> u64
     ensures { result ≡ packed number d.name.0 d.rr.0 d.up.0 }
 {
-    let name = d.name;
-    let rr = d.rr;
-    let up = d.up;
-    spec_packed::pack(number, name.0 as u64, rr.0 as u64, up.0 as u64)
+    spec_packed::pack(number, d.name.0 as u64, d.rr.0 as u64, d.up.0 as u64)
 }
 
 // 0: permitted. 20, 21 and 22: name number in a, record number in b, labels taken off in c. A refusal: its place (spec_refusal) in a.
+#[tactic(auto, unfolding(spec_answers::specs::Answers::packed_judgement, spec_rule::specs::Calls::judgement_code, spec_packed::specs::Packed::packed_refusal))]
 pub fn pack_judgement(j: Judgement) -> u64
     ensures { result ≡ packed_judgement j }
 {

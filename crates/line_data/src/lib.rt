@@ -6,31 +6,22 @@ ghost use Rattle.spec_limits.specs.Limits.{max_tag_octets};
 ghost use Rattle.spec_octets.specs.Buffer.{Put};
 ghost use Rattle.line_data.specs.Places.{unescaped_count, is_escaped_text, unescaped_octets, data_head, data_of, write_data};
 
-use line_octet::{Style, WrittenOctetRead};
+use line_octet::Style;
 use spec_limits::{MAX_DATA_OCTETS, MAX_TAG_OCTETS};
-use spec_line::LineAnswer;
 use spec_refusal::Refusal;
 
 // How many octets the value has.
-#[derive(Clone, Copy)]
-enum UnescapedCount {
-    Units(usize),
-    Fault,
-}
-
-fn count_unescaped(s: &[u8], style: Style) -> UnescapedCount
+fn count_unescaped(s: &[u8], style: Style) -> Option<usize>
     ensures { result ≡ unescaped_count style s.now }
 {
     let mut at: usize = 0;
     let mut n: usize = 0;
     while at < s.len() {
-        let WrittenOctetRead::Good(u) = line_octet::read_written_octet(s, at, style) else {
-            return UnescapedCount::Fault;
-        };
+        let u = line_octet::read_written_octet(s, at, style)?;
         at = u.next;
         n += 1;
     }
-    UnescapedCount::Units(n)
+    Some(n)
 }
 
 // Writes the value that the written octets stand for.
@@ -42,7 +33,7 @@ fn put_unescaped(s: &[u8], style: Style, out: &mut [u8]) -> usize
     let mut at: usize = 0;
     let mut w: usize = 0;
     while at < s.len() {
-        let WrittenOctetRead::Good(u) = line_octet::read_written_octet(s, at, style) else {
+        let Some(u) = line_octet::read_written_octet(s, at, style) else {
             return w;
         };
         out[w] = u.octet;
@@ -82,23 +73,21 @@ pub fn write_data(
     units: &[u8],
     style: Style,
     buffer: &mut [u8],
-) -> LineAnswer
+) -> Result<usize, Refusal>
     ensures answer { result ≡ (write_data flags tag.now style units.now buffer.old).answer }
     ensures octets { buffer.new ≡ (write_data flags tag.now style units.now buffer.old).buffer }
 {
     if MAX_TAG_OCTETS < tag.len() {
-        return LineAnswer::Refused(Refusal::BadLine);
+        return Err(Refusal::BadLine);
     }
-    let UnescapedCount::Units(k) = count_unescaped(units, style) else {
-        return LineAnswer::Refused(Refusal::BadLine);
-    };
+    let k = count_unescaped(units, style).ok_or(Refusal::BadLine)?;
     if MAX_DATA_OCTETS - 2 - tag.len() < k {
-        return LineAnswer::Refused(Refusal::LineTooLong);
+        return Err(Refusal::LineTooLong);
     }
     let size = 2 + tag.len() + k;
     if buffer.len() < size {
-        return LineAnswer::Refused(Refusal::NoRoom(size));
+        return Err(Refusal::NoRoom(size));
     }
     put_data(flags, tag, units, style, buffer);
-    LineAnswer::Length(size)
+    Ok(size)
 }

@@ -1,15 +1,12 @@
 -- One octet of a value, escaped and written at the start of a buffer.
 use Prim.Native.Nat.{ℕ, ◌+◌, ◌-◌, ◌≤◌, ◌<◌}
 use native.Mathlib.Omega.{arith}
-use mathlib.Core.Path.{◌≡◌, refl}
+use mathlib.Core.Path.{◌≡◌}
 use mathlib.Core.Logic.{◌⊎◌, inl, inr}
-use mathlib.Core.Bool.{Bool, true, false, cond, ◌||◌}
-use mathlib.Core.List.{List, [], ◌∷◌, ◌++◌}
-use lib.Dec.{eqb}
+use mathlib.Core.List.{List, ◌++◌}
 use lib.ListN.{length, take, drop, set, length-set}
 use mir.Syntax.{w64}
 use mir.Val.{Fits}
-use Rattle.spec_octets.specs.Octets.{between}
 use Rattle.spec_octets.specs.Buffer.{Put, filled, filled_length}
 use Rattle.text_buffer.proofs.Filled.{no_room_answer, no_room_octets, put_answer, put_octets, put_room}
 use Rattle.text_buffer.proofs.LentRest.{rest_room, put_one, put_two, put_more}

@@ -6,22 +6,15 @@ ghost use Rattle.spec_octets.specs.Buffer.{filled, filled_length};
 ghost use Rattle.spec_line.specs.Written.{escaped};
 
 // How many octets one octet of a value takes in quotes.
+#[tactic(auto, unfolding(spec_line::specs::Written::escaped))]
 pub fn escaped_length(octet: u8) -> usize
     ensures { result ≡ length (escaped octet) }
 {
-    if octet == b'"' {
-        return 2;
+    match octet {
+        b'"' | b'\\' => 2,
+        32..=126 => 1,
+        _ => 4,
     }
-    if octet == b'\\' {
-        return 2;
-    }
-    if octet < 32 {
-        return 4;
-    }
-    if 126 < octet {
-        return 4;
-    }
-    1
 }
 
 // Writes one octet of a value as it is in quotes, and returns how many octets that took. If they don't fit, nothing is written and 0 is

@@ -25,21 +25,15 @@ pub struct FieldAt {
     pub next: usize,
 }
 
-#[derive(Clone, Copy)]
-pub enum FieldRead {
-    Good(FieldAt),
-    Fault,
-}
-
 // The field that begins at offset `at`; a fault if no white space follows it.
-pub fn read_field(s: &[u8], at: usize) -> FieldRead
+pub fn read_field(s: &[u8], at: usize) -> Option<FieldAt>
     ensures { result ≡ field_at s.now at }
 {
     let end = field_end(s, at);
     if s.len() <= end {
-        return FieldRead::Fault;
+        return None;
     }
     let rest = text_classes::trim_start(&s[end..]);
     let next = s.len() - rest.len();
-    FieldRead::Good(FieldAt { end, next })
+    Some(FieldAt { end, next })
 }

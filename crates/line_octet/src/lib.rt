@@ -5,9 +5,7 @@ ghost use Rattle.std.specs.Prelude.{◌≡◌};
 ghost use Rattle.spec_line.specs.Read.{is_in_quotes, is_bare};
 ghost use Rattle.line_octet.specs.Places.{plain_in, escape_at, written_octet_at};
 
-use text_decimal::OctetRead;
-
-// How a value is written: in quotes, or bare.
+// How a value is written: in quotes, or bare. The reader of a value hands it on in its answer, so it is a value and not a closure.
 #[derive(Clone, Copy)]
 pub enum Style {
     Quoted,
@@ -15,37 +13,18 @@ pub enum Style {
 }
 
 // The octets that need no escape: in quotes, and bare.
+#[tactic(auto, unfolding(spec_line::specs::Read::is_in_quotes))]
 fn is_in_quotes(b: u8) -> bool
     ensures { result ≡ is_in_quotes b }
 {
-    if b < 32 {
-        return false;
-    }
-    if 126 < b {
-        return false;
-    }
-    if b == b'"' {
-        return false;
-    }
-    b != b'\\'
+    32 <= b && b <= 126 && b != b'"' && b != b'\\'
 }
 
+#[tactic(auto, using(crate::proofs::UnitPlaces::bare_in_quotes), unfolding(spec_line::specs::Read::is_bare))]
 fn is_bare(b: u8) -> bool
     ensures { result ≡ is_bare b }
 {
-    if b < 33 {
-        return false;
-    }
-    if b == b';' {
-        return false;
-    }
-    if b == b'(' {
-        return false;
-    }
-    if b == b')' {
-        return false;
-    }
-    is_in_quotes(b)
+    33 <= b && b != b';' && b != b'(' && b != b')' && is_in_quotes(b)
 }
 
 fn stands_for_itself(b: u8, style: Style) -> bool
@@ -64,55 +43,41 @@ pub struct WrittenOctetAt {
     pub next: usize,
 }
 
-#[derive(Clone, Copy)]
-pub enum WrittenOctetRead {
-    Good(WrittenOctetAt),
-    Fault,
-}
-
 // What follows a backslash: three digits up to 255, or a non-digit 32 to 126.
-fn read_escape(s: &[u8], at: usize) -> WrittenOctetRead
+fn read_escape(s: &[u8], at: usize) -> Option<WrittenOctetAt>
     ensures { result ≡ escape_at s.now at }
 {
-    if s.len() <= at {
-        return WrittenOctetRead::Fault;
-    }
-    let x = s[at];
+    let x = *s.get(at)?;
     if text_ascii::is_digit(x) {
         if s.len() - at < 3 {
-            return WrittenOctetRead::Fault;
+            return None;
         }
-        let next: usize = at + 3;
-        let OctetRead::Good(octet) = text_decimal::decimal_octet(&s[at..next]) else {
-            return WrittenOctetRead::Fault;
-        };
-        return WrittenOctetRead::Good(WrittenOctetAt { octet, next });
+        let next = at + 3;
+        let octet = text_decimal::decimal_octet(&s[at..next])?;
+        return Some(WrittenOctetAt { octet, next });
     }
     if x < 32 {
-        return WrittenOctetRead::Fault;
+        return None;
     }
     if 126 < x {
-        return WrittenOctetRead::Fault;
+        return None;
     }
-    WrittenOctetRead::Good(WrittenOctetAt {
+    Some(WrittenOctetAt {
         octet: x,
         next: at + 1,
     })
 }
 
-pub fn read_written_octet(s: &[u8], at: usize, style: Style) -> WrittenOctetRead
+pub fn read_written_octet(s: &[u8], at: usize, style: Style) -> Option<WrittenOctetAt>
     ensures { result ≡ written_octet_at style s.now at }
 {
-    if s.len() <= at {
-        return WrittenOctetRead::Fault;
-    }
-    let x = s[at];
-    let next: usize = at + 1;
+    let x = *s.get(at)?;
+    let next = at + 1;
     if x == b'\\' {
-        return read_escape(s, next);
+        read_escape(s, next)
+    } else if stands_for_itself(x, style) {
+        Some(WrittenOctetAt { octet: x, next })
+    } else {
+        None
     }
-    if !stands_for_itself(x, style) {
-        return WrittenOctetRead::Fault;
-    }
-    WrittenOctetRead::Good(WrittenOctetAt { octet: x, next })
 }

@@ -5,23 +5,15 @@ ghost use Rattle.std.specs.Prelude.{◌≡◌};
 ghost use Rattle.spec_line.specs.Read.{is_line_tag};
 ghost use Rattle.line_parts.specs.Places.{line_at, line_value_at};
 
-use line_fields::FieldRead;
 use line_octet::Style;
 use spec_limits::MAX_TAG_OCTETS;
 use text_classes::Class;
-use text_decimal::OctetRead;
 
 // 1 to 255 letters and digits.
 fn is_line_tag(t: &[u8]) -> bool
     ensures { result ≡ is_line_tag t.now }
 {
-    if t.len() == 0 {
-        return false;
-    }
-    if MAX_TAG_OCTETS < t.len() {
-        return false;
-    }
-    text_classes::all_of(t, Class::LetterOrDigit)
+    t.len() != 0 && t.len() <= MAX_TAG_OCTETS && text_classes::all_of(t, Class::LetterOrDigit)
 }
 
 // The flags of a line, the offsets where its tag begins and ends, and the offset of its value.
@@ -33,32 +25,20 @@ pub struct LineAt {
     pub value: usize,
 }
 
-#[derive(Clone, Copy)]
-pub enum LineRead {
-    Good(LineAt),
-    Fault,
-}
-
 // Reads the fields of a line and checks flags and tag.
-pub fn read_fields(s: &[u8]) -> LineRead
+pub fn read_fields(s: &[u8]) -> Option<LineAt>
     ensures { result ≡ line_at s.now }
 {
-    let FieldRead::Good(f) = line_fields::read_field(s, 0) else {
-        return LineRead::Fault;
-    };
+    let f = line_fields::read_field(s, 0)?;
     let e = f.end;
-    let OctetRead::Good(flags) = text_decimal::decimal_octet(&s[..e]) else {
-        return LineRead::Fault;
-    };
+    let flags = text_decimal::decimal_octet(&s[..e])?;
     let tag = f.next;
-    let FieldRead::Good(t) = line_fields::read_field(s, tag) else {
-        return LineRead::Fault;
-    };
+    let t = line_fields::read_field(s, tag)?;
     let end = t.end;
     if !is_line_tag(&s[tag..end]) {
-        return LineRead::Fault;
+        return None;
     }
-    LineRead::Good(LineAt {
+    Some(LineAt {
         flags,
         tag,
         end,
@@ -74,35 +54,29 @@ pub struct LineValueAt {
     pub style: Style,
 }
 
-#[derive(Clone, Copy)]
-pub enum LineValueRead {
-    Good(LineValueAt),
-    Fault,
-}
-
 // A value in quotes, or a bare one that is not empty.
-pub fn read_line_value(v: &[u8]) -> LineValueRead
+pub fn read_line_value(v: &[u8]) -> Option<LineValueAt>
     ensures { result ≡ line_value_at v.now }
 {
     let n = v.len();
     if n == 0 {
-        return LineValueRead::Fault;
+        return None;
     }
     if v[0] != b'"' {
-        return LineValueRead::Good(LineValueAt {
+        return Some(LineValueAt {
             from: 0,
             end: n,
             style: Style::Bare,
         });
     }
     if n == 1 {
-        return LineValueRead::Fault;
+        return None;
     }
     let end: usize = n - 1;
     if v[end] != b'"' {
-        return LineValueRead::Fault;
+        return None;
     }
-    LineValueRead::Good(LineValueAt {
+    Some(LineValueAt {
         from: 1,
         end,
         style: Style::Quoted,

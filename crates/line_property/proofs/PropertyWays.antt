@@ -1,4 +1,5 @@
 -- The returns of write_property: what write_property is at each, from what the code has found.
+use Rattle.std.specs.Prelude.{Ok}
 use Prim.Native.Nat.{ℕ, ◌≤◌, ◌<◌}
 use mathlib.Core.Path.{◌≡◌, ◌∙◌}
 use mathlib.Core.Bool.{and-false}
@@ -8,7 +9,6 @@ use borrow.Author.Tests.{le-leb, lt-leb}
 use Rattle.spec_limits.specs.Limits.{max_data_octets}
 use Rattle.spec_refusal.specs.declared.Refusal.TheVariants.{NoRoom, LineTooLong}
 use Rattle.spec_octets.specs.Buffer.{Put}
-use Rattle.spec_line.specs.declared.LineAnswer.TheVariants.{Length}
 use Rattle.spec_line.specs.Calls.{refused, placed}
 use Rattle.spec_line.proofs.Placed.{placed_there, placed_nowhere}
 use Rattle.line_property.specs.Places.{line_of, write_property}
@@ -35,5 +35,5 @@ module _ (f : ℕ) (t v b : List ℕ) where
       pub no_room : length b < n → write_property f t v b ≡ refused (NoRoom n) b
       no_room l = property_placed ∙ placed_nowhere (line_of f t v) b n m l
 
-      pub line_stands : (x : List ℕ) (k : ℕ) → n ≤ length b → Put (line_of f t v) b x k → write_property f t v b ≡ record { answer = Length n; buffer = x }
+      pub line_stands : (x : List ℕ) (k : ℕ) → n ≤ length b → Put (line_of f t v) b x k → write_property f t v b ≡ record { answer = Ok n; buffer = x }
       line_stands x k l q = property_placed ∙ placed_there (line_of f t v) b x n k m l q

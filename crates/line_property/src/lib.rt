@@ -7,7 +7,6 @@ ghost use Rattle.spec_octets.specs.Buffer.{Put};
 ghost use Rattle.line_property.specs.Places.{escaped_value, line_head, quoted_value, line_of, write_property};
 
 use spec_limits::MAX_DATA_OCTETS;
-use spec_line::LineAnswer;
 use spec_refusal::Refusal;
 
 // Writes a value as it is in quotes.
@@ -16,10 +15,8 @@ fn put_value(v: &[u8], out: &mut [u8]) -> usize
     ensures { Put (escaped_value v.now) out.old out.new result }
 {
     let mut w: usize = 0;
-    let mut i: usize = 0;
-    while i < v.len() {
-        w += line_escape::put_escaped(v[i], &mut out[w..]);
-        i += 1;
+    for b in v {
+        w += line_escape::put_escaped(*b, &mut out[w..]);
     }
     w
 }
@@ -62,10 +59,8 @@ fn value_length(v: &[u8]) -> usize
     ensures { result ≡ length (escaped_value v.now) }
 {
     let mut n: usize = 0;
-    let mut i: usize = 0;
-    while i < v.len() {
-        n += line_escape::escaped_length(v[i]);
-        i += 1;
+    for b in v {
+        n += line_escape::escaped_length(*b);
     }
     n
 }
@@ -81,20 +76,25 @@ fn line_length(flags: u8, tag: &[u8], value: &[u8]) -> usize
 
 // Writes the line of a property at the start of the buffer. Nothing is written unless the buffer is long enough and both tag and value are
 // within the limit of CAA data.
-pub fn write_property(flags: u8, tag: &[u8], value: &[u8], buffer: &mut [u8]) -> LineAnswer
+pub fn write_property(
+    flags: u8,
+    tag: &[u8],
+    value: &[u8],
+    buffer: &mut [u8],
+) -> Result<usize, Refusal>
     ensures answer { result ≡ (write_property flags tag.now value.now buffer.old).answer }
     ensures octets { buffer.new ≡ (write_property flags tag.now value.now buffer.old).buffer }
 {
     if MAX_DATA_OCTETS < tag.len() {
-        return LineAnswer::Refused(Refusal::LineTooLong);
+        return Err(Refusal::LineTooLong);
     }
     if MAX_DATA_OCTETS < value.len() {
-        return LineAnswer::Refused(Refusal::LineTooLong);
+        return Err(Refusal::LineTooLong);
     }
     let n = line_length(flags, tag, value);
     if buffer.len() < n {
-        return LineAnswer::Refused(Refusal::NoRoom(n));
+        return Err(Refusal::NoRoom(n));
     }
     put_line(flags, tag, value, buffer);
-    LineAnswer::Length(n)
+    Ok(n)
 }

@@ -4,27 +4,21 @@
 ghost use Rattle.std.specs.Prelude.{◌≡◌};
 ghost use Rattle.spec_line.specs.Calls.{parse_line};
 
-use line_parts::{LineRead, LineValueRead};
 use spec_limits::MAX_LINE_OCTETS;
-use spec_line::LineAnswer;
 use spec_refusal::Refusal;
 
 // Writes the CAA data of a line at the start of the buffer. Nothing is written unless the buffer is long enough.
-pub fn read_line(line: &[u8], buffer: &mut [u8]) -> LineAnswer
+pub fn read_line(line: &[u8], buffer: &mut [u8]) -> Result<usize, Refusal>
     ensures answer { result ≡ (parse_line line.now buffer.old).answer }
     ensures octets { buffer.new ≡ (parse_line line.now buffer.old).buffer }
 {
     if MAX_LINE_OCTETS < line.len() {
-        return LineAnswer::Refused(Refusal::LineTooLong);
+        return Err(Refusal::LineTooLong);
     }
-    let LineRead::Good(l) = line_parts::read_fields(line) else {
-        return LineAnswer::Refused(Refusal::BadLine);
-    };
+    let l = line_parts::read_fields(line).ok_or(Refusal::BadLine)?;
     let at = l.value;
     let value = &line[at..];
-    let LineValueRead::Good(v) = line_parts::read_line_value(value) else {
-        return LineAnswer::Refused(Refusal::BadLine);
-    };
+    let v = line_parts::read_line_value(value).ok_or(Refusal::BadLine)?;
     let from = v.from;
     let to = v.end;
     let style = v.style;

@@ -1,8 +1,8 @@
 -- What an answer and a buffer that are the definition's say, by the theorems about the rule.
+use Rattle.std.specs.Prelude.{Option, None, Some}
 use Prim.Native.Nat.{ℕ}
 use mathlib.Core.Path.{◌≡◌, refl}
 use mathlib.Core.List.{List}
-use mathlib.Core.Option.{Option, none, some}
 use Rattle.spec_refusal.specs.declared.Refusal.{Refusal}
 use Rattle.spec_refusal.specs.declared.Refusal.TheVariants.{NoRoom}
 use Rattle.spec_octets.specs.Octets.{Octets}
@@ -25,10 +25,10 @@ module _ (request : List ℕ) (who : Applicant) (book buffer : List ℕ) (o : Oc
       (c d e : Option Refusal) → request_refusal request ≡ c → applicant_refusal who ≡ d → book_refusal book ≡ e →
       ListingTells request who book buffer (list_issuers request who book buffer)
   unfolding list_issuers
-  listed none none none r a b = call_lists_the_permitted request who book buffer r a b (λ n. unrefused (NoRoom n))
-  listed none none (some q) r a b = absurd (unrefused q (rw (r, a, b)))
-  listed none (some q) e r a b = absurd (unrefused q (rw (r, a)))
-  listed (some q) d e r a b = absurd (unrefused q (rw r))
+  listed None None None r a b = call_lists_the_permitted request who book buffer r a b (λ n. unrefused (NoRoom n))
+  listed None None (Some q) r a b = absurd (unrefused q (rw (r, a, b)))
+  listed None (Some q) e r a b = absurd (unrefused q (rw (r, a)))
+  listed (Some q) d e r a b = absurd (unrefused q (rw r))
 
 pub listing_exactly : ListingExactly
 listing_exactly request who book buffer after o p answer e f = rw (e, f) (

@@ -1,6 +1,5 @@
 -- What the contract of `permitted_issuers` means for a caller. Each statement is proved under its name in proofs/, from theorems about the rule.
-use Rattle.std.specs.Prelude.{ℕ, ◌≤◌, ◌≡◌, ◌↔◌, ◌≢◌, List, length}
-use Rattle.std.proofs.Math.Option.{none}
+use Rattle.std.specs.Prelude.{ℕ, ◌≤◌, ◌≡◌, ◌↔◌, ◌≢◌, List, length, None}
 use Rattle.spec_refusal.specs.declared.Refusal.{Refusal}
 use Rattle.spec_octets.specs.Octets.{Octets}
 use Rattle.spec_request.specs.Request.{request_refusal}
@@ -20,4 +19,4 @@ ListingExactly =
     answer ≡ (list_issuers request who book buffer).answer → after ≡ (list_issuers request who book buffer).buffer →
     ((r : Refusal) → ((answer ≡ Refused r) ↔ FirstRow (ListRow request who book buffer) r) × (answer ≡ Refused r → after ≡ buffer))
     × (((r : Refusal) → ListRow request who book buffer r → ⊥) → ListingTells request who book buffer (record { answer = answer; buffer = after }))
-    × (request_refusal request ≡ none → applicant_refusal who ≡ none → book_refusal book ≡ none → length book ≤ length buffer → (r : Refusal) → answer ≢ Refused r)
+    × (request_refusal request ≡ None → applicant_refusal who ≡ None → book_refusal book ≡ None → length book ≤ length buffer → (r : Refusal) → answer ≢ Refused r)

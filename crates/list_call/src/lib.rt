@@ -1,15 +1,17 @@
 // Who may issue for every name of the request, for this account and by this method? This is the call that lists the permitted issuers.
 #![tactic(auto)]
 
-ghost use Rattle.std.specs.Prelude.{◌≡◌, ◌≤◌, ◌<◌, length};
+ghost use Rattle.std.specs.Prelude.{◌≡◌, ◌*◌};
 ghost use Rattle.spec_rule.specs.Calls.{list_issuers};
-ghost use Rattle.book_places.specs.Table.{short_book};
+ghost use Rattle.book_places.specs.Table.{room_for};
 ghost use Rattle.list_call.specs.Lent.{Lent, HeadsLent, ListPut};
+ghost use Rattle.spec_applicant.specs.Applicants.{texts};
 
-use book_places::{END, FEW_RECORDS, SHORT_BOOK, SHORT_TABLE, TABLE};
+use book_places::{END, FEW_RECORDS, Index, SHORT_BOOK, SHORT_TABLE, TABLE};
 use list_places::Permitted;
+use spec_applicant::Applicant;
 use spec_limits::MAX_RECORDS;
-use spec_refusal::{Check, Refusal};
+use spec_refusal::Refusal;
 use spec_rule::PermittedIssuers;
 
 // Two numbers for each candidate. There are at most as many candidates as records.
@@ -22,30 +24,28 @@ fn put_list(
     book: &[u8],
     names: &[u16],
     rounds: &[u16],
-    found: Permitted,
+    found: Option<Permitted>,
     buffer: &mut [u8],
 ) -> PermittedIssuers
     ensures { ListPut book.now names.now rounds.now found buffer.old result buffer.new }
 {
-    if !found.restricted {
+    let Some(found) = found else {
         return PermittedIssuers::Anyone;
-    }
+    };
     let size = list_entry::put_entries(book, names, found.count, rounds, found.round, buffer);
-    let octets = size.octets;
-    if buffer.len() < octets {
-        return PermittedIssuers::Refused(Refusal::NoRoom(octets));
+    if buffer.len() < size.octets {
+        return PermittedIssuers::Refused(Refusal::NoRoom(size.octets));
     }
     PermittedIssuers::Listed {
         count: size.count,
-        octets,
+        octets: size.octets,
     }
 }
 
 // Lists for accepted inputs. It reads the book once, and makes a table of its records and chains through them in the lent arrays.
 fn list_in(
     request: &[u8],
-    account: &[u8],
-    method: &[u8],
+    applicant: Applicant,
     book: &[u8],
     table: &mut [u16],
     links: &mut [u16],
@@ -55,72 +55,42 @@ fn list_in(
     rounds: &mut [u16],
     buffer: &mut [u8],
 ) -> PermittedIssuers
-    requires { Lent (record { account = account.now; method = method.now }) request.now book.now table.old links.old heads.old onward.old names.old rounds.old }
-    ensures answer { result ≡ (list_issuers request.now (record { account = account.entry.now; method = method.now }) book.now buffer.old).answer }
-    ensures octets { buffer.new ≡ (list_issuers request.now (record { account = account.entry.now; method = method.now }) book.now buffer.old).buffer }
+    requires { Lent (texts applicant) request.now book.now table.old links.old heads.old onward.old names.old rounds.old }
+    ensures answer { result ≡ (list_issuers request.now (texts applicant.entry) book.now buffer.old).answer }
+    ensures octets { buffer.new ≡ (list_issuers request.now (texts applicant.entry) book.now buffer.old).buffer }
 {
     book_index::index_book(book, table, links, heads, onward);
-    let found = list_find::find_permitted(
-        request, account, method, book, table, links, heads, onward, names, rounds,
-    );
+    let index = Index {
+        book,
+        table,
+        links,
+        heads,
+    };
+    let found = list_find::find_permitted(request, applicant, index, onward, names, rounds);
     put_list(book, names, rounds, found, buffer)
 }
 
-// A short book has few records, and small arrays have room for all of them: less has to be cleared first.
-fn list_short(
+// Lists with arrays for so many records. A table has six numbers for each record, and there are two for each candidate.
+fn list_with<const RECORDS: usize, const CELLS: usize, const NUMBERS: usize>(
     request: &[u8],
-    account: &[u8],
-    method: &[u8],
+    applicant: Applicant,
     book: &[u8],
     heads: &mut [u16],
     buffer: &mut [u8],
 ) -> PermittedIssuers
-    requires { HeadsLent (record { account = account.now; method = method.now }) request.now book.now heads.old × (length book.now ≤ short_book) }
-    ensures answer { result ≡ (list_issuers request.now (record { account = account.entry.now; method = method.now }) book.now buffer.old).answer }
-    ensures octets { buffer.new ≡ (list_issuers request.now (record { account = account.entry.now; method = method.now }) book.now buffer.old).buffer }
+    requires lent { HeadsLent (texts applicant) request.now book.now heads.old }
+    requires sizes { (RECORDS ≡ room_for book.now) × (CELLS ≡ 6 * RECORDS) × (NUMBERS ≡ 2 * RECORDS) }
+    ensures answer { result ≡ (list_issuers request.now (texts applicant.entry) book.now buffer.old).answer }
+    ensures octets { buffer.new ≡ (list_issuers request.now (texts applicant.entry) book.now buffer.old).buffer }
 {
-    let mut table = [0u16; SHORT_TABLE];
-    let mut links = [END; FEW_RECORDS];
-    let mut onward = [END; FEW_RECORDS];
-    let mut names = [0u16; SHORT_NAMES];
-    let mut rounds = [0u16; FEW_RECORDS];
+    let mut table = [0u16; CELLS];
+    let mut links = [END; RECORDS];
+    let mut onward = [END; RECORDS];
+    let mut names = [0u16; NUMBERS];
+    let mut rounds = [0u16; RECORDS];
     list_in(
         request,
-        account,
-        method,
-        book,
-        &mut table,
-        &mut links,
-        heads,
-        &mut onward,
-        &mut names,
-        &mut rounds,
-        buffer,
-    )
-}
-
-// Any other book.
-fn list_long(
-    request: &[u8],
-    account: &[u8],
-    method: &[u8],
-    book: &[u8],
-    heads: &mut [u16],
-    buffer: &mut [u8],
-) -> PermittedIssuers
-    requires { HeadsLent (record { account = account.now; method = method.now }) request.now book.now heads.old × (short_book < length book.now) }
-    ensures answer { result ≡ (list_issuers request.now (record { account = account.entry.now; method = method.now }) book.now buffer.old).answer }
-    ensures octets { buffer.new ≡ (list_issuers request.now (record { account = account.entry.now; method = method.now }) book.now buffer.old).buffer }
-{
-    let mut table = [0u16; TABLE];
-    let mut links = [END; MAX_RECORDS];
-    let mut onward = [END; MAX_RECORDS];
-    let mut names = [0u16; NAMES];
-    let mut rounds = [0u16; MAX_RECORDS];
-    list_in(
-        request,
-        account,
-        method,
+        applicant,
         book,
         &mut table,
         &mut links,
@@ -135,20 +105,22 @@ fn list_long(
 // The list stands at the front of the buffer, and the rest stays.
 pub fn permitted_issuers(
     request: &[u8],
-    account: &[u8],
-    method: &[u8],
+    applicant: Applicant,
     book: &[u8],
     buffer: &mut [u8],
 ) -> PermittedIssuers
-    ensures answer { result ≡ (list_issuers request.now (record { account = account.entry.now; method = method.now }) book.now buffer.old).answer }
-    ensures octets { buffer.new ≡ (list_issuers request.now (record { account = account.entry.now; method = method.now }) book.now buffer.old).buffer }
+    ensures answer { result ≡ (list_issuers request.now (texts applicant.entry) book.now buffer.old).answer }
+    ensures octets { buffer.new ≡ (list_issuers request.now (texts applicant.entry) book.now buffer.old).buffer }
 {
-    if let Check::Refused(r) = read_inputs::check_list_inputs(request, account, method, book) {
+    if let Err(r) = read_inputs::check_list_inputs(request, applicant, book) {
         return PermittedIssuers::Refused(r);
     }
     let mut heads = [END; MAX_RECORDS];
     if book.len() <= SHORT_BOOK {
-        return list_short(request, account, method, book, &mut heads, buffer);
+        // Small arrays have room for the few records of a short book: less has to be cleared first.
+        return list_with::<FEW_RECORDS, SHORT_TABLE, SHORT_NAMES>(
+            request, applicant, book, &mut heads, buffer,
+        );
     }
-    list_long(request, account, method, book, &mut heads, buffer)
+    list_with::<MAX_RECORDS, TABLE, NAMES>(request, applicant, book, &mut heads, buffer)
 }

@@ -12,7 +12,7 @@ pub fn candidate_at<'a>(book: &'a [u8], names: &[u16], i: usize) -> &'a [u8]
     ensures { result.now ≡ candidate_at book.now names.now i }
 {
     if names.len() / 2 <= i {
-        return &book[0..0];
+        return &book[..0];
     }
     let at = 2 * i;
     let n = names[at + 1] as usize;
@@ -23,12 +23,10 @@ pub fn candidate_at<'a>(book: &'a [u8], names: &[u16], i: usize) -> &'a [u8]
 pub fn is_candidate(book: &[u8], names: &[u16], count: usize, x: &[u8]) -> bool
     ensures { result ≡ is_candidate book.now names.now count x.now }
 {
-    let mut i: usize = 0;
-    while i < count {
+    for i in 0..count {
         if text_compare::same_ignoring_case(x, candidate_at(book, names, i)) {
             return true;
         }
-        i += 1;
     }
     false
 }

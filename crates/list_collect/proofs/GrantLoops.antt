@@ -1,4 +1,5 @@
 -- The loops over the grants of a tagged set: those that are left give the same candidates, or the same rounds, in the end.
+use Rattle.std.specs.Prelude.{Option, Some, None}
 use Prim.Native.Nat.{ℕ}
 use mathlib.Core.Path.{◌≡◌, refl, sym, ap, ◌∙◌}
 use mathlib.Core.Bool.{Bool, true, false, cond}
@@ -9,8 +10,6 @@ use Rattle.book_places.specs.Table.{octets_at}
 use Rattle.book_places.specs.Chains.{behind}
 use Rattle.list_places.specs.declared.TaggedSet.{TaggedSet}
 use Rattle.list_places.specs.declared.Grant.{Grant}
-use Rattle.list_places.specs.declared.NextGrant.{NextGrant}
-use Rattle.list_places.specs.declared.NextGrant.TheVariants.{At, Nothing}
 use Rattle.list_places.specs.Grants.{grants_from, first_grant}
 use Rattle.list_places.specs.Candidates.{is_candidate, Candidates, pushed, pushed_once, collected}
 use Rattle.list_places.specs.Rounds.{marked, marked_by, narrowed}
@@ -34,8 +33,8 @@ module _ (who : Applicant) (book table links : List ℕ) (s : TaggedSet) where
     collect_length = m.same_length
 
     -- o is the answer of next_grant
-    module _ (o : NextGrant) (f : o ≡ first_grant (grants_from who book table links s at)) where
-      module _ (e : o ≡ Nothing) where
+    module _ (o : Option Grant) (f : o ≡ first_grant (grants_from who book table links s at)) where
+      module _ (e : o ≡ None) where
         all_there : collected who book table links s d ≡ record { count = count; names = names }
         all_there = m.left ∙ rw (grants_over who book table links s at o f e)
 
@@ -46,7 +45,7 @@ module _ (who : Applicant) (book table links : List ℕ) (s : TaggedSet) where
         all_collected = sym (ap (λ (c : Candidates). c.names) all_there)
 
       -- the grant g; its name is x
-      module _ (g : Grant) (e : o ≡ At g) (j : ℕ) (b : j ≡ behind links g.rr) (x : List ℕ) (h : x ≡ octets_at book g.at g.octets) (t : Bool)
+      module _ (g : Grant) (e : o ≡ Some g) (j : ℕ) (b : j ≡ behind links g.rr) (x : List ℕ) (h : x ≡ octets_at book g.at g.octets) (t : Bool)
           (k : t ≡ is_candidate book names count x) where
         next :
             collected who book table links s d
@@ -75,12 +74,12 @@ module _ (who : Applicant) (book table links : List ℕ) (s : TaggedSet) where
       pub narrow_length : length rounds ≡ length d
       narrow_length = m.same_length
 
-      module _ (o : NextGrant) (f : o ≡ first_grant (grants_from who book table links s at)) where
-        pub all_narrowed : o ≡ Nothing → rounds ≡ narrowed who book names table links s count t d
+      module _ (o : Option Grant) (f : o ≡ first_grant (grants_from who book table links s at)) where
+        pub all_narrowed : o ≡ None → rounds ≡ narrowed who book names table links s count t d
         all_narrowed e = sym (m.left ∙ rw (grants_over who book table links s at o f e))
 
         pub one_marked :
-            (g : Grant) → o ≡ At g → (j : ℕ) → j ≡ behind links g.rr → (x : List ℕ) → x ≡ octets_at book g.at g.octets →
+            (g : Grant) → o ≡ Some g → (j : ℕ) → j ≡ behind links g.rr → (x : List ℕ) → x ≡ octets_at book g.at g.octets →
             (after : List ℕ) → after ≡ marked book names count x t rounds → length after ≡ length rounds → Narrowing d after j
         one_marked g e j b x h after q l = record {
           left = m.left ∙ rw (grants_on who book table links s at o f g e, b, q, h);

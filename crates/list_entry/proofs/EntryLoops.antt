@@ -1,5 +1,5 @@
 -- The entries of the candidates of one round, measured and put one by one.
-use Prim.Native.Nat.{ℕ, suc, ◌+◌, ◌*◌, ◌-◌, ◌≤◌, ◌<◌, ◌^◌}
+use Prim.Native.Nat.{ℕ, suc, ◌+◌, ◌*◌, ◌-◌, ◌≤◌, ◌<◌, ◌^◌, min}
 use native.Mathlib.Omega.{arith}
 use mathlib.Core.Path.{◌≡◌, refl, ap, ◌∙◌}
 use mathlib.Core.List.{List, [], ◌∷◌, ◌++◌, append_assoc, append-nil}
@@ -17,7 +17,7 @@ use Rattle.text_buffer.proofs.LentRest.{put_nothing, put_one, put_more, rest_roo
 use Rattle.spec_rule.specs.IssuerLists.{entry}
 use Rattle.list_places.specs.Candidates.{candidate_at}
 use Rattle.list_places.specs.Rounds.{kept_names}
-use Rattle.list_places.proofs.RoundLaws.{kept_behind, kept_all, kept_over, kept_past, kept_end, kept_next}
+use Rattle.list_places.proofs.RoundLaws.{kept_behind, kept_all, kept_done, kept_next}
 use Rattle.list_entry.specs.Entries.{entry_of, EntryLength, entries_of, size_of}
 use Rattle.list_entry.specs.declared.ListSize.{ListSize}
 use Rattle.list_entry.proofs.ShortNames.{entry_short}
@@ -85,9 +85,10 @@ module _ (book names : List ℕ) (count : ℕ) (rounds : List ℕ) (t : ℕ) whe
   entries_all : entries_of (left 0) ≡ entries_of kept
   entries_all = rw (kept_all book names count rounds t)
 
-  module _ (i : ℕ) (h : i < count) (k : i < max_records) (l : i < length rounds) where
+  -- z is how many candidates are looked at
+  module _ (i r z : ℕ) (u : r ≡ min count (length rounds)) (v : z ≡ min r max_records) (h : i < z) where
     next : left i ≡ cons_if (eqb (get_or rounds i 0) t) (lowered (candidate_at book names i)) (left (i + 1))
-    next = kept_next book names count rounds t i h k l
+    next = kept_next book names count rounds t i (omega (arith, u, v)) (omega (arith, u, v)) (omega (arith, u, v))
 
     -- a candidate of another round
     passed : (get_or rounds i 0 ≡ t → ⊥) → left i ≡ left (i + 1)
@@ -128,22 +129,16 @@ module _ (book names : List ℕ) (count : ℕ) (rounds : List ℕ) (t : ℕ) whe
         let octets : n ≡ length (entries_of kept) = omega (arith, m.octets_left, ap (λ l. length (entries_of l)) e) in
         rw (names, octets)
 
-    pub measure_done : count ≤ i → record { count = k; octets = n } ≡ size_of kept
-    measure_done h = all_measured (kept_over book names count rounds t i h)
+    pub measure_done : (r z : ℕ) → r ≡ min count (length rounds) → z ≡ min r max_records → z ≤ i → record { count = k; octets = n } ≡ size_of kept
+    measure_done r z u v h = all_measured (kept_done book names count rounds t i r z u v h)
 
-    pub measure_end : max_records ≤ i → record { count = k; octets = n } ≡ size_of kept
-    measure_end h = all_measured (kept_end book names count rounds t i h)
-
-    pub measure_past : length rounds ≤ i → record { count = k; octets = n } ≡ size_of kept
-    measure_past h = all_measured (kept_past book names count rounds t i h)
-
-    module _ (h : i < count) (j : i < max_records) (g : i < length rounds) where
+    module _ (r z : ℕ) (u : r ≡ min count (length rounds)) (v : z ≡ min r max_records) (h : i < z) where
       pub measure_passed : (get_or rounds i 0 ≡ t → ⊥) → Measured k n (i + 1)
       measure_passed e = record {
         few = omega (arith, m.few);
         small = omega (arith, m.small);
-        names_left = rw (← passed i h j g e) m.names_left;
-        octets_left = rw (← passed i h j g e) m.octets_left;
+        names_left = rw (← passed i r z u v h e) m.names_left;
+        octets_left = rw (← passed i r z u v h e) m.octets_left;
       }
 
       module _ (e : get_or rounds i 0 ≡ t) (p : List ℕ) (f : p ≡ candidate_at book names i) (l : ℕ) (q : EntryLength p l) where
@@ -155,8 +150,8 @@ module _ (book names : List ℕ) (count : ℕ) (rounds : List ℕ) (t : ℕ) whe
         measure_next = record {
           few = omega (arith, m.few);
           small = omega (arith, m.small, q.small);
-          names_left = omega (arith, m.names_left, ap length (here i h j g e p f));
-          octets_left = omega (arith, m.octets_left, entries_less i h j g e p f, q.is);
+          names_left = omega (arith, m.names_left, ap length (here i r z u v h e p f));
+          octets_left = omega (arith, m.octets_left, entries_less i r z u v h e p f, q.is);
         }
 
   -- the entries before candidate i are put, and w octets stand at the front of what was the buffer d and is now x
@@ -191,30 +186,24 @@ module _ (book names : List ℕ) (count : ℕ) (rounds : List ℕ) (t : ℕ) whe
         let whole : Put (entries_of kept) d x w = rw (← so_far.behind, e, append-nil) so_far.put in
         put_octets (entries_of kept) d so_far.room x w whole
 
-    pub place_done : count ≤ i → x ≡ filled (entries_of kept) d
-    place_done h = all_placed (kept_over book names count rounds t i h)
+    pub place_done : (r z : ℕ) → r ≡ min count (length rounds) → z ≡ min r max_records → z ≤ i → x ≡ filled (entries_of kept) d
+    place_done r z u v h = all_placed (kept_done book names count rounds t i r z u v h)
 
-    pub place_end : max_records ≤ i → x ≡ filled (entries_of kept) d
-    place_end h = all_placed (kept_end book names count rounds t i h)
-
-    pub place_past : length rounds ≤ i → x ≡ filled (entries_of kept) d
-    place_past h = all_placed (kept_past book names count rounds t i h)
-
-    module _ (h : i < count) (j : i < max_records) (g : i < length rounds) where
+    module _ (r z : ℕ) (u : r ≡ min count (length rounds)) (v : z ≡ min r max_records) (h : i < z) where
       pub place_passed : (get_or rounds i 0 ≡ t → ⊥) → Placed d x w (i + 1)
       place_passed e = record {
         room = so_far.room;
         same_length = so_far.same_length;
         before = so_far.before;
         put = so_far.put;
-        behind = rw (← passed i h j g e) so_far.behind;
+        behind = rw (← passed i r z u v h e) so_far.behind;
       }
 
       module _ (e : get_or rounds i 0 ≡ t) (p : List ℕ) (f : p ≡ candidate_at book names i) where
         inside : w + length (entry_of (lowered p)) ≤ length x
         inside =
             let whole = rw length-append at (ap length so_far.behind) in
-            omega (arith, so_far.room, so_far.put.count, so_far.same_length, entries_less i h j g e p f)
+            omega (arith, so_far.room, so_far.put.count, so_far.same_length, entries_less i r z u v h e p f)
 
         pub place_from : w ≤ length x
         place_from = omega (arith, inside)
@@ -234,5 +223,5 @@ module _ (book names : List ℕ) (count : ℕ) (rounds : List ℕ) (t : ℕ) whe
             same_length = same ∙ so_far.same_length;
             before = so_far.before ++ entry_of (lowered p);
             put = put_more so_far.put (entry_of (lowered p)) (so_far.before ++ entry_of (lowered p)) refl y n q;
-            behind = rw (append_assoc, ← entries_here i h j g e p f) so_far.behind;
+            behind = rw (append_assoc, ← entries_here i r z u v h e p f) so_far.behind;
           }

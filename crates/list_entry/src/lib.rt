@@ -20,40 +20,21 @@ pub struct ListSize {
 fn entry_length(name: &[u8]) -> usize
     ensures { EntryLength name.now result }
 {
-    if 256 <= name.len() {
-        return 0;
-    }
-    name.len() + 1
+    if name.len() < 256 { name.len() + 1 } else { 0 }
 }
 
-// The size of the list.
+// The size of the list. `put_entries` goes through the candidates a second time: it writes nothing before the size is known.
 fn list_size(book: &[u8], names: &[u16], count: usize, rounds: &[u16], t: usize) -> ListSize
     ensures { result ≡ size_of (kept_names book.now names.now count rounds.now t) }
 {
     let mut kept: usize = 0;
     let mut octets: usize = 0;
-    let mut i: usize = 0;
-    while i < MAX_RECORDS {
-        if count <= i {
-            return ListSize {
-                count: kept,
-                octets,
-            };
-        }
-        if rounds.len() <= i {
-            return ListSize {
-                count: kept,
-                octets,
-            };
-        }
+    for i in 0..count.min(rounds.len()).min(MAX_RECORDS) {
         let round = rounds[i] as usize;
-        if round != t {
-            i += 1;
-            continue;
+        if round == t {
+            kept += 1;
+            octets += entry_length(list_candidate::candidate_at(book, names, i));
         }
-        kept += 1;
-        octets += entry_length(list_candidate::candidate_at(book, names, i));
-        i += 1;
     }
     ListSize {
         count: kept,
@@ -86,26 +67,15 @@ pub fn put_entries(
     ensures octets { out.new ≡ filled (entries_of (kept_names book.now names.now count rounds.now t)) out.old }
 {
     let size = list_size(book, names, count, rounds, t);
-    let octets = size.octets;
-    if out.len() < octets {
+    if out.len() < size.octets {
         return size;
     }
     let mut w: usize = 0;
-    let mut i: usize = 0;
-    while i < MAX_RECORDS {
-        if count <= i {
-            return size;
-        }
-        if rounds.len() <= i {
-            return size;
-        }
+    for i in 0..count.min(rounds.len()).min(MAX_RECORDS) {
         let round = rounds[i] as usize;
-        if round != t {
-            i += 1;
-            continue;
+        if round == t {
+            w += put_entry(list_candidate::candidate_at(book, names, i), &mut out[w..]);
         }
-        w += put_entry(list_candidate::candidate_at(book, names, i), &mut out[w..]);
-        i += 1;
     }
     size
 }

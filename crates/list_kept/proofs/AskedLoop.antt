@@ -1,12 +1,11 @@
 -- Sets asked one after the other: a law for each way out. The questions that are left give the same answer in the end.
+use Rattle.std.specs.Prelude.{Option, None, Some}
 use Prim.Native.Nat.{ℕ, ◌+◌, ◌%◌, ◌≤◌, ◌<◌}
-use native.Mathlib.Omega.{arith}
 use native.Mathlib.Numerals.{add-one}
 use mathlib.Core.Path.{◌≡◌, refl, ◌∙◌}
-use mathlib.Core.Bool.{true, false}
 use mathlib.Core.List.{List}
-use lib.ListN.{length, take, drop, get_or, length-take, drop_of_length-le}
-use lib.Seq.{drop-cons, get_or-take}
+use lib.ListN.{length, drop, get_or, drop_of_length-le}
+use lib.Seq.{drop-cons}
 use Rattle.spec_refusal.specs.declared.RecordNo.{RecordNo}
 use Rattle.spec_applicant.specs.Applicant.{Applicant}
 use Rattle.book_places.specs.declared.Governing.{Governing}
@@ -21,36 +20,36 @@ use Rattle.list_places.specs.PermittedBy.{PermittedIn, governed_in, answered_in,
 
 module _ (who : Applicant) (book table links : List ℕ) where
   -- one more set that governs
-  module _ (g : Governing) (p : Permitted) (names rounds : List ℕ) where
+  module _ (g : Governing) (p : Option Permitted) (names rounds : List ℕ) where
     abbrev kept : PermittedIn
     kept = governed_in who book table links g (record { answer = p; names = names; rounds = rounds })
 
     pub kept_parts :
-        {q : Permitted} {names' rounds' : List ℕ} →
+        {q : Option Permitted} {names' rounds' : List ℕ} →
         governed_in who book table links g (record { answer = p; names = names; rounds = rounds }) ≡ record { answer = q; names = names'; rounds = rounds' } →
         record { answer : q ≡ kept.answer; names : names' ≡ kept.names; rounds : rounds' ≡ kept.rounds }
     kept_parts e = let parts = permitted_parts e in record { answer = parts.0; names = parts.1.0; rounds = parts.1.1 }
 
     pub first_governs :
-        p.restricted ≡ false → (count : ℕ) (after : List ℕ) → count ≡ (collected who book table links (record { set = g.set.0; tag = g.tag }) names).count →
+        p ≡ None → (count : ℕ) (after : List ℕ) → count ≡ (collected who book table links (record { set = g.set.0; tag = g.tag }) names).count →
         after ≡ (collected who book table links (record { set = g.set.0; tag = g.tag }) names).names →
         governed_in who book table links g (record { answer = p; names = names; rounds = rounds })
-        ≡ record { answer = record { restricted = true; count = count; round = 0 }; names = after; rounds = rounds }
+        ≡ record { answer = Some (record { count = count; round = 0 }); names = after; rounds = rounds }
     unfolding governed_in
     first_governs e count after f h = rw (e, f, h)
 
     pub further_governs :
-        p.restricted ≡ true → (after : List ℕ) →
-        after ≡ narrowed who book names table links (record { set = g.set.0; tag = g.tag }) p.count p.round rounds →
+        (q : Permitted) → p ≡ Some q → (after : List ℕ) →
+        after ≡ narrowed who book names table links (record { set = g.set.0; tag = g.tag }) q.count q.round rounds →
         governed_in who book table links g (record { answer = p; names = names; rounds = rounds })
-        ≡ record { answer = record { restricted = true; count = p.count; round = (p.round % 65536 + 1) % 65536 }; names = names; rounds = after }
+        ≡ record { answer = Some (record { count = q.count; round = (q.round % 65536 + 1) % 65536 }); names = names; rounds = after }
     unfolding governed_in
-    further_governs e after f = rw (e, f)
+    further_governs q e after f = rw (e, f)
 
   -- some questions, and the arrays before
   module _ (qs c d : List ℕ) where
     pub asked_parts :
-        {q : Permitted} {names rounds : List ℕ} → all_asked who book table links qs c d ≡ record { answer = q; names = names; rounds = rounds } →
+        {q : Option Permitted} {names rounds : List ℕ} → all_asked who book table links qs c d ≡ record { answer = q; names = names; rounds = rounds } →
         record {
           answer : q ≡ (all_asked who book table links qs c d).answer;
           names : names ≡ (all_asked who book table links qs c d).names;
@@ -58,72 +57,63 @@ module _ (who : Applicant) (book table links : List ℕ) where
         }
     asked_parts e = let parts = permitted_parts e in record { answer = parts.0; names = parts.1.0; rounds = parts.1.1 }
 
-  module _ (numbers : List ℕ) (n : ℕ) where
-    abbrev firsts : List ℕ
-    firsts = take n numbers
-
+  module _ (numbers : List ℕ) where
     -- the arrays were c and d
     module _ (c d : List ℕ) where
-      pub record Asking (names rounds : List ℕ) (p : Permitted) (i : ℕ) : Type 0 where
+      pub record Asking (names rounds : List ℕ) (p : Option Permitted) (i : ℕ) : Type 0 where
         pub left :
-            all_asked who book table links (take n numbers) c d
-            ≡ asked_in who book table links (drop i (take n numbers)) (record { answer = p; names = names; rounds = rounds })
+            all_asked who book table links numbers c d
+            ≡ asked_in who book table links (drop i numbers) (record { answer = p; names = names; rounds = rounds })
         pub same_names : length names ≡ length c
         pub same_rounds : length rounds ≡ length d
 
-      pub ask_start : Asking c d (record { restricted = false; count = 0; round = 0 }) 0
+      pub ask_start : Asking c d None 0
       unfolding all_asked
       ask_start = record { left = refl; same_names = refl; same_rounds = refl }
 
-      module _ (names rounds : List ℕ) (p : Permitted) (i : ℕ) (m : Asking names rounds p i) where
+      module _ (names rounds : List ℕ) (p : Option Permitted) (i : ℕ) (m : Asking names rounds p i) where
         pub names_length : length names ≡ length c
         names_length = m.same_names
 
         pub rounds_length : length rounds ≡ length d
         rounds_length = m.same_rounds
 
-        over : length firsts ≤ i → all_asked who book table links (take n numbers) c d ≡ record { answer = p; names = names; rounds = rounds }
-        over h = m.left ∙ rw (drop_of_length-le firsts {i = i} h)
-
-        pub ask_done : n ≤ i → all_asked who book table links (take n numbers) c d ≡ record { answer = p; names = names; rounds = rounds }
-        ask_done h = over (omega (arith, length-take n numbers))
-
-        pub ask_past : length numbers ≤ i → all_asked who book table links (take n numbers) c d ≡ record { answer = p; names = names; rounds = rounds }
-        ask_past h = over (omega (arith, length-take n numbers))
+        pub ask_done : length numbers ≤ i → all_asked who book table links numbers c d ≡ record { answer = p; names = names; rounds = rounds }
+        ask_done h = m.left ∙ rw (drop_of_length-le numbers {i = i} h)
 
         -- a is the answer to the next question
-        module _ (h : i < n) (k : i < length numbers) (a : NameAuthorization) (e : a ≡ answer_to book table links (get_or numbers i 0)) where
+        module _ (k : i < length numbers) (a : NameAuthorization) (e : a ≡ answer_to book table links (get_or numbers i 0)) where
           abbrev rest : PermittedIn → PermittedIn
-          rest = asked_in who book table links (drop (i + 1) firsts)
+          rest = asked_in who book table links (drop (i + 1) numbers)
 
           by_answer :
-              all_asked who book table links (take n numbers) c d
+              all_asked who book table links numbers c d
               ≡ answered_in who book table links a (record { answer = p; names = names; rounds = rounds }) rest
           by_answer =
               m.left
-              ∙ rw (add-one i, drop-cons firsts i 0 (omega (arith, length-take n numbers)), get_or-take n numbers i 0 h, ← e)
+              ∙ rw (add-one i, drop-cons numbers i 0 k, ← e)
 
           pub unrestricted_passed : a ≡ Unrestricted → Asking names rounds p (i + 1)
           unrestricted_passed f = record { left = by_answer ∙ rw f; same_names = m.same_names; same_rounds = m.same_rounds }
 
           pub forbidden_found :
               (r : RecordNo) → a ≡ Forbidden r →
-              all_asked who book table links (take n numbers) c d
-              ≡ record { answer = record { restricted = true; count = 0; round = 0 }; names = names; rounds = rounds }
+              all_asked who book table links numbers c d
+              ≡ record { answer = Some (record { count = 0; round = 0 }); names = names; rounds = rounds }
           forbidden_found r f = by_answer ∙ rw f
 
           pub unresolved_found :
               (r : RecordNo) → a ≡ Unresolved r →
-              all_asked who book table links (take n numbers) c d
-              ≡ record { answer = record { restricted = true; count = 0; round = 0 }; names = names; rounds = rounds }
+              all_asked who book table links numbers c d
+              ≡ record { answer = Some (record { count = 0; round = 0 }); names = names; rounds = rounds }
           unresolved_found r f = by_answer ∙ rw f
 
           pub governed_kept :
               (g : Governing) → a ≡ Governed g → (q : Permitted) (names' rounds' : List ℕ) →
-              q ≡ (governed_in who book table links g (record { answer = p; names = names; rounds = rounds })).answer →
+              Some q ≡ (governed_in who book table links g (record { answer = p; names = names; rounds = rounds })).answer →
               names' ≡ (governed_in who book table links g (record { answer = p; names = names; rounds = rounds })).names →
               rounds' ≡ (governed_in who book table links g (record { answer = p; names = names; rounds = rounds })).rounds → length names' ≡ length names →
-              length rounds' ≡ length rounds → Asking names' rounds' q (i + 1)
+              length rounds' ≡ length rounds → Asking names' rounds' (Some q) (i + 1)
           governed_kept g f q names' rounds' x y z l o = record {
             left = by_answer ∙ rw (f, x, y, z);
             same_names = l ∙ m.same_names;

@@ -2,100 +2,70 @@
 // restricting set, only those candidates stay that it grants too.
 #![tactic(auto)]
 
-ghost use Rattle.std.specs.Prelude.{◌≡◌, take};
+ghost use Rattle.std.specs.Prelude.{◌≡◌};
 ghost use Rattle.list_places.specs.PermittedBy.{governed_in, all_asked};
+ghost use Rattle.spec_applicant.specs.Applicants.{texts};
 
-use book_places::{Governing, NameAuthorization};
+use book_places::{Governing, Index, NameAuthorization};
 use list_places::{Permitted, TaggedSet};
+use spec_applicant::Applicant;
 
 // Takes one more restricting set into account.
 fn keep_granted(
-    account: &[u8],
-    method: &[u8],
-    book: &[u8],
-    table: &[u16],
-    links: &[u16],
+    applicant: Applicant,
+    index: Index,
     g: Governing,
     names: &mut [u16],
     rounds: &mut [u16],
-    p: Permitted,
+    before: Option<Permitted>,
 ) -> Permitted
-    ensures answer { result ≡ (governed_in (record { account = account.entry.now; method = method.now }) book.now table.now links.now g (record { answer = p; names = names.old; rounds = rounds.old })).answer }
-    ensures names { names.new ≡ (governed_in (record { account = account.entry.now; method = method.now }) book.now table.now links.now g (record { answer = p; names = names.old; rounds = rounds.old })).names }
-    ensures rounds { rounds.new ≡ (governed_in (record { account = account.entry.now; method = method.now }) book.now table.now links.now g (record { answer = p; names = names.old; rounds = rounds.old })).rounds }
+    ensures answer { Some result ≡ (governed_in (texts applicant.entry) index.entry.book.now index.entry.table.now index.entry.links.now g (record { answer = before; names = names.old; rounds = rounds.old })).answer }
+    ensures names { names.new ≡ (governed_in (texts applicant.entry) index.entry.book.now index.entry.table.now index.entry.links.now g (record { answer = before; names = names.old; rounds = rounds.old })).names }
+    ensures rounds { rounds.new ≡ (governed_in (texts applicant.entry) index.entry.book.now index.entry.table.now index.entry.links.now g (record { answer = before; names = names.old; rounds = rounds.old })).rounds }
 {
-    let set = g.set;
-    let tag = g.tag;
-    let by = TaggedSet { set: set.0, tag };
-    if !p.restricted {
-        let count = list_collect::collect(account, method, book, table, links, by, names);
-        return Permitted {
-            restricted: true,
-            count,
-            round: 0,
-        };
-    }
-    let count = p.count;
-    let round = p.round;
-    list_collect::narrow(
-        account, method, book, table, links, by, names, count, rounds, round,
-    );
-    Permitted {
-        restricted: true,
-        count,
-        round: (round % 65536 + 1) % 65536,
+    let by = TaggedSet {
+        set: g.set.0,
+        tag: g.tag,
+    };
+    match before {
+        None => {
+            let count = list_collect::collect(applicant, index, by, names);
+            Permitted { count, round: 0 }
+        }
+        Some(p) => {
+            list_collect::narrow(applicant, index, by, names, p.count, rounds, p.round);
+            Permitted {
+                round: (p.round % 65536 + 1) % 65536,
+                ..p
+            }
+        }
     }
 }
 
-// Asks the first n questions of a list, which has their numbers. A set that does not restrict changes nothing. If a set forbids, nobody may issue.
-// The candidates and their rounds are written into two arrays of the caller.
+// Asks the questions of a list, which has their numbers. A set that does not restrict changes nothing. If a set forbids, nobody may issue. The
+// candidates and their rounds are written into two arrays of the caller.
 pub fn ask_sets(
-    account: &[u8],
-    method: &[u8],
-    book: &[u8],
-    table: &[u16],
-    links: &[u16],
+    applicant: Applicant,
+    index: Index,
     numbers: &[u16],
-    n: usize,
     names: &mut [u16],
     rounds: &mut [u16],
-) -> Permitted
-    ensures answer { result ≡ (all_asked (record { account = account.entry.now; method = method.now }) book.now table.now links.now (take n numbers.now) names.old rounds.old).answer }
-    ensures names { names.new ≡ (all_asked (record { account = account.entry.now; method = method.now }) book.now table.now links.now (take n numbers.now) names.old rounds.old).names }
-    ensures rounds { rounds.new ≡ (all_asked (record { account = account.entry.now; method = method.now }) book.now table.now links.now (take n numbers.now) names.old rounds.old).rounds }
+) -> Option<Permitted>
+    ensures answer { result ≡ (all_asked (texts applicant.entry) index.entry.book.now index.entry.table.now index.entry.links.now numbers.now names.old rounds.old).answer }
+    ensures names { names.new ≡ (all_asked (texts applicant.entry) index.entry.book.now index.entry.table.now index.entry.links.now numbers.now names.old rounds.old).names }
+    ensures rounds { rounds.new ≡ (all_asked (texts applicant.entry) index.entry.book.now index.entry.table.now index.entry.links.now numbers.now names.old rounds.old).rounds }
 {
-    let mut p = Permitted {
-        restricted: false,
-        count: 0,
-        round: 0,
-    };
-    let mut i: usize = 0;
-    while i < n {
-        if numbers.len() <= i {
-            return p;
-        }
-        let question = numbers[i] as usize;
-        i += 1;
-        match book_authorization::answer_to(book, table, links, question) {
+    let mut permitted: Option<Permitted> = None;
+    for number in numbers {
+        match book_authorization::answer_to(index, *number as usize) {
             NameAuthorization::Unrestricted => {}
-            NameAuthorization::Forbidden(_) => {
-                return Permitted {
-                    restricted: true,
-                    count: 0,
-                    round: 0,
-                };
-            }
-            NameAuthorization::Unresolved(_) => {
-                return Permitted {
-                    restricted: true,
-                    count: 0,
-                    round: 0,
-                };
+            NameAuthorization::Forbidden(_) | NameAuthorization::Unresolved(_) => {
+                return Some(Permitted::NOBODY);
             }
             NameAuthorization::Governed(g) => {
-                p = keep_granted(account, method, book, table, links, g, names, rounds, p);
+                permitted = Some(keep_granted(applicant, index, g, names, rounds, permitted));
             }
         }
     }
-    p
+    permitted
 }

@@ -1,10 +1,12 @@
 -- The questions of the names of an accepted request are answered by what the rule says of them.
+use Rattle.read_request.specs.declared.Requested.{Requested}
+use Rattle.spec_refusal.specs.declared.RecordNo.{RecordNo}
+use Rattle.std.specs.Prelude.{None, Option, Some}
 use Prim.Native.Nat.{ℕ, zero, suc, ◌+◌, ◌≤◌, ◌<◌}
 use native.Mathlib.Omega.{arith}
 use mathlib.Core.Path.{◌≡◌, refl, ap, ◌∙◌}
 use mathlib.Core.Bool.{Bool, true, false, cond}
 use mathlib.Core.List.{List, [], map}
-use mathlib.Core.Option.{none}
 use lib.Dec.{leb}
 use lib.ListN.{length}
 use borrow.Author.Tests.{leb-true, leb-false}
@@ -12,8 +14,6 @@ use Rattle.spec_limits.specs.Limits.{max_names, max_records}
 use Rattle.spec_name.specs.Names.{Name, wire, GoodName}
 use Rattle.spec_request.specs.Request.{is_wildcard, base, requested_names, request_refusal}
 use Rattle.read_request.specs.Places.{requested_at}
-use Rattle.read_request.specs.declared.RequestedRead.{RequestedRead}
-use Rattle.read_request.specs.declared.RequestedRead.TheVariants.{Good, Fault}
 use Rattle.spec_request.proofs.RequestedNames.{good_base}
 use Rattle.read_request.proofs.RequestPlaces.{next_after}
 use Rattle.read_request.proofs.AcceptedNames.{NamesLeft, all_names, names_end, names_good, next_name}
@@ -21,8 +21,6 @@ use Rattle.spec_record.specs.Records.{records, book_refusal}
 use Rattle.spec_applicant.specs.Applicant.{Applicant}
 use Rattle.spec_rule.specs.RelevantSet.{as_book}
 use Rattle.spec_rule.specs.Authorizations.{Authorization, authorization}
-use Rattle.book_places.specs.declared.FirstRecord.{FirstRecord}
-use Rattle.book_places.specs.declared.FirstRecord.TheVariants.{At, Nothing}
 use Rattle.book_places.specs.Table.{table_of}
 use Rattle.book_places.specs.Chains.{Chains, chains_of}
 use Rattle.book_places.specs.Onward.{onward_of}
@@ -42,12 +40,12 @@ answered who book table links q = meaning who book table links (answer_to book t
 
 -- a set is told by the number of its question
 by_question :
-    (who : Applicant) (book table links : List ℕ) (wildcard : Bool) (o : FirstRecord) → FirstBelow links o → length links ≤ 32768 →
+    (who : Applicant) (book table links : List ℕ) (wildcard : Bool) (o : Option RecordNo) → FirstBelow links o → length links ≤ 32768 →
     said_by (answered who book table links) (question_by wildcard o) ≡ meaning who book table links (by_set book table links wildcard o)
-by_question who book table links wildcard Nothing h few = refl
-by_question who book table links wildcard (At set) h few = ap (meaning who book table links) (question_by_number book table links set wildcard (omega arith))
+by_question who book table links wildcard None h few = refl
+by_question who book table links wildcard (Some set) h few = ap (meaning who book table links) (question_by_number book table links set wildcard (omega arith))
 
-module _ (who : Applicant) (request book : List ℕ) (good : book_refusal book ≡ none) where
+module _ (who : Applicant) (request book : List ℕ) (good : book_refusal book ≡ None) where
   abbrev table : List ℕ
   table = table_of book
 
@@ -88,12 +86,12 @@ module _ (who : Applicant) (request book : List ℕ) (good : book_refusal book �
   said_from (suc steps) at k names w h = go (leb (length request) at) refl (said_from steps)
     where
       step :
-          at < length request → SaysOf steps → (o : RequestedRead) → o ≡ requested_at request at →
+          at < length request → SaysOf steps → (o : Option Requested) → o ≡ requested_at request at →
           SaidOf k names (question_of request book table chains.links chains.heads (onward_of book) o (questions_from request book table chains.links chains.heads (onward_of book) steps))
-      step l rest Fault f = absurd (names_good request w l Fault f refl)
-      step l rest (Good r) f =
-          let this = next_name request w l (Good r) f r refl in
-          let later = rest r.next (suc k) this.others this.after (omega (arith, next_after request at (Good r) f r refl)) in
+      step l rest None f = absurd (names_good request w l None f refl)
+      step l rest (Some r) f =
+          let this = next_name request w l (Some r) f r refl in
+          let later = rest r.next (suc k) this.others this.after (omega (arith, next_after request at (Some r) f r refl)) in
           record {
             same = rw (this.split, said_of_name this.first this.good this.octets this.wild, later.same);
             few = omega (arith, later.few);
@@ -105,6 +103,6 @@ module _ (who : Applicant) (request book : List ℕ) (good : book_refusal book �
       go true e rest = none_left at k names w (leb-true (length request) at e)
       go false e rest = step (leb-false (length request) at e) rest (requested_at request at) refl
 
-  pub said_names : request_refusal request ≡ none → SaidOf 0 (requested_names request) (questions request book table chains.links chains.heads (onward_of book))
+  pub said_names : request_refusal request ≡ None → SaidOf 0 (requested_names request) (questions request book table chains.links chains.heads (onward_of book))
   unfolding questions
   said_names r = said_from (length request) 0 0 (requested_names request) (all_names request r) (omega arith)

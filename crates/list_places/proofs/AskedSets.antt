@@ -1,8 +1,9 @@
 -- The candidates of the first set that governs, narrowed by each further one, are the issuers by the answers to all questions.
+use Rattle.std.specs.Prelude.{Option, None, Some}
 use Prim.Native.Nat.{ℕ, zero, suc, ◌+◌, ◌*◌, ◌≤◌}
 use native.Mathlib.Omega.{arith}
 use mathlib.Core.Path.{◌≡◌, refl, sym, ap, ◌∙◌}
-use mathlib.Core.Bool.{Bool, true, false, cond, ◌&&◌, true≢false}
+use mathlib.Core.Bool.{Bool, true, false, cond, ◌&&◌}
 use mathlib.Core.List.{List, [], ◌∷◌, map}
 use lib.Dec.{eqb}
 use lib.ListN.{length, take, replicate, length-replicate}
@@ -15,17 +16,18 @@ use Rattle.spec_octets.proofs.SelectTests.{select_twice}
 use Rattle.spec_octets.proofs.SmallLetters.{lowered_twice}
 use Rattle.spec_applicant.specs.Applicant.{Applicant}
 use Rattle.spec_rule.specs.Authorizations.{Authorization, granted, permits}
-use Rattle.spec_rule.specs.IssuerLists.{anyone, listed, distinct}
+use Rattle.spec_rule.specs.IssuerLists.{listed, distinct}
 use Rattle.book_places.specs.declared.Governing.{Governing}
 use Rattle.book_places.specs.declared.NameAuthorization.{NameAuthorization}
 use Rattle.book_places.specs.declared.NameAuthorization.TheVariants.{Unrestricted, Forbidden, Governed, Unresolved}
 use Rattle.book_places.specs.NameAuthorizations.{answer_to, set_grantees, meaning}
 use Rattle.list_places.specs.declared.TaggedSet.{TaggedSet}
 use Rattle.list_places.specs.declared.Grant.{Grant}
+use Rattle.list_places.specs.declared.Permitted.{Permitted}
 use Rattle.list_places.specs.Grants.{grants_by, grant_octets}
 use Rattle.list_places.specs.Candidates.{candidate_at, candidates_from, candidates, is_candidate, Candidates, pushed, pushed_once, collected}
 use Rattle.list_places.specs.Rounds.{next_round, kept_from, kept_names, narrowed}
-use Rattle.list_places.specs.PermittedBy.{PermittedIn, collected_in, narrowed_in, governing_set, governed_in, answered_in, asked_in, issuers_in}
+use Rattle.list_places.specs.PermittedBy.{PermittedIn, governing_set, governed_by, governed_in, answered_in, asked_in, issuers_by, issuers_in}
 use Rattle.list_places.proofs.CandidateLaws.{pushed_most}
 use Rattle.list_places.proofs.GrantNames.{grants_by_offset}
 use Rattle.list_places.proofs.CollectedNames.{few_grants, collected_by_offset}
@@ -100,12 +102,17 @@ module _ (who : Applicant) (book table links : List ℕ) (small : length book �
 
   -- with rounds for so many candidates
   module _ (size : ℕ) (places : length links ≤ size) (most : size ≤ max_records) where
+    -- the round of the answer so far
+    abbrev pub round_of : Option Permitted → ℕ
+    round_of None = 0
+    round_of (Some q) = q.round
+
     -- what is known of the answer so far, with k questions left
     pub record Sound (p : PermittedIn) (k : ℕ) : Type 0 where
-      pub fresh : p.answer.restricted ≡ false → p.rounds ≡ replicate size 0
-      pub room : p.answer.restricted ≡ false → 2 * length links ≤ length p.names
-      pub within : All (λ r. r ≤ p.answer.round) p.rounds
-      pub few : p.answer.round + k ≤ 65535
+      pub fresh : p.answer ≡ None → p.rounds ≡ replicate size 0
+      pub room : p.answer ≡ None → 2 * length links ≤ length p.names
+      pub within : All (λ r. r ≤ round_of p.answer) p.rounds
+      pub few : round_of p.answer + k ≤ 65535
 
     all_kept :
         (s : TaggedSet) (names : List ℕ) → 2 * length links ≤ length names → (c : Candidates) → c ≡ collected who book table links s names →
@@ -121,29 +128,37 @@ module _ (who : Applicant) (book table links : List ℕ) (small : length book �
       abbrev set : TaggedSet
       set = governing_set who book table links g
 
-      next : next_round p.answer.round ≡ suc p.answer.round
-      next = omega (arith, h.few)
+      -- the candidates so far
+      module _ (q : Permitted) (e : p.answer ≡ Some q) where
+        within : All (λ r. r ≤ q.round) p.rounds
+        within = let w : All (λ r. r ≤ round_of p.answer) p.rounds = h.within in rw e at w
 
-      further :
-          (kept_names book p.names p.answer.count (narrowed who book p.names table links set p.answer.count p.answer.round p.rounds) (suc p.answer.round)
-          ≡ select (λ m. any (same m) (grantees set)) (kept_names book p.names p.answer.count p.rounds p.answer.round))
-          × All (λ r. r ≤ suc p.answer.round) (narrowed who book p.names table links set p.answer.count p.answer.round p.rounds)
-      further = narrowed_by_offset who book table links p.names p.rounds small p.answer.count p.answer.round (omega (arith, h.few)) h.within set
+        few : q.round + suc k ≤ 65535
+        few = let w : round_of p.answer + suc k ≤ 65535 = h.few in rw e at w
+
+        next : next_round q.round ≡ suc q.round
+        next = omega (arith, few)
+
+        further :
+            (kept_names book p.names q.count (narrowed who book p.names table links set q.count q.round p.rounds) (suc q.round)
+            ≡ select (λ m. any (same m) (grantees set)) (kept_names book p.names q.count p.rounds q.round))
+            × All (λ r. r ≤ suc q.round) (narrowed who book p.names table links set q.count q.round p.rounds)
+        further = narrowed_by_offset who book table links p.names p.rounds small q.count q.round (omega (arith, few)) within set
 
       pub governed_sound : Sound (governed_in who book table links g p) k
       unfolding governed_in
-      governed_sound = go p.answer.restricted refl
+      governed_sound = go p.answer refl
         where
-          go : (t : Bool) → p.answer.restricted ≡ t → Sound (cond t (narrowed_in who book table links set p) (collected_in who book table links set p)) k
-          go true e = record {
-            fresh = λ f. absurd (true≢false f);
-            room = λ f. absurd (true≢false f);
-            within = rw next further.1;
-            few = omega (arith, h.few, next);
+          go : (a : Option Permitted) → p.answer ≡ a → Sound (governed_by who book table links a g p) k
+          go (Some q) e = record {
+            fresh = λ f. let z : ◌≡◌ {A = ℕ} 0 1 = cc in absurd (omega arith);
+            room = λ f. let z : ◌≡◌ {A = ℕ} 0 1 = cc in absurd (omega arith);
+            within = rw (next q e) (further q e).1;
+            few = omega (arith, few q e, next q e);
           }
-          go false e = record {
-            fresh = λ f. absurd (true≢false f);
-            room = λ f. absurd (true≢false f);
+          go None e = record {
+            fresh = λ f. let z : ◌≡◌ {A = ℕ} 0 1 = cc in absurd (omega arith);
+            room = λ f. let z : ◌≡◌ {A = ℕ} 0 1 = cc in absurd (omega arith);
             within = rw (h.fresh e) (all_0 size);
             few = omega (arith, h.few);
           }
@@ -152,24 +167,24 @@ module _ (who : Applicant) (book table links : List ℕ) (small : length book �
           (ys : List Authorization) →
           left (issuers_in book (governed_in who book table links g p)) ys ≡ left (issuers_in book p) (meaning who book table links (Governed g) ∷ ys)
       unfolding governed_in
-      governed_issuers ys = go p.answer.restricted refl
+      governed_issuers ys = go p.answer refl
         where
-          kept : List (List ℕ)
-          kept = kept_names book p.names p.answer.count p.rounds p.answer.round
+          kept : Permitted → List (List ℕ)
+          kept q = kept_names book p.names q.count p.rounds q.round
 
           go :
-              (t : Bool) → p.answer.restricted ≡ t →
-              left (issuers_in book (cond t (narrowed_in who book table links set p) (collected_in who book table links set p))) ys
-              ≡ left (cond t (listed kept) anyone) (granted g.first.0 (grantees set) ∷ ys)
-          go true e =
-              rw (next, further.0)
+              (a : Option Permitted) → p.answer ≡ a →
+              left (issuers_in book (governed_by who book table links a g p)) ys
+              ≡ left (issuers_by book p.names p.rounds a) (granted g.first.0 (grantees set) ∷ ys)
+          go (Some q) e =
+              rw (next q e, (further q e).0)
               (ap listed
-              (select_twice (λ m. any (same m) (grantees set)) (λ m. all (permits m) ys) kept
+              (select_twice (λ m. any (same m) (grantees set)) (λ m. all (permits m) ys) (kept q)
               ∙ select_alike
               (λ m. any (same m) (grantees set) && all (permits m) ys)
               (λ m. any (same (lowered m)) (grantees set) && all (permits m) ys)
-              (All-imp (λ m j. rw j) (kept_lower book p.names p.answer.count p.rounds p.answer.round))))
-          go false e =
+              (All-imp (λ m j. rw j) (kept_lower book p.names q.count p.rounds q.round))))
+          go None e =
               ap (λ ns. listed (select (λ m. all (permits m) ys) ns))
               (ap (λ rs. kept_names book (collected who book table links set p.names).names (collected who book table links set p.names).count rs 0) (h.fresh e)
               ∙ all_kept set p.names (h.room e) (collected who book table links set p.names) refl)

@@ -1,10 +1,10 @@
 -- The candidates found for an accepted request and book are those who may sign.
+use Rattle.std.specs.Prelude.{None, Some, Option}
 use Prim.Native.Nat.{ℕ, ◌*◌, ◌≤◌}
 use native.Mathlib.Omega.{arith}
 use mathlib.Core.Path.{◌≡◌, refl, ap, ◌∙◌}
 use mathlib.Core.Bool.{Bool, true, false, cond}
 use mathlib.Core.List.{List}
-use mathlib.Core.Option.{none, some}
 use lib.Dec.{ltb}
 use lib.ListN.{length, take, replicate, length-take, length-replicate}
 use borrow.Author.Tests.{ltb-false}
@@ -21,8 +21,6 @@ use Rattle.book_places.specs.Chains.{chains_of}
 use Rattle.book_places.specs.Onward.{onward_of}
 use Rattle.book_places.proofs.StandingRecords.{room_enough}
 use Rattle.book_places.proofs.ChainedRecords.{chains_fit}
-use Rattle.list_places.specs.declared.RelevantSets.{RelevantSets}
-use Rattle.list_places.specs.declared.RelevantSets.TheVariants.{Unknown, Noted}
 use Rattle.list_places.specs.Rounds.{kept_names}
 use Rattle.list_places.specs.Questions.{NameQuestion, NotedQuestions, questions, noted, once}
 use Rattle.list_places.specs.PermittedBy.{anyone_in, all_asked, by_noted, noted_in, permitted_in, issuers_in}
@@ -32,15 +30,15 @@ use Rattle.list_places.proofs.NotedIssuers.{noted_length, by_numbers, noted_issu
 use Rattle.list_places.proofs.AskedNames.{answered, said_names}
 use Rattle.list_places.proofs.AskedSets.{answers_lower, all_0, asked_issuers}
 
-pub book_small : (book : List ℕ) → book_refusal book ≡ none → length book ≤ max_book_octets
+pub book_small : (book : List ℕ) → book_refusal book ≡ None → length book ≤ max_book_octets
 unfolding layout_refusal
 book_small book e = go (ltb max_book_octets (length book)) refl (laid_out_book book e)
   where
-    go : (t : Bool) → ltb max_book_octets (length book) ≡ t → cond t (some BookTooLong) (record_refusal (record_items book)) ≡ none → length book ≤ max_book_octets
+    go : (t : Bool) → ltb max_book_octets (length book) ≡ t → cond t (Some BookTooLong) (record_refusal (record_items book)) ≡ None → length book ≤ max_book_octets
     go true k h = let z : ◌≡◌ {A = ℕ} 0 1 = cc in absurd (omega arith)
     go false k h = ltb-false max_book_octets (length book) k
 
-module _ (who : Applicant) (request book : List ℕ) (r : request_refusal request ≡ none) (b : book_refusal book ≡ none) where
+module _ (who : Applicant) (request book : List ℕ) (r : request_refusal request ≡ None) (b : book_refusal book ≡ None) where
   abbrev table : List ℕ
   table = table_of book
 
@@ -72,11 +70,11 @@ module _ (who : Applicant) (request book : List ℕ) (r : request_refusal reques
 
   module _ (names : List ℕ) (room : 2 * room_for book ≤ length names) where
     by_answer :
-        (a : RelevantSets) (numbers : List ℕ) → ((n : ℕ) → length (take n numbers) ≤ max_names) →
+        (a : Option ℕ) (numbers : List ℕ) → ((n : ℕ) → length (take n numbers) ≤ max_names) →
         issuers_in book (by_noted who book table links a numbers names (replicate (room_for book) 0)) ≡ by_numbers (answered who book table links) a numbers
     unfolding kept_names all_asked max_names
-    by_answer Unknown numbers few = refl
-    by_answer (Noted n) numbers few =
+    by_answer None numbers few = refl
+    by_answer (Some n) numbers few =
         asked_issuers who book table links (book_small book b) (room_for book) (omega (arith, (chains_fit book).0)) (room_enough book).1 (once (take n numbers)) (anyone_in names (replicate (room_for book) 0)) (record {
           fresh = λ e. refl;
           room = λ e. rw (chains_fit book).0 room;

@@ -1,4 +1,6 @@
 -- The candidates collected are the issuers that a tagged set grants, each once.
+use Rattle.read_value.specs.declared.NameAt.{NameAt}
+use Rattle.std.specs.Prelude.{Option, Some, None}
 use Prim.Native.Nat.{ℕ, zero, suc, ◌+◌, ◌*◌, ◌≤◌, ◌<◌}
 use native.Mathlib.Omega.{arith}
 use mathlib.Core.Path.{◌≡◌, refl, ◌∙◌}
@@ -11,12 +13,10 @@ use Rattle.spec_octets.specs.Octets.{lowered}
 use Rattle.spec_record.specs.declared.PropertyTag.{PropertyTag}
 use Rattle.spec_applicant.specs.Applicant.{Applicant}
 use Rattle.read_grantee.specs.Places.{grantee_at}
-use Rattle.read_grantee.specs.declared.GranteeRead.{GranteeRead}
-use Rattle.read_grantee.specs.declared.GranteeRead.TheVariants.{At, Nobody}
 use Rattle.book_places.specs.Table.{cell, data_at, owner_at}
 use Rattle.book_places.specs.Chains.{behind, along, chain_from}
 use Rattle.book_places.specs.NameAuthorizations.{set_grantees}
-use Rattle.book_places.specs.Sets.{is_owned, owned_of, owned_from, data_has_tag}
+use Rattle.book_places.specs.Sets.{is_owned, owned_of, data_has_tag}
 use Rattle.list_places.specs.declared.TaggedSet.{TaggedSet}
 use Rattle.list_places.specs.declared.Grant.{Grant}
 use Rattle.list_places.specs.Grants.{grant_read, grants_of, grants_from, grants_by, grant_octets}
@@ -48,10 +48,10 @@ module _ (who : Applicant) (book table : List ℕ) (tag : PropertyTag) where
   grants_fewer (i ∷ is) = go (data_has_tag tag (data_at book table i)) (grantee_at who (data_at book table i)) (grants_fewer is)
     where
       go :
-          (t : Bool) (o : GranteeRead) → length (grants_of who book table tag is) ≤ length is →
+          (t : Bool) (o : Option NameAt) → length (grants_of who book table tag is) ≤ length is →
           length (cond t (grant_read i (cell table i 2) o) [] ++ grants_of who book table tag is) ≤ suc (length is)
-      go true Nobody h = omega arith
-      go true (At n) h = omega arith
+      go true None h = omega arith
+      go true (Some n) h = omega arith
       go false o h = omega arith
 
 -- at most one grant for each link

@@ -1,4 +1,5 @@
 -- The grants of a tagged set name the issuers that it grants.
+use Rattle.std.specs.Prelude.{Option, Some, None}
 use Prim.Native.Nat.{ℕ, ◌+◌, ◌-◌, ◌%◌, ◌≤◌, ◌<◌}
 use native.Mathlib.Nat.{add-mod, mod-eq_of_lt}
 use native.Mathlib.Omega.{arith}
@@ -17,8 +18,6 @@ use Rattle.spec_applicant.specs.Applicant.{Applicant}
 use Rattle.spec_rule.specs.Authorizations.{cons_some}
 use Rattle.read_value.specs.declared.NameAt.{NameAt}
 use Rattle.read_grantee.specs.Places.{grantee_at, grantee_of_data, name_at}
-use Rattle.read_grantee.specs.declared.GranteeRead.{GranteeRead}
-use Rattle.read_grantee.specs.declared.GranteeRead.TheVariants.{At, Nobody}
 use Rattle.read_grantee.proofs.Grantees.{nobody_granted, somebody_granted, grantee_from, grantee_to}
 use Rattle.book_places.specs.Table.{cell, data_at}
 use Rattle.book_places.specs.Sets.{data_has_tag, set_at}
@@ -74,12 +73,12 @@ module _ (who : Applicant) (book table links : List ℕ) (small : length book �
   in_data i n order inside = in_book book small (cell table i 2) (cell table i 4) n order inside i
 
   named_read :
-      (i : ℕ) (o : GranteeRead) → o ≡ grantee_at who (data_at book table i) → (gs : List Grant) →
+      (i : ℕ) (o : Option NameAt) → o ≡ grantee_at who (data_at book table i) → (gs : List Grant) →
       named (grant_read i (cell table i 2) o ++ gs) ≡ cons_some (grantee_of_data who (data_at book table i)) (named gs)
-  named_read i Nobody e gs = rw (nobody_granted who (data_at book table i) Nobody e refl)
-  named_read i (At n) e gs =
-      rw (somebody_granted who (data_at book table i) (At n) e n refl)
-      (ap (λ l. lowered l ∷ named gs) (in_data i n (grantee_from who _ (At n) e n refl) (grantee_to who _ (At n) e n refl)))
+  named_read i None e gs = rw (nobody_granted who (data_at book table i) None e refl)
+  named_read i (Some n) e gs =
+      rw (somebody_granted who (data_at book table i) (Some n) e n refl)
+      (ap (λ l. lowered l ∷ named gs) (in_data i n (grantee_from who _ (Some n) e n refl) (grantee_to who _ (Some n) e n refl)))
 
   named_of : (is : List ℕ) → named (grants_of who book table tag is) ≡ grantees_at who book table links (select (λ i. data_has_tag tag (data_at book table i)) is)
   named_of [] = refl

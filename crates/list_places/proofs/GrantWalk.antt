@@ -1,4 +1,7 @@
 -- A walk over the grants of a tagged set: behind the first grant come the others, from behind its record on.
+use Rattle.read_value.specs.declared.NameAt.{NameAt}
+use Rattle.spec_refusal.specs.declared.RecordNo.{RecordNo}
+use Rattle.std.specs.Prelude.{Option, Some, None}
 use Prim.Native.Nat.{ℕ, zero, suc, ◌≤◌, ◌<◌}
 use native.Mathlib.Omega.{arith}
 use mathlib.Core.Path.{◌≡◌, refl, sym, ap, ◌∙◌}
@@ -8,25 +11,19 @@ use lib.ListN.{length}
 use Rattle.spec_record.specs.declared.PropertyTag.{PropertyTag}
 use Rattle.spec_applicant.specs.Applicant.{Applicant}
 use Rattle.read_grantee.specs.Places.{grantee_at}
-use Rattle.read_grantee.specs.declared.GranteeRead.{GranteeRead}
-use Rattle.read_grantee.specs.declared.GranteeRead.TheVariants.{At as GranteeAt, Nobody}
 use Rattle.book_places.specs.Table.{cell, data_at, owner_at}
 use Rattle.book_places.specs.Chains.{behind}
 use Rattle.book_places.specs.Sets.{owned_from, first_of, data_has_tag}
-use Rattle.book_places.specs.declared.FirstRecord.{FirstRecord}
-use Rattle.book_places.specs.declared.FirstRecord.TheVariants.{At as RecordAt, Nothing as NoRecord}
 use Rattle.book_places.proofs.OwnedWalk.{owned_over, owned_on}
 use Rattle.list_places.specs.declared.TaggedSet.{TaggedSet}
 use Rattle.list_places.specs.declared.Grant.{Grant}
-use Rattle.list_places.specs.declared.NextGrant.{NextGrant}
-use Rattle.list_places.specs.declared.NextGrant.TheVariants.{At, Nothing}
 use Rattle.list_places.specs.Grants.{grant_read, grants_of, grants_from, first_grant}
 
-none_there : (gs : List Grant) → first_grant gs ≡ Nothing → gs ≡ []
+none_there : (gs : List Grant) → first_grant gs ≡ None → gs ≡ []
 none_there [] e = refl
 none_there (g ∷ gs) e = let z : ◌≡◌ {A = ℕ} 0 1 = cc in absurd (omega arith)
 
-one_there : (gs : List Grant) (g : Grant) → first_grant gs ≡ At g → (more : List Grant) × (gs ≡ g ∷ more)
+one_there : (gs : List Grant) (g : Grant) → first_grant gs ≡ Some g → (more : List Grant) × (gs ≡ g ∷ more)
 one_there [] g e = let z : ◌≡◌ {A = ℕ} 0 1 = cc in absurd (omega arith)
 one_there (h ∷ gs) g e = let same : h ≡ g = cc in (gs, rw same)
 
@@ -46,11 +43,11 @@ module _ (who : Applicant) (book table links : List ℕ) (tag : PropertyTag) (x 
   one_on r rest i here g gs e = go (data_has_tag tag (data_at book table r)) (grantee_at who (data_at book table r)) (rw here at e)
     where
       go :
-          (t : Bool) (o : GranteeRead) → cond t (grant_read r (cell table r 2) o) [] ++ grants (owned (behind links r)) ≡ g ∷ gs →
+          (t : Bool) (o : Option NameAt) → cond t (grant_read r (cell table r 2) o) [] ++ grants (owned (behind links r)) ≡ g ∷ gs →
           gs ≡ grants (owned (behind links g.rr))
       go false o k = rest g gs k
-      go true Nobody k = rest g gs k
-      go true (GranteeAt m) k =
+      go true None k = rest g gs k
+      go true (Some m) k =
           let first : r ≡ g.rr = cc in
           let others : grants (owned (behind links r)) ≡ gs = cc in
           rw (← first) (sym others)
@@ -64,18 +61,18 @@ module _ (who : Applicant) (book table links : List ℕ) (tag : PropertyTag) (x 
       go (r ∷ is) k few e = absurd (omega arith)
   others_behind (suc n) i few g gs e = go (first_of (owned i)) refl (others_behind n)
     where
-      go : (o : FirstRecord) → o ≡ first_of (owned i) → ((j : ℕ) → length (owned j) ≤ n → Behind j) → gs ≡ grants (owned (behind links g.rr))
-      go NoRecord f rest = absurd (nil≢cons (rw (owned_over book table links x i NoRecord f refl) at e))
-      go (RecordAt r) f rest =
-          let here = owned_on book table links x i (RecordAt r) f r refl in
+      go : (o : Option RecordNo) → o ≡ first_of (owned i) → ((j : ℕ) → length (owned j) ≤ n → Behind j) → gs ≡ grants (owned (behind links g.rr))
+      go None f rest = absurd (nil≢cons (rw (owned_over book table links x i None f refl) at e))
+      go (Some r) f rest =
+          let here = owned_on book table links x i (Some r) f r refl in
           one_on r.0 (rest (behind links r.0) (omega (arith, ap length here))) i here g gs e
 
 -- o is the answer of next_grant
-module _ (who : Applicant) (book table links : List ℕ) (s : TaggedSet) (i : ℕ) (o : NextGrant) (f : o ≡ first_grant (grants_from who book table links s i)) where
-  pub grants_over : o ≡ Nothing → grants_from who book table links s i ≡ []
+module _ (who : Applicant) (book table links : List ℕ) (s : TaggedSet) (i : ℕ) (o : Option Grant) (f : o ≡ first_grant (grants_from who book table links s i)) where
+  pub grants_over : o ≡ None → grants_from who book table links s i ≡ []
   grants_over e = none_there (grants_from who book table links s i) (sym f ∙ e)
 
-  module _ (g : Grant) (e : o ≡ At g) where
+  module _ (g : Grant) (e : o ≡ Some g) where
     pub grants_on : grants_from who book table links s i ≡ g ∷ grants_from who book table links s (behind links g.rr)
     unfolding grants_from
     grants_on =

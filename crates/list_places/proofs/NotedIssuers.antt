@@ -1,4 +1,5 @@
 -- The questions noted give the issuers that the names of a request give.
+use Rattle.std.specs.Prelude.{Option, None, Some}
 use Prim.Native.Nat.{ℕ, suc, ◌+◌, ◌≤◌}
 use native.Mathlib.Omega.{arith}
 use mathlib.Core.Path.{◌≡◌, refl, sym, ap, ◌∙◌}
@@ -10,8 +11,6 @@ use lib.Seq.{take-suc-set}
 use borrow.Author.Tests.{lt-ltb}
 use Rattle.spec_rule.specs.Authorizations.{Authorization, unrestricted, forbidden}
 use Rattle.spec_rule.specs.IssuerLists.{Issuers, listed, issuers}
-use Rattle.list_places.specs.declared.RelevantSets.{RelevantSets}
-use Rattle.list_places.specs.declared.RelevantSets.TheVariants.{Unknown, Noted}
 use Rattle.list_places.specs.Questions.{NameQuestion, unread, nothing_asked, question, noted_behind}
 use Rattle.list_places.proofs.LeftIssuers.{left, left_end, left_unrestricted, left_forbidden, left_behind}
 
@@ -24,7 +23,7 @@ noted_length (question q ∷ qs) n numbers = go (ltb n (length numbers)) (noted_
   where
     go :
         (t : Bool) → length (noted_behind (suc n) (set numbers n q) qs).numbers ≡ length (set numbers n q) →
-        length (cond t (noted_behind (suc n) (set numbers n q) qs) (record { answer = Unknown; numbers = numbers })).numbers ≡ length numbers
+        length (cond t (noted_behind (suc n) (set numbers n q) qs) (record { answer = None; numbers = numbers })).numbers ≡ length numbers
     go true rest = rest ∙ length-set numbers n q
     go false rest = refl
 
@@ -41,9 +40,9 @@ module _ (answer : ℕ → Authorization) where
   said_by (question q) = answer q
 
   -- who may sign by the questions noted
-  abbrev pub by_numbers : RelevantSets → List ℕ → Issuers
-  by_numbers Unknown numbers = listed []
-  by_numbers (Noted n) numbers = issuers (map answer (take n numbers))
+  abbrev pub by_numbers : Option ℕ → List ℕ → Issuers
+  by_numbers None numbers = listed []
+  by_numbers (Some n) numbers = issuers (map answer (take n numbers))
 
   pub noted_issuers :
       (qs : List NameQuestion) (n : ℕ) (numbers : List ℕ) → n + length qs ≤ length numbers →

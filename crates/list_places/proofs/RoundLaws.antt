@@ -1,13 +1,15 @@
 -- The candidates of one round, from one candidate on: for code that walks them.
-use Prim.Native.Nat.{ℕ, zero, suc, ◌+◌, ◌-◌, ◌≤◌, ◌<◌}
+use Prim.Native.Nat.{ℕ, zero, suc, ◌+◌, ◌-◌, ◌≤◌, ◌<◌, min}
 use native.Mathlib.Omega.{arith}
 use native.Mathlib.Nat.{sub-zero}
 use native.Mathlib.Numerals.{add-one}
 use mathlib.Core.Path.{◌≡◌, refl}
+use mathlib.Core.Bool.{Bool, true, false}
 use mathlib.Core.List.{List, []}
-use lib.Dec.{eqb}
+use lib.Dec.{eqb, leb}
 use lib.ListN.{length, take, drop, get_or, length-take, drop_of_length-le}
 use lib.Seq.{drop-cons, get_or-take}
+use borrow.Author.Tests.{leb-true, leb-false}
 use Rattle.spec_limits.specs.Limits.{max_records}
 use Rattle.spec_octets.specs.Lists.{cons_if}
 use Rattle.spec_octets.specs.Octets.{lowered}
@@ -27,8 +29,8 @@ module _ (book names : List ℕ) (count : ℕ) (rounds : List ℕ) (t : ℕ) whe
   kept_all = rw sub-zero
 
   module _ (i : ℕ) where
-    pub kept_over : count ≤ i → kept_behind i ≡ []
-    kept_over h = let none_left : count - i ≡ 0 = omega arith in rw none_left
+    over : count ≤ i → kept_behind i ≡ []
+    over h = let none_left : count - i ≡ 0 = omega arith in rw none_left
 
     past : length front ≤ i → kept_behind i ≡ []
     past h = rw (drop_of_length-le front {i = i} h) (go (count - i))
@@ -37,11 +39,13 @@ module _ (book names : List ℕ) (count : ℕ) (rounds : List ℕ) (t : ℕ) whe
         go zero = refl
         go (suc n) = refl
 
-    pub kept_past : length rounds ≤ i → kept_behind i ≡ []
-    kept_past h = past (omega (arith, length-take max_records rounds))
-
-    pub kept_end : max_records ≤ i → kept_behind i ≡ []
-    kept_end h = past (omega (arith, length-take max_records rounds))
+    -- m is how many candidates count: those that have a round, and at most `max_records`
+    pub kept_done : (r m : ℕ) → r ≡ min count (length rounds) → m ≡ min r max_records → m ≤ i → kept_behind i ≡ []
+    kept_done r m e f h = go (leb count i) refl
+      where
+        go : (b : Bool) → leb count i ≡ b → kept_behind i ≡ []
+        go true g = over (leb-true count i g)
+        go false g = let far : i < count = leb-false count i g in past (omega (arith, e, f, far, length-take max_records rounds))
 
     pub kept_next :
         i < count → i < max_records → i < length rounds →

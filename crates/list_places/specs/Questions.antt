@@ -1,16 +1,12 @@
 -- The questions that a request asks, one for each name: what does the relevant set of this name say about X, or about *.X? Each question has a
 -- number (`question_number` in book_places), and the numbers are noted in an array.
-use Rattle.std.specs.Prelude.{ℕ, zero, suc, ◌-◌, ◌*◌, Bool, true, false, cond, List, [], ◌∷◌, leb, ltb, length, take, drop, get_or, set, replicate}
+use Rattle.read_request.specs.declared.Requested.{Requested}
+use Rattle.spec_refusal.specs.declared.RecordNo.{RecordNo}
+use Rattle.std.specs.Prelude.{ℕ, zero, suc, ◌-◌, ◌*◌, Bool, true, false, cond, List, [], ◌∷◌, leb, ltb, length, take, drop, get_or, set, replicate, Option, Some, None}
 use Rattle.spec_limits.specs.Limits.{max_records}
 use Rattle.read_request.specs.Places.{requested_at}
-use Rattle.read_request.specs.declared.RequestedRead.{RequestedRead}
-use Rattle.read_request.specs.declared.RequestedRead.TheVariants.{Good, Fault}
-use Rattle.book_places.specs.declared.FirstRecord.{FirstRecord}
-use Rattle.book_places.specs.declared.FirstRecord.TheVariants.{At, Nothing}
 use Rattle.book_places.specs.Sets.{nearest_record}
 use Rattle.book_places.specs.NameAuthorizations.{question_number}
-use Rattle.list_places.specs.declared.RelevantSets.{RelevantSets}
-use Rattle.list_places.specs.declared.RelevantSets.TheVariants.{Unknown, Noted}
 
 -- What one name asks. It asks nothing if it has no relevant set. The names of an accepted request can all be read.
 pub data NameQuestion : Type 0 where
@@ -19,16 +15,16 @@ pub data NameQuestion : Type 0 where
   question : ℕ → NameQuestion
 
 -- The question of a name, given the first record of its relevant set, if there is one.
-abbrev pub question_by : Bool → FirstRecord → NameQuestion
-question_by wildcard Nothing = nothing_asked
-question_by wildcard (At set) = question (question_number set wildcard)
+abbrev pub question_by : Bool → Option RecordNo → NameQuestion
+question_by wildcard None = nothing_asked
+question_by wildcard (Some set) = question (question_number set wildcard)
 
 -- The questions of the names of a request.
 module _ (request book table links heads onward : List ℕ) where
   -- The question of one name, then those of the rest. After a name that cannot be read there are no more.
-  abbrev pub question_of : RequestedRead → (ℕ → List NameQuestion) → List NameQuestion
-  question_of Fault rest = unread ∷ []
-  question_of (Good n) rest =
+  abbrev pub question_of : Option Requested → (ℕ → List NameQuestion) → List NameQuestion
+  question_of None rest = unread ∷ []
+  question_of (Some n) rest =
       question_by n.wildcard (nearest_record book table links heads onward (take (n.next - n.base) (drop n.base request))) ∷ rest n.next
 
   -- The questions of the names from offset `at` on, at most `steps` of them.
@@ -41,17 +37,17 @@ module _ (request book table links heads onward : List ℕ) where
 
 -- How many questions are noted, and the array with their numbers.
 pub record NotedQuestions : Type 0 where
-  pub answer : RelevantSets
+  pub answer : Option ℕ
   pub numbers : List ℕ
 
 -- Notes a list of questions after the n that are noted already. If one is not readable, or the array is full, the answer is that the questions are
 -- unknown.
 abbrev pub noted_behind : ℕ → List ℕ → List NameQuestion → NotedQuestions
-noted_behind n numbers [] = record { answer = Noted n; numbers = numbers }
-noted_behind n numbers (unread ∷ qs) = record { answer = Unknown; numbers = numbers }
+noted_behind n numbers [] = record { answer = Some n; numbers = numbers }
+noted_behind n numbers (unread ∷ qs) = record { answer = None; numbers = numbers }
 noted_behind n numbers (nothing_asked ∷ qs) = noted_behind n numbers qs
 noted_behind n numbers (question q ∷ qs) =
-    cond (ltb n (length numbers)) (noted_behind (suc n) (set numbers n q) qs) (record { answer = Unknown; numbers = numbers })
+    cond (ltb n (length numbers)) (noted_behind (suc n) (set numbers n q) qs) (record { answer = None; numbers = numbers })
 
 unfoldable pub noted : List ℕ → List NameQuestion → NotedQuestions
 noted numbers qs = noted_behind 0 numbers qs

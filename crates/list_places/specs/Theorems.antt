@@ -1,6 +1,5 @@
 -- What the definitions of this crate mean, in terms of the rule (spec_rule). Each statement is proved under its name in proofs/.
-use Rattle.std.specs.Prelude.{ℕ, suc, ◌*◌, ◌≤◌, ◌<◌, ◌≡◌, List, map, length, replicate}
-use Rattle.std.proofs.Math.Option.{none}
+use Rattle.std.specs.Prelude.{ℕ, suc, ◌*◌, ◌≤◌, ◌<◌, ◌≡◌, List, map, length, replicate, None}
 use Rattle.spec_limits.specs.Limits.{max_book_octets}
 use Rattle.spec_octets.specs.Lists.{any, select, All}
 use Rattle.spec_octets.specs.Octets.{same, lowered}
@@ -43,6 +42,6 @@ NarrowedByOffset =
 -- there is room for is enough for the candidates. Every candidate starts in round 0.
 abbrev pub PermittedByOffset : Type 0
 PermittedByOffset =
-    (who : Applicant) (request book names : List ℕ) → request_refusal request ≡ none → book_refusal book ≡ none → 2 * room_for book ≤ length names →
+    (who : Applicant) (request book names : List ℕ) → request_refusal request ≡ None → book_refusal book ≡ None → 2 * room_for book ≤ length names →
     issuers_in book (permitted_in who request book (table_of book) (chains_of book).links (chains_of book).heads (onward_of book) names (replicate (room_for book) 0))
     ≡ issuers (authorizations request who book)

@@ -1,4 +1,5 @@
 // Types for finding who may issue, by the table of a book. The definitions are in specs/.
+// The candidates are an array of numbers, two for each, beside a count: the definitions of specs/ speak of such an array, and fixed memory holds it.
 #![tactic(auto)]
 
 use spec_record::PropertyTag;
@@ -18,26 +19,15 @@ pub struct Grant {
     pub octets: u16,
 }
 
-// The first grant that a search found, if there is one.
-#[derive(Clone, Copy)]
-pub enum NextGrant {
-    At(Grant),
-    Nothing,
-}
-
-// The result of noting the questions that a request asks of its relevant sets.
-#[derive(Clone, Copy)]
-pub enum RelevantSets {
-    // A name could not be read, or there was no room to note its question.
-    Unknown,
-    // The number of questions noted.
-    Noted(usize),
-}
-
-// The issuers for all names of a request. If no name is restricted: anyone. Else: those of the first `count` candidates that are in round `round`.
+// The issuers for all names of a request, if some name is restricted: those of the first `count` candidates that are in round `round`. Where no name
+// is restricted, an answer is None: anyone may issue.
 #[derive(Clone, Copy)]
 pub struct Permitted {
-    pub restricted: bool,
     pub count: usize,
     pub round: usize,
+}
+
+impl Permitted {
+    // Nobody may issue.
+    pub const NOBODY: Permitted = Permitted { count: 0, round: 0 };
 }

@@ -9,20 +9,12 @@ pub fn mark(book: &[u8], names: &[u16], count: usize, x: &[u8], rounds: &mut [u1
     ensures { rounds.new ≡ marked book.now names.now count x.now t rounds.old }
 {
     let next = (t % 65536 + 1) % 65536;
-    let mut i: usize = 0;
-    while i < count {
-        if rounds.len() <= i {
-            return;
+    for i in 0..count.min(rounds.len()) {
+        let round = rounds[i] as usize;
+        if round == t
+            && text_compare::same_ignoring_case(list_candidate::candidate_at(book, names, i), x)
+        {
+            rounds[i] = next as u16;
         }
-        let at = i;
-        i += 1;
-        let round = rounds[at] as usize;
-        if round != t {
-            continue;
-        }
-        if !text_compare::same_ignoring_case(list_candidate::candidate_at(book, names, at), x) {
-            continue;
-        }
-        rounds[at] = next as u16;
     }
 }

@@ -5,22 +5,19 @@ use native.Mathlib.Numerals.{add-one}
 use mathlib.Core.Path.{◌≡◌, refl, sym, ap, ◌∙◌}
 use mathlib.Core.Bool.{Bool, true, false}
 use mathlib.Core.List.{List, [], ◌∷◌, ◌++◌, append-nil, append_assoc}
-use lib.ListN.{length, take, drop, get_or, set, replicate, length-take, length-set, length-replicate, drop_of_length-le, get_or-eq_default}
-use lib.Seq.{drop-cons, get_or-drop, get_or-take, drop-append_seam, set_out}
+use lib.ListN.{length, drop, get_or, set, replicate, length-set, length-replicate, drop_of_length-le, get_or-eq_default}
+use lib.Seq.{drop-cons, get_or-drop, drop-append_seam, set_out}
 use Rattle.spec_limits.specs.Limits.{max_records}
 use Rattle.spec_octets.specs.Buffer.{Put}
 use Rattle.text_buffer.proofs.LentRest.{put_nothing, put_octet}
 use Rattle.list_places.specs.Questions.{once_behind, once}
 
 -- the array was d
-module _ (n : ℕ) (d : List ℕ) where
-  abbrev firsts : List ℕ
-  firsts = take n d
-
+module _ (d : List ℕ) where
   pub record Asking (numbers : List ℕ) (asked : List Bool) (w i : ℕ) : Type 0 where
     pub before : List ℕ
     pub put : Put before d numbers w
-    pub left : once (take n d) ≡ before ++ once_behind asked (drop i (take n d))
+    pub left : once d ≡ before ++ once_behind asked (drop i d)
     pub few : w ≤ i
     pub long : length asked ≡ 2 * max_records
     pub same_length : length numbers ≡ length d
@@ -41,31 +38,17 @@ module _ (n : ℕ) (d : List ℕ) where
     ask_length = m.same_length
 
     -- nothing is left
-    over : length firsts ≤ i → once firsts ≡ m.before
-    over h = m.left ∙ rw (drop_of_length-le firsts {i = i} h) (append-nil m.before)
-
-    module _ (h : length firsts ≤ i) where
-      told : w ≡ length (once firsts)
-      told = m.put.count ∙ ap length (sym (over h))
-
-      written : numbers ≡ once firsts ++ drop (length (once firsts)) d
-      written = rw (over h) m.put.octets
-
-    module _ (h : n ≤ i) where
-      pub done_answer : w ≡ length (once (take n d))
-      done_answer = told (omega (arith, length-take n d))
-
-      pub done_numbers : numbers ≡ once (take n d) ++ drop (length (once (take n d))) d
-      done_numbers = written (omega (arith, length-take n d))
-
     module _ (h : length numbers ≤ i) where
-      pub past_answer : w ≡ length (once (take n d))
-      past_answer = told (omega (arith, length-take n d, m.same_length))
+      over : once d ≡ m.before
+      over = m.left ∙ rw (drop_of_length-le d {i = i} (omega (arith, m.same_length))) (append-nil m.before)
 
-      pub past_numbers : numbers ≡ once (take n d) ++ drop (length (once (take n d))) d
-      past_numbers = written (omega (arith, length-take n d, m.same_length))
+      pub done_answer : w ≡ length (once d)
+      done_answer = m.put.count ∙ ap length (sym over)
 
-    module _ (h : i < n) (k : i < length numbers) where
+      pub done_numbers : numbers ≡ once d ++ drop (length (once d)) d
+      done_numbers = rw over m.put.octets
+
+    module _ (k : i < length numbers) where
       -- what is read was not written
       unread : get_or numbers i 0 ≡ get_or d i 0
       unread =
@@ -73,10 +56,8 @@ module _ (n : ℕ) (d : List ℕ) where
           let at : w + (i - w) ≡ i = omega (arith, m.few) in
           sym (rw at at (get_or-drop w numbers (i - w) 0)) ∙ ap (λ l. get_or l (i - w) 0) rest ∙ rw at at (get_or-drop w d (i - w) 0)
 
-      next : drop i firsts ≡ get_or numbers i 0 ∷ drop (i + 1) firsts
-      next =
-          rw (add-one i, unread, ← get_or-take n d i 0 h)
-          (drop-cons firsts i 0 (omega (arith, length-take n d, m.same_length)))
+      next : drop i d ≡ get_or numbers i 0 ∷ drop (i + 1) d
+      next = rw (add-one i, unread) (drop-cons d i 0 (omega (arith, m.same_length)))
 
       pub known : get_or asked (get_or numbers i 0) false ≡ true → Asking numbers asked w (i + 1)
       known e = record {
@@ -94,7 +75,7 @@ module _ (n : ℕ) (d : List ℕ) where
       new e asked' f l = record {
         before = m.before ++ (get_or numbers i 0 ∷ []);
         put = put_octet m.put (get_or numbers i 0) (m.before ++ (get_or numbers i 0 ∷ [])) (omega (arith, m.few)) refl;
-        left = m.left ∙ rw (next, e, f) (sym (append_assoc m.before (get_or numbers i 0 ∷ []) (once_behind (set asked (get_or numbers i 0) true) (drop (i + 1) firsts))));
+        left = m.left ∙ rw (next, e, f) (sym (append_assoc m.before (get_or numbers i 0 ∷ []) (once_behind (set asked (get_or numbers i 0) true) (drop (i + 1) d))));
         few = omega (arith, m.few);
         long = l;
         same_length = length-set numbers w (get_or numbers i 0) ∙ m.same_length;

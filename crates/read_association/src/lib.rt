@@ -11,31 +11,22 @@ pub struct AssociationAt {
     pub matching: u8,
 }
 
-#[derive(Clone, Copy)]
-pub enum AssociationRead {
-    Good(AssociationAt),
-    Fault,
-}
-
-pub fn read_association(d: &[u8]) -> AssociationRead
+pub fn read_association(d: &[u8]) -> Option<AssociationAt>
     ensures { result ≡ association_at d.now }
 {
-    if d.len() < 4 {
-        return AssociationRead::Fault;
+    match d {
+        [usage, selector, matching, _, ..] => Some(AssociationAt {
+            usage: *usage,
+            selector: *selector,
+            matching: *matching,
+        }),
+        _ => None,
     }
-    AssociationRead::Good(AssociationAt {
-        usage: d[0],
-        selector: d[1],
-        matching: d[2],
-    })
 }
 
 // The association data; empty if the data is malformed.
 pub fn association_part(d: &[u8]) -> &[u8]
     ensures { result.now ≡ association_part d.now }
 {
-    if d.len() < 4 {
-        return &d[0..0];
-    }
-    &d[3..]
+    if d.len() < 4 { &d[0..0] } else { &d[3..] }
 }

@@ -1,10 +1,10 @@
 -- A law of length_at for each return of read_length, and what a caller knows.
+use Rattle.std.specs.Prelude.{Option, None, Some}
 use Prim.Native.Nat.{ℕ, ◌+◌, ◌*◌, ◌/◌, ◌%◌, ◌-◌, ◌≤◌, ◌<◌, ◌^◌}
 use native.Mathlib.Omega.{arith}
 use mathlib.Core.Path.{◌≡◌, refl, sym, ap, ◌∙◌}
 use mathlib.Core.Logic.{◌≢◌}
 use mathlib.Core.List.{List, [], ◌∷◌, ◌++◌}
-use mathlib.Core.Option.{Option, none, some}
 use lib.ListN.{length, drop, get_or, length-drop, length-append}
 use lib.Seq.{drop-drop, drop-append_seam}
 use Rattle.spec_octets.specs.Reader.{in_octets}
@@ -13,8 +13,6 @@ use Rattle.spec_octets.proofs.Walks.{drop_step}
 use Rattle.spec_der.specs.Elements.{wire_length, element_length}
 use Rattle.spec_der.proofs.LengthLaws.{by_length, length_is_its_form}
 use Rattle.read_element.specs.declared.LengthAt.{LengthAt}
-use Rattle.read_element.specs.declared.LengthRead.{LengthRead}
-use Rattle.read_element.specs.declared.LengthRead.TheVariants.{Good, Fault}
 use Rattle.read_element.specs.Places.{length_places, length_at}
 
 -- what is left behind the front of what is left
@@ -46,28 +44,28 @@ by_octets {C} x u n rest e one two three =
 module _ (s : List ℕ) (at : ℕ) where
   -- l says which length stands there, and where its octets end
   pub record LengthTo (l : LengthAt) : Type 0 where
-    pub found : element_length (drop at s) ≡ some (l.value, drop l.next s)
+    pub found : element_length (drop at s) ≡ Some (l.value, drop l.next s)
     pub after : at < l.next
     pub inside : l.next ≤ length s
 
   pub length_to :
-      (n next : ℕ) → element_length (drop at s) ≡ some (n, drop next s) → next ≤ length s →
-      Good (record { value = n; next = next }) ≡ length_at s at
+      (n next : ℕ) → element_length (drop at s) ≡ Some (n, drop next s) → next ≤ length s →
+      Some (record { value = n; next = next }) ≡ length_at s at
   unfolding length_at
   length_to n next e h =
       let p : length s - length (drop next s) ≡ next = omega (arith, length-drop next s) in
       rw (e, p)
 
-  pub length_faults : element_length (drop at s) ≡ none → Fault ≡ length_at s at
+  pub length_faults : element_length (drop at s) ≡ None → None ≡ length_at s at
   unfolding length_at
   length_faults e = rw e
 
-  unread : ((n : ℕ) (rest : List ℕ) → drop at s ≡ wire_length n ++ rest → n < 2 ^ 16 → ⊥) → Fault ≡ length_at s at
+  unread : ((n : ℕ) (rest : List ℕ) → drop at s ≡ wire_length n ++ rest → n < 2 ^ 16 → ⊥) → None ≡ length_at s at
   unread bad =
       length_faults (nothing_found (element_length (drop at s)) (λ r e.
       let k = (length_is_its_form (drop at s) r.0 r.1).0 e in bad r.0 r.1 k.0 k.1))
 
-  pub nothing_left : length s ≤ at → Fault ≡ length_at s at
+  pub nothing_left : length s ≤ at → None ≡ length_at s at
   nothing_left h = unread (λ n rest e k.
       by_length n
       (λ i w. omega (arith, long_front s at (wire_length n) rest e, ap length w))
@@ -78,13 +76,13 @@ module _ (s : List ℕ) (at : ℕ) where
     here : drop at s ≡ x ∷ drop (at + 1) s
     here = drop_step 0 s at (at + 1) h refl ∙ rw (← a)
 
-    stands : (n : ℕ) (w rest : List ℕ) → wire_length n ≡ w → x ∷ drop (at + 1) s ≡ w ++ rest → n < 2 ^ 16 → element_length (drop at s) ≡ some (n, rest)
+    stands : (n : ℕ) (w rest : List ℕ) → wire_length n ≡ w → x ∷ drop (at + 1) s ≡ w ++ rest → n < 2 ^ 16 → element_length (drop at s) ≡ Some (n, rest)
     stands n w rest e f small = (length_is_its_form (drop at s) n rest).1 (here ∙ f ∙ rw e, small)
 
-    bad : ((n : ℕ) (rest : List ℕ) → x ∷ drop (at + 1) s ≡ wire_length n ++ rest → n < 2 ^ 16 → ⊥) → Fault ≡ length_at s at
+    bad : ((n : ℕ) (rest : List ℕ) → x ∷ drop (at + 1) s ≡ wire_length n ++ rest → n < 2 ^ 16 → ⊥) → None ≡ length_at s at
     bad no_length = unread (λ n rest e. no_length n rest (sym here ∙ e))
 
-    pub one_octet : x < 128 → Good (record { value = x; next = at + 1 }) ≡ length_at s at
+    pub one_octet : x < 128 → Some (record { value = x; next = at + 1 }) ≡ length_at s at
     one_octet k =
         length_to x (at + 1)
         (by_length x
@@ -94,7 +92,7 @@ module _ (s : List ℕ) (at : ℕ) where
         (omega arith)
 
     module _ (k : 128 ≤ x) where
-      pub second_cut_off : length s ≤ at + 1 → Fault ≡ length_at s at
+      pub second_cut_off : length s ≤ at + 1 → None ≡ length_at s at
       second_cut_off l = bad (λ n rest e small. by_octets x (drop (at + 1) s) n rest e
           (λ i f. omega arith)
           (λ i f g. let z = ap length g in omega (arith, length-drop (at + 1) s))
@@ -104,13 +102,13 @@ module _ (s : List ℕ) (at : ℕ) where
         next : drop (at + 1) s ≡ y ∷ drop (at + 1 + 1) s
         next = drop_step 0 s (at + 1) (at + 1 + 1) i refl ∙ rw (← c)
 
-        pub not_the_shortest : x ≡ 129 → y < 128 → Fault ≡ length_at s at
+        pub not_the_shortest : x ≡ 129 → y < 128 → None ≡ length_at s at
         not_the_shortest e l = bad (λ n rest f small. by_octets x (drop (at + 1) s) n rest f
             (λ j g. omega arith)
             (λ j g u. let z : y ∷ drop (at + 1 + 1) s ≡ n ∷ rest = sym next ∙ u in let q : y ≡ n = cc in omega arith)
             (λ j g u. omega arith))
 
-        pub two_octets : x ≡ 129 → 128 ≤ y → y < 256 → Good (record { value = y; next = at + 1 + 1 }) ≡ length_at s at
+        pub two_octets : x ≡ 129 → 128 ≤ y → y < 256 → Some (record { value = y; next = at + 1 + 1 }) ≡ length_at s at
         two_octets e l m =
             length_to y (at + 1 + 1)
             (by_length y
@@ -120,31 +118,31 @@ module _ (s : List ℕ) (at : ℕ) where
             (omega arith)
 
         module _ (e : x ≢ 129) where
-          pub no_such_form : x ≢ 130 → Fault ≡ length_at s at
+          pub no_such_form : x ≢ 130 → None ≡ length_at s at
           no_such_form f = bad (λ n rest g small. by_octets x (drop (at + 1) s) n rest g
               (λ j p. omega arith)
               (λ j p u. e p)
               (λ j p u. f p))
 
           module _ (f : x ≡ 130) where
-            pub third_cut_off : length s ≤ at + 1 + 1 → Fault ≡ length_at s at
+            pub third_cut_off : length s ≤ at + 1 + 1 → None ≡ length_at s at
             third_cut_off l = bad (λ n rest g small. by_octets x (drop (at + 1) s) n rest g
                 (λ j p. omega arith)
                 (λ j p u. e p)
                 (λ j p u. let z = ap length u in omega (arith, length-drop (at + 1) s)))
 
+            pub leading_zero : y ≡ 0 → None ≡ length_at s at
+            leading_zero l = bad (λ n rest g small. by_octets x (drop (at + 1) s) n rest g
+                (λ p q. omega arith)
+                (λ p q u. e q)
+                (λ p q u. let w : y ∷ drop (at + 1 + 1) s ≡ n / 256 % 256 ∷ n % 256 ∷ rest = sym next ∙ u in
+                let v : y ≡ n / 256 % 256 = cc in omega arith))
+
             module _ (z : ℕ) (j : at + 1 + 1 < length s) (o : z ≡ get_or s (at + 1 + 1) 0) where
               last : drop (at + 1 + 1) s ≡ z ∷ drop (at + 1 + 1 + 1) s
               last = drop_step 0 s (at + 1 + 1) (at + 1 + 1 + 1) j refl ∙ rw (← o)
 
-              pub leading_zero : y ≡ 0 → Fault ≡ length_at s at
-              leading_zero l = bad (λ n rest g small. by_octets x (drop (at + 1) s) n rest g
-                  (λ p q. omega arith)
-                  (λ p q u. e q)
-                  (λ p q u. let w : y ∷ drop (at + 1 + 1) s ≡ n / 256 % 256 ∷ n % 256 ∷ rest = sym next ∙ u in
-                  let v : y ≡ n / 256 % 256 = cc in omega arith))
-
-              pub three_octets : y ≢ 0 → y < 256 → z < 256 → Good (record { value = y * 256 + z; next = at + 1 + 1 + 1 }) ≡ length_at s at
+              pub three_octets : y ≢ 0 → y < 256 → z < 256 → Some (record { value = y * 256 + z; next = at + 1 + 1 + 1 }) ≡ length_at s at
               three_octets l m t =
                   length_to (y * 256 + z) (at + 1 + 1 + 1)
                   (by_length (y * 256 + z)
@@ -160,18 +158,18 @@ module _ (s : List ℕ) (at : ℕ) where
                       rw (high, low, f, next, last) refl
 
   -- what a caller of read_length knows
-  module _ (o : LengthRead) (f : o ≡ length_at s at) where
-    pub no_length : o ≡ Fault → element_length (drop at s) ≡ none
+  module _ (o : Option LengthAt) (f : o ≡ length_at s at) where
+    pub no_length : o ≡ None → element_length (drop at s) ≡ None
     unfolding length_at
     no_length g = (fault_told (length_places s) (element_length (drop at s)) (λ r e. let z : ◌≡◌ {A = ℕ} 0 1 = cc in omega arith)).0 (sym f ∙ g)
 
-    pub length_there : (l : LengthAt) → o ≡ Good l → LengthTo l
+    pub length_there : (l : LengthAt) → o ≡ Some l → LengthTo l
     unfolding length_at
     length_there l g = go (element_length (drop at s)) refl (sym f ∙ g)
       where
         there :
-            (n : ℕ) (rest : List ℕ) → element_length (drop at s) ≡ some (n, rest) →
-            Good (record { value = n; next = length s - length rest }) ≡ Good l → LengthTo l
+            (n : ℕ) (rest : List ℕ) → element_length (drop at s) ≡ Some (n, rest) →
+            Some (record { value = n; next = length s - length rest }) ≡ Some l → LengthTo l
         there n rest e p =
             let front = ((length_is_its_form (drop at s) n rest).0 e).0 in
             let long = long_front s at (wire_length n) rest front in
@@ -182,6 +180,6 @@ module _ (s : List ℕ) (at : ℕ) where
             let same : record { value = n; next = length s - length rest } ≡ l = cc in
             rw (← same) (record { found = rw behind e; after = omega arith; inside = omega arith })
 
-        go : (r : Option (ℕ × List ℕ)) → element_length (drop at s) ≡ r → length_places s r ≡ Good l → LengthTo l
-        go none e p = let z : ◌≡◌ {A = ℕ} 0 1 = cc in absurd (omega arith)
-        go (some r) e p = there r.0 r.1 e p
+        go : (r : Option (ℕ × List ℕ)) → element_length (drop at s) ≡ r → length_places s r ≡ Some l → LengthTo l
+        go None e p = let z : ◌≡◌ {A = ℕ} 0 1 = cc in absurd (omega arith)
+        go (Some r) e p = there r.0 r.1 e p

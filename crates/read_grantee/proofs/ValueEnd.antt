@@ -1,9 +1,9 @@
 -- The value of CAA data is a suffix of the data.
+use Rattle.std.specs.Prelude.{Option, None, Some}
 use Prim.Native.Nat.{ℕ, ◌≤◌, ◌+◌, ◌-◌}
 use native.Mathlib.Omega.{arith}
 use mathlib.Core.Path.{◌≡◌, refl}
 use mathlib.Core.List.{List, ◌∷◌}
-use mathlib.Core.Option.{Option, none, some}
 use lib.ListN.{length, drop, length-append, drop_of_length-le}
 use lib.Seq.{drop_at}
 use Rattle.spec_record.specs.Property.{Property, wire_property, property}
@@ -16,16 +16,16 @@ module _ (d : List ℕ) where
   value_short = go (property d) refl
     where
       go : (o : Option Property) → property d ≡ o → length (value_in o) ≤ length d
-      go none e = omega arith
-      go (some p) e = let (made, tagged) = (property_is_its_parts d p).0 e in rw (made, length-append) (omega arith)
+      go None e = omega arith
+      go (Some p) e = let (made, tagged) = (property_is_its_parts d p).0 e in rw (made, length-append) (omega arith)
 
   pub value_ends : drop (length d - length (value_part d)) d ≡ value_part d
   unfolding value_part
   value_ends = go (property d) refl
     where
       go : (o : Option Property) → property d ≡ o → drop (length d - length (value_in o)) d ≡ value_in o
-      go none e = drop_of_length-le d {i = length d - 0} (omega arith)
-      go (some p) e =
+      go None e = drop_of_length-le d {i = length d - 0} (omega arith)
+      go (Some p) e =
           let (made, tagged) = (property_is_its_parts d p).0 e in
           let front : 2 + length p.tag ≡ length (wire_property p) - length p.value = rw length-append (omega arith) in
           rw made (drop_at (p.flags ∷ length p.tag ∷ p.tag) p.value (length (wire_property p) - length p.value) (omega (arith, front)))

@@ -1,6 +1,5 @@
 -- What the definitions of this crate mean. Each statement is proved under its name in proofs/.
-use Rattle.std.specs.Prelude.{ℕ, ◌≡◌, List}
-use Rattle.std.proofs.Math.Option.{none, some}
+use Rattle.std.specs.Prelude.{ℕ, ◌≡◌, List, None, Some}
 use Rattle.spec_record.specs.Property.{property}
 use Rattle.spec_applicant.specs.Applicant.{Applicant}
 use Rattle.spec_rule.specs.RelevantSet.{CaaRecord}
@@ -11,7 +10,7 @@ use Rattle.read_grantee.specs.Places.{grantee_of_data, grantee_at, grantee_there
 abbrev pub GranteeOfData : Type 0
 GranteeOfData =
     (who : Applicant) (d : List ℕ) →
-    ((c : CaaRecord) → property d ≡ some c.property → grantee_of_data who d ≡ grantee who c) × (property d ≡ none → grantee_of_data who d ≡ none)
+    ((c : CaaRecord) → property d ≡ Some c.property → grantee_of_data who d ≡ grantee who c) × (property d ≡ None → grantee_of_data who d ≡ None)
 
 -- The offsets of the issuer give that same issuer.
 abbrev pub GranteeByPlace : Type 0

@@ -3,53 +3,39 @@
 
 ghost use Rattle.std.specs.Prelude.{◌≡◌};
 ghost use Rattle.read_grantee.specs.Places.{issuer_at, grantee_at};
+ghost use Rattle.spec_applicant.specs.Applicants.{texts};
 
 use read_value::{NameAt, ValueRead};
+use spec_applicant::Applicant;
 
-// The offsets of an issuer domain name in the data, and of the parameters after it; or nobody.
-#[derive(Clone, Copy)]
-pub enum GranteeRead {
-    At(NameAt),
-    Nobody,
-}
-
-// The issuer that CAA data names, whatever its parameters say. A value that doesn't match the grammar, has no name, or has one over the
+// The issuer that CAA data names: the offsets of the name in the data, and of the parameters after it, whatever its parameters say. A value that doesn't match the grammar, has no name, or has one over the
 // limits of issuer domain names names nobody.
-pub fn issuer_in(d: &[u8]) -> GranteeRead
+pub fn issuer_in(d: &[u8]) -> Option<NameAt>
     ensures { result ≡ issuer_at d.now }
 {
     let v = read_property::value_part(d);
     let ValueRead::Named(n) = read_value::read_value(v) else {
-        return GranteeRead::Nobody;
+        return None;
     };
-    let from = n.from;
-    let to = n.to;
-    let name = &v[from..to];
-    if !read_issuer::is_issuer(name) {
-        return GranteeRead::Nobody;
+    if !read_issuer::is_issuer(&v[n.from..n.to]) {
+        return None;
     }
     // The value is a suffix of the data.
     let start = d.len() - v.len();
-    let first = start + from;
-    let end = start + to;
-    let parameters = start + n.parameters;
-    GranteeRead::At(NameAt {
-        from: first,
-        to: end,
-        parameters,
+    Some(NameAt {
+        from: start + n.from,
+        to: start + n.to,
+        parameters: start + n.parameters,
     })
 }
 
 // The issuer that CAA data grants to an applicant: the one that it names, if its parameters admit this account and this method.
-pub fn read_grantee(d: &[u8], account: &[u8], method: &[u8]) -> GranteeRead
-    ensures { result ≡ grantee_at (record { account = account.entry.now; method = method.now }) d.now }
+pub fn read_grantee(d: &[u8], applicant: Applicant) -> Option<NameAt>
+    ensures { result ≡ grantee_at (texts applicant.entry) d.now }
 {
-    let GranteeRead::At(n) = issuer_in(d) else {
-        return GranteeRead::Nobody;
-    };
-    let at = n.parameters;
-    if !read_limits::limits_met(&d[at..], account, method) {
-        return GranteeRead::Nobody; // a grant for another account or method
+    let n = issuer_in(d)?;
+    if !read_limits::limits_met(&d[n.parameters..], applicant) {
+        return None; // a grant for another account or method
     }
-    GranteeRead::At(n)
+    Some(n)
 }

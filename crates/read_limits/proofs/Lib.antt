@@ -1,2 +1,1 @@
 mod LimitWalk
-mod StepTests

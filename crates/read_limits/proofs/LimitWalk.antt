@@ -1,4 +1,5 @@
 -- The limits of the parameters that are left, when some limits were seen before: one parameter at a time.
+use Rattle.std.specs.Prelude.{Option, Some, None}
 use Prim.Native.Nat.{ℕ, ◌+◌, ◌-◌, ◌≤◌, ◌<◌}
 use Prim.Native.Char.{code}
 use native.Mathlib.Omega.{arith}
@@ -25,8 +26,6 @@ use Rattle.read_parameters.specs.Parameters.{parameters_behind}
 use Rattle.read_methods.specs.Methods.{names_method_in}
 use Rattle.read_limits.specs.Limits.{limit_step}
 use Rattle.read_limits.specs.declared.Seen.{Seen}
-use Rattle.read_limits.specs.declared.LimitStep.{LimitStep}
-use Rattle.read_limits.specs.declared.LimitStep.TheVariants.{Admitted, NotAdmitted}
 
 -- The values that are left: none if the limit was set before, otherwise at most one.
 abbrev still_met : Bool → (List ℕ → Bool) → List (List ℕ) → Bool
@@ -37,9 +36,9 @@ left who seen ps =
     still_met seen.account (same who.account) (values_of (text "accounturi") ps)
     && still_met seen.methods (names_method_in who.method) (values_of (text "validationmethods") ps)
 
-abbrev left_after : Applicant → LimitStep → List Parameter → Bool
-left_after who (Admitted seen) ps = left who seen ps
-left_after who NotAdmitted ps = false
+abbrev left_after : Applicant → Option Seen → List Parameter → Bool
+left_after who (Some seen) ps = left who seen ps
+left_after who None ps = false
 
 -- A parameter has one of the two tags at most.
 tags_differ : (p : Parameter) → is_tagged (text "accounturi") p ≡ true → is_tagged (text "validationmethods") p ≡ false
@@ -68,7 +67,7 @@ module _ (who : Applicant) (seen : Seen) (p : Parameter) (ps : List Parameter) w
           go : (t : Bool) →
               ((t && is_empty (values_of (text "accounturi") ps))
               && still_met seen.methods (names_method_in who.method) (values_of (text "validationmethods") ps))
-              ≡ left_after who (cond t (Admitted (record { account = true; methods = seen.methods })) NotAdmitted) ps
+              ≡ left_after who (cond t (Some (record { account = true; methods = seen.methods })) None) ps
           go true = refl
           go false = refl
 
@@ -86,7 +85,7 @@ module _ (who : Applicant) (seen : Seen) (p : Parameter) (ps : List Parameter) w
               go : (t : Bool) →
                   (still_met seen.account (same who.account) (values_of (text "accounturi") ps)
                   && (t && is_empty (values_of (text "validationmethods") ps)))
-                  ≡ left_after who (cond t (Admitted (record { account = seen.account; methods = true })) NotAdmitted) ps
+                  ≡ left_after who (cond t (Some (record { account = seen.account; methods = true })) None) ps
               go true = refl
               go false = and-false (still_met seen.account (same who.account) (values_of (text "accounturi") ps))
 
@@ -114,7 +113,7 @@ from_start who s = go (split (code ";") s)
 -- x is the parameter at the offset `at`, which ends at e, and o what it says
 module _ (who : Applicant) (s : List ℕ) (at e : ℕ) (cut : e ≡ piece_end (code ";") s at) (seen : Seen)
     (rest : admits who (parameters_behind s) ≡ left who seen (map parameter_in (split (code ";") (drop at s))))
-    (x : List ℕ) (part : x ≡ take (e - at) (drop at s)) (o : LimitStep) (told : o ≡ limit_step who seen (parameter_in x)) where
+    (x : List ℕ) (part : x ≡ take (e - at) (drop at s)) (o : Option Seen) (told : o ≡ limit_step who seen (parameter_in x)) where
   last_one : length s ≤ e → admits who (parameters_behind s) ≡ left_after who o []
   last_one h = rest ∙ rw (pieces_last (code ";") s at e cut h, ← part, told) (step who seen (parameter_in x) [])
 
@@ -123,13 +122,13 @@ module _ (who : Applicant) (s : List ℕ) (at e : ℕ) (cut : e ≡ piece_end (c
       rest ∙ rw (pieces_more (code ";") s at e cut j h next, ← part, told)
       (step who seen (parameter_in x) (map parameter_in (split (code ";") (drop j s))))
 
-  pub not_admitted : o ≡ NotAdmitted → false ≡ admits who (parameters_behind s)
+  pub not_admitted : o ≡ None → false ≡ admits who (parameters_behind s)
   not_admitted g = ⊎_elim
       (λ h. sym (next_one (e + 1) (ltb-true e (length s) h) refl ∙ rw g))
       (λ h. sym (last_one (ltb-false e (length s) h) ∙ rw g))
       (true_or_false (ltb e (length s)))
 
-  module _ (after : Seen) (g : o ≡ Admitted after) where
+  module _ (after : Seen) (g : o ≡ Some after) where
     pub last_admitted : length s ≤ e → true ≡ admits who (parameters_behind s)
     last_admitted h = sym (last_one h ∙ rw g (nothing_left after.account after.methods))
       where

@@ -6,6 +6,9 @@ ghost use Rattle.spec_value.specs.Parameters.{parameter_in};
 ghost use Rattle.spec_applicant.specs.Admission.{admits};
 ghost use Rattle.read_parameters.specs.Parameters.{parameters_behind};
 ghost use Rattle.read_limits.specs.Limits.{limit_step};
+ghost use Rattle.spec_applicant.specs.Applicants.{texts};
+
+use spec_applicant::Applicant;
 
 // Which of the two limits the parameters so far have set.
 #[derive(Clone, Copy)]
@@ -14,57 +17,42 @@ pub struct Seen {
     pub methods: bool,
 }
 
-// What a parameter says of an applicant: the limits seen with it, or that the applicant is not admitted.
-#[derive(Clone, Copy)]
-pub enum LimitStep {
-    Admitted(Seen),
-    NotAdmitted,
-}
-
-// One parameter, after those that have set the limits seen so far. A limit that is set again, or not met, admits nobody.
-fn limit_step(s: &[u8], seen: Seen, account: &[u8], method: &[u8]) -> LimitStep
-    ensures { result ≡ limit_step (record { account = account.entry.now; method = method.now }) seen (parameter_in s.now) }
+// One parameter, after those that have set the limits seen so far: the limits seen with it. None if it admits nobody: its limit was set
+// before, or is not met.
+fn limit_step(s: &[u8], seen: Seen, applicant: Applicant) -> Option<Seen>
+    ensures { result ≡ limit_step (texts applicant.entry) seen (parameter_in s.now) }
 {
     let tag = read_parts::parameter_tag(s);
+    let value = read_parts::parameter_value(s);
     if text_compare::same_ignoring_case(tag, b"accounturi") {
-        if seen.account {
-            return LimitStep::NotAdmitted;
-        }
-        if !text_equal::is_same(account, read_parts::parameter_value(s)) {
-            return LimitStep::NotAdmitted;
-        }
-        return LimitStep::Admitted(Seen {
+        let met = !seen.account && text_equal::is_same(applicant.account, value);
+        met.then_some(Seen {
             account: true,
-            methods: seen.methods,
-        });
-    }
-    if text_compare::same_ignoring_case(tag, b"validationmethods") {
-        if seen.methods {
-            return LimitStep::NotAdmitted;
-        }
-        if !read_methods::names_method(read_parts::parameter_value(s), method) {
-            return LimitStep::NotAdmitted;
-        }
-        return LimitStep::Admitted(Seen {
-            account: seen.account,
+            ..seen
+        })
+    } else if text_compare::same_ignoring_case(tag, b"validationmethods") {
+        let met = !seen.methods && read_methods::names_method(value, applicant.method);
+        met.then_some(Seen {
             methods: true,
-        });
+            ..seen
+        })
+    } else {
+        Some(seen)
     }
-    LimitStep::Admitted(seen)
 }
 
 // Whether the parameters in the octets after the first semicolon of a value admit an applicant.
-pub fn limits_met(s: &[u8], account: &[u8], method: &[u8]) -> bool
-    ensures { result ≡ admits (record { account = account.entry.now; method = method.now }) (parameters_behind s.now) }
+pub fn limits_met(s: &[u8], applicant: Applicant) -> bool
+    ensures { result ≡ admits (texts applicant.entry) (parameters_behind s.now) }
 {
-    let mut seen: Seen = Seen {
+    let mut seen = Seen {
         account: false,
         methods: false,
     };
-    let mut at: usize = 0;
+    let mut at = 0;
     loop {
         let e = text_labels::piece_end(s, at, b';');
-        let LimitStep::Admitted(next) = limit_step(&s[at..e], seen, account, method) else {
+        let Some(next) = limit_step(&s[at..e], seen, applicant) else {
             return false;
         };
         if s.len() <= e {

@@ -1,18 +1,15 @@
 -- The same definitions over offsets, for code that walks a slice: `name_end s at` is about the octets of `s` from offset `at` on.
-use Rattle.std.specs.Prelude.{ℕ, ◌+◌, cond, ◌||◌, List, [], ◌∷◌, eqb, ltb, length, drop}
-use Rattle.std.proofs.Math.Option.{Option, none, some}
+use Rattle.std.specs.Prelude.{ℕ, ◌+◌, cond, ◌||◌, List, [], ◌∷◌, eqb, ltb, length, drop, Option, None, Some}
 use Rattle.spec_octets.specs.Reader.{place_of}
-use Rattle.read_name.specs.declared.NameEnd.{NameEnd}
-use Rattle.read_name.specs.declared.NameEnd.TheVariants.{At, Fault}
 use Rattle.spec_name.specs.Names.{Name, name}
 
 -- A name ends where the remaining octets begin.
-abbrev pub end_of : List ℕ → Option (Name × List ℕ) → NameEnd
-end_of s none = Fault
-end_of s (some r) = At (place_of s r.1)
+abbrev pub end_of : List ℕ → Option (Name × List ℕ) → Option ℕ
+end_of s None = None
+end_of s (Some r) = Some (place_of s r.1)
 
 -- The offset at which the name that begins at `at` ends.
-unfoldable pub name_end : List ℕ → ℕ → NameEnd
+unfoldable pub name_end : List ℕ → ℕ → Option ℕ
 name_end s at = end_of s (name (drop at s))
 
 -- The offset of the parent: the one after the label at `at`, where s are the octets from `at` on. `at` itself if no complete label is there.

@@ -7,32 +7,26 @@ ghost use Rattle.read_name.specs.Places.{name_end, parent_place};
 use spec_limits::{MAX_LABEL_OCTETS, MAX_NAME_OCTETS};
 
 // The offset after the closing zero of a name, or a fault.
-#[derive(Clone, Copy)]
-pub enum NameEnd {
-    At(usize),
-    Fault,
-}
-
-pub fn name_end(s: &[u8], at: usize) -> NameEnd
+pub fn name_end(s: &[u8], at: usize) -> Option<usize>
     ensures { result ≡ name_end s.now at }
 {
-    let mut p: usize = at;
+    let mut p = at;
     while p < s.len() {
-        let n = s[p] as usize;
+        let n = usize::from(s[p]);
         let next = p + 1;
         if MAX_NAME_OCTETS < next - at {
-            return NameEnd::Fault;
+            return None;
         }
         if n == 0 {
-            return NameEnd::At(next);
+            return Some(next);
         }
         if MAX_LABEL_OCTETS < n {
-            return NameEnd::Fault;
+            return None;
         }
         p = next + n;
     }
     // No closing zero, or a label longer than the remaining octets.
-    NameEnd::Fault
+    None
 }
 
 // The offset of a label in a name. The search for the relevant set goes up the DNS tree label by label (the requirements' "climb").
@@ -46,17 +40,13 @@ impl Climb {
     pub fn up(self, name: &[u8]) -> Climb
         ensures { result.at ≡ parent_place name.now self.at }
     {
-        let at = self.at;
-        if name.len() <= at {
-            return Climb { at };
+        if name.len() <= self.at {
+            return self;
         }
-        let label = name[at] as usize;
-        let next = at + 1;
-        if label == 0 {
-            return Climb { at };
-        }
-        if name.len() - next < label {
-            return Climb { at };
+        let label = usize::from(name[self.at]);
+        let next = self.at + 1;
+        if label == 0 || name.len() - next < label {
+            return self;
         }
         Climb { at: next + label }
     }

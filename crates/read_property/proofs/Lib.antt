@@ -1,2 +1,1 @@
-pub mod TagTests
 pub mod PropertyPlaces

@@ -9,6 +9,7 @@ ghost use Rattle.read_property.specs.Places.{property_at, tag_part, value_part};
 use spec_record::PropertyTag;
 use text_classes::Class;
 
+#[tactic(auto, unfolding(spec_record::specs::Property::tag_of))]
 pub fn tag_of(t: &[u8]) -> PropertyTag
     ensures { result ≡ tag_of t.now }
 {
@@ -31,26 +32,17 @@ pub struct PropertyAt {
     pub value: usize,
 }
 
-#[derive(Clone, Copy)]
-pub enum PropertyRead {
-    Good(PropertyAt),
-    Fault,
-}
-
-pub fn read_property(d: &[u8]) -> PropertyRead
+pub fn read_property(d: &[u8]) -> Option<PropertyAt>
     ensures { result ≡ property_at d.now }
 {
     if d.len() < 2 {
-        return PropertyRead::Fault;
+        return None;
     }
-    let n = d[1] as usize;
-    if n == 0 {
-        return PropertyRead::Fault;
+    let n = usize::from(d[1]);
+    if n == 0 || d.len() - 2 < n {
+        return None;
     }
-    if d.len() - 2 < n {
-        return PropertyRead::Fault;
-    }
-    PropertyRead::Good(PropertyAt {
+    Some(PropertyAt {
         flags: d[0],
         value: 2 + n,
     })
@@ -60,30 +52,27 @@ pub fn read_property(d: &[u8]) -> PropertyRead
 pub fn tag_part(d: &[u8]) -> &[u8]
     ensures { result.now ≡ tag_part d.now }
 {
-    let PropertyRead::Good(p) = read_property(d) else {
-        return &d[0..0];
-    };
-    let e = p.value;
-    &d[2..e]
+    match read_property(d) {
+        Some(p) => &d[2..p.value],
+        None => &d[..0],
+    }
 }
 
 pub fn value_part(d: &[u8]) -> &[u8]
     ensures { result.now ≡ value_part d.now }
 {
-    let PropertyRead::Good(p) = read_property(d) else {
-        return &d[0..0];
-    };
-    let at = p.value;
-    &d[at..]
+    match read_property(d) {
+        Some(p) => &d[p.value..],
+        None => &d[..0],
+    }
 }
 
 // Whether CAA data is well formed: it holds a property, and its tag is letters and digits.
 pub fn is_caa_data(d: &[u8]) -> bool
     ensures { result ≡ is_caa_data (property d.now) }
 {
-    let PropertyRead::Good(p) = read_property(d) else {
-        return false;
-    };
-    let end = p.value;
-    text_classes::all_of(&d[2..end], Class::LetterOrDigit)
+    match read_property(d) {
+        Some(p) => text_classes::all_of(&d[2..p.value], Class::LetterOrDigit),
+        None => false,
+    }
 }

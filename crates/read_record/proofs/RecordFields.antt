@@ -1,9 +1,9 @@
 -- The fields of a record at their offsets after the owner.
+use Rattle.std.specs.Prelude.{Some}
 use Prim.Native.Nat.{ℕ, ◌≤◌, ◌+◌, ◌-◌}
 use native.Mathlib.Omega.{arith}
 use mathlib.Core.Path.{◌≡◌, refl}
 use mathlib.Core.List.{List}
-use mathlib.Core.Option.{some}
 use lib.ListN.{length, take, drop}
 use Rattle.spec_octets.specs.Reader.{value_from}
 use Rattle.spec_octets.proofs.ReaderLaws.{pure_some}
@@ -47,7 +47,7 @@ module _ (s : List ℕ) where
     here = record_from owner e
 
     pub fields_read :
-        (r : Record) (rest : List ℕ) → record_fields (drop at s) ≡ some (r, rest) →
+        (r : Record) (rest : List ℕ) → record_fields (drop at s) ≡ Some (r, rest) →
         Whole e × (here ≡ r) × (drop (e + 10 + data_length e) s ≡ rest)
     unfolding record_fields
     fields_read r rest h =
@@ -59,7 +59,7 @@ module _ (s : List ℕ) where
         let (f, g) = (pure_some here r (drop (e + 10 + data_length e) s) rest).0 r₅ in
         (record { fixed = omega arith; data_fits = l₅ }, f, g)
 
-    pub fields_stand : Whole e → record_fields (drop at s) ≡ some (here, drop (e + 10 + data_length e) s)
+    pub fields_stand : Whole e → record_fields (drop at s) ≡ Some (here, drop (e + 10 + data_length e) s)
     unfolding record_fields
     fields_stand w =
         rw k.found

@@ -1,6 +1,5 @@
 -- What the definitions by offset say of records. The statement is proved under its name in proofs/.
-use Rattle.std.specs.Prelude.{ℕ, ◌≡◌, ◌↔◌, true, List}
-use Rattle.std.proofs.Math.Option.{some}
+use Rattle.std.specs.Prelude.{ℕ, ◌≡◌, ◌↔◌, true, List, Some}
 use Rattle.spec_record.specs.Records.{Record, is_laid_out, resource_record}
 use Rattle.read_record.specs.Places.{record_fields}
 
@@ -8,4 +7,4 @@ use Rattle.read_record.specs.Places.{record_fields}
 abbrev pub FieldsAndData : Type 0
 FieldsAndData =
     (s : List ℕ) (r : Record) (rest : List ℕ) →
-    (resource_record s ≡ some (r, rest)) ↔ ((record_fields s ≡ some (r, rest)) × (is_laid_out r.type r.class r.rdata ≡ true))
+    (resource_record s ≡ Some (r, rest)) ↔ ((record_fields s ≡ Some (r, rest)) × (is_laid_out r.type r.class r.rdata ≡ true))

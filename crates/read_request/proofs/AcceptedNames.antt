@@ -1,10 +1,10 @@
 -- The names of an accepted request, offset by offset, for code that walks a request that was checked.
+use Rattle.std.specs.Prelude.{None, Some, Option}
 use Prim.Native.Nat.{ℕ, suc, ◌≤◌, ◌<◌, ◌+◌, ◌-◌}
 use native.Mathlib.Omega.{arith}
 use mathlib.Core.Path.{◌≡◌, refl, sym, ap, ◌∙◌}
 use mathlib.Core.Bool.{Bool, true, false, cond}
 use mathlib.Core.List.{List, [], ◌∷◌}
-use mathlib.Core.Option.{none, some}
 use lib.Dec.{ltb}
 use lib.ListN.{length, take, drop, length-drop, drop_of_length-le}
 use Rattle.spec_limits.specs.Limits.{max_request_octets, max_names}
@@ -16,13 +16,11 @@ use Rattle.spec_octets.proofs.ReaderLaws.{bind_some, given_some, pure_some}
 use Rattle.spec_name.specs.Names.{Name, wire, name, GoodName}
 use Rattle.spec_name.proofs.NameLaws.{name_is_its_labels}
 use Rattle.read_request.specs.declared.Requested.{Requested}
-use Rattle.read_request.specs.declared.RequestedRead.{RequestedRead}
-use Rattle.read_request.specs.declared.RequestedRead.TheVariants.{Good, Fault}
 use Rattle.spec_request.specs.Request.{is_wildcard, base, is_requestable, requested_name, name_items, requested_names, name_refusal, request_refusal}
 use Rattle.read_request.specs.Places.{requested_at}
 use Rattle.read_request.proofs.RequestPlaces.{RequestedTo, requested_there, name_broken}
 
-good_read : (s : List ℕ) (n : Name) (rest : List ℕ) → requested_name s ≡ some (n, rest) → GoodName n
+good_read : (s : List ℕ) (n : Name) (rest : List ℕ) → requested_name s ≡ Some (n, rest) → GoodName n
 unfolding requested_name
 good_read s n rest e =
     let (m, mid, found, ok) = (bind_some name _ s n rest).0 e in
@@ -46,7 +44,7 @@ module _ (s : List ℕ) where
     pub wild : r.wildcard ≡ is_wildcard first
     pub after : NamesLeft r.next (suc k) others
 
-  pub all_names : request_refusal s ≡ none → NamesLeft 0 0 (requested_names s)
+  pub all_names : request_refusal s ≡ None → NamesLeft 0 0 (requested_names s)
   unfolding request_refusal requested_names name_items
   all_names e = record {
     room = max_names;
@@ -54,7 +52,7 @@ module _ (s : List ℕ) where
     left = go (ltb max_request_octets (length s)) (is_empty s) (items requested_name max_names s) e;
   }
     where
-      go : (long none_left : Bool) (i : Items Name) → cond long (some RequestTooLong) (cond none_left (some (BadName (record { 0 = 0 }))) (name_refusal i)) ≡ none → i ≡ whole (whole_items i)
+      go : (long none_left : Bool) (i : Items Name) → cond long (Some RequestTooLong) (cond none_left (Some (BadName (record { 0 = 0 }))) (name_refusal i)) ≡ None → i ≡ whole (whole_items i)
       go true n i e = let z : ◌≡◌ {A = ℕ} 0 1 = cc in absurd (omega arith)
       go false true i e = let z : ◌≡◌ {A = ℕ} 0 1 = cc in absurd (omega arith)
       go false false (whole xs) e = refl
@@ -74,13 +72,13 @@ module _ (s : List ℕ) where
       pub names_few : k < max_names
       names_few = omega (arith, w.within, more.room_left)
 
-      module _ (o : RequestedRead) (f : o ≡ requested_at s at) where
-        pub names_good : o ≡ Fault → ⊥
+      module _ (o : Option Requested) (f : o ≡ requested_at s at) where
+        pub names_good : o ≡ None → ⊥
         names_good g =
             let unread = name_broken s at o f g in
             let z : ◌≡◌ {A = ℕ} 0 1 = cc more.found in omega arith
 
-        pub next_name : (r : Requested) → o ≡ Good r → NextName k names r
+        pub next_name : (r : Requested) → o ≡ Some r → NextName k names r
         next_name r g = go (requested_there s at o f r g)
           where
             go : (n : Name) × RequestedTo s at r n → NextName k names r

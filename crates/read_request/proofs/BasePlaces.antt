@@ -1,4 +1,5 @@
 -- requested_name step by step: whether the name is a wildcard, where its X begins, and what its labels say.
+use Rattle.std.specs.Prelude.{Option, Some, None}
 use Prim.Native.Nat.{ℕ, ◌≤◌, ◌<◌, ◌+◌, ◌-◌}
 use native.Mathlib.Nat.{add-zero}
 use native.Mathlib.Omega.{arith}
@@ -6,13 +7,10 @@ use mathlib.Core.Path.{◌≡◌, sym, ◌∙◌}
 use mathlib.Core.Bool.{Bool, true, false}
 use mathlib.Core.List.{List}
 use lib.ListN.{length, drop, take}
-use Rattle.read_name.specs.declared.NameEnd.{NameEnd}
-use Rattle.read_name.specs.declared.NameEnd.TheVariants.{At, Fault as NoName}
 use Rattle.spec_name.specs.Names.{Name, wire, GoodName}
 use Rattle.read_name.specs.Places.{name_end}
 use Rattle.spec_name.proofs.NameLaws.{name_is_its_labels}
 use Rattle.read_name.proofs.PlaceLaws.{NameTo, name_there, name_faults}
-use Rattle.read_request.specs.declared.RequestedRead.TheVariants.{Good, Fault}
 use Rattle.spec_request.specs.Request.{is_wildcard, base, is_requestable, requested_name}
 use Rattle.read_request.specs.Places.{requested_at}
 use Rattle.read_request.proofs.HostNames.{is_host_name}
@@ -27,13 +25,13 @@ module _ (w : Bool) (at b : ℕ) where
   pub plain_place : w ≡ false → b ≡ at → b ≡ at + ahead w
   plain_place t e = rw (t, add-zero) e
 
-pub no_name : (s : List ℕ) (at : ℕ) (o : NameEnd) → o ≡ name_end s at → o ≡ NoName → Fault ≡ requested_at s at
+pub no_name : (s : List ℕ) (at : ℕ) (o : Option ℕ) → o ≡ name_end s at → o ≡ None → None ≡ requested_at s at
 unfolding requested_at requested_name
 no_name s at o f g = rw ((name_faults s at).0 (cc))
 
 -- x is the name that ends at e, and w what is said of it
 module _ {x : List ℕ} {w : Bool} (told : (n : Name) → x ≡ wire n → w ≡ is_wildcard n)
-    (s : List ℕ) (at : ℕ) (o : NameEnd) (e : ℕ) (f : o ≡ name_end s at) (g : o ≡ At e) (part : x ≡ take (e - at) (drop at s)) where
+    (s : List ℕ) (at : ℕ) (o : Option ℕ) (e : ℕ) (f : o ≡ name_end s at) (g : o ≡ Some e) (part : x ≡ take (e - at) (drop at s)) where
   wild : (n : Name) → NameTo s at e n → w ≡ is_wildcard n
   wild n k = told n (part ∙ k.octets)
 
@@ -51,7 +49,7 @@ module _ {x : List ℕ} {w : Bool} (told : (n : Name) → x ≡ wire n → w ≡
 
 -- y is its X from b on, and h what is said of that
 module _ {x y : List ℕ} {w h : Bool} (told : (n : Name) → x ≡ wire n → w ≡ is_wildcard n) (hosts : (m : Name) → GoodName m → y ≡ wire m → h ≡ is_host_name m)
-    (b : ℕ) (s : List ℕ) (at : ℕ) (o : NameEnd) (e : ℕ) (f : o ≡ name_end s at) (g : o ≡ At e)
+    (b : ℕ) (s : List ℕ) (at : ℕ) (o : Option ℕ) (e : ℕ) (f : o ≡ name_end s at) (g : o ≡ Some e)
     (part : x ≡ take (e - at) (drop at s)) (base-part : y ≡ take (e - b) (drop b s)) (place : b ≡ at + ahead w) where
   begun : (n : Name) → NameTo s at e n → b ≡ at + ahead (is_wildcard n)
   begun = begins told s at o e f g part b place
@@ -62,10 +60,10 @@ module _ {x y : List ℕ} {w h : Bool} (told : (n : Name) → x ≡ wire n → w
       let good = ((name_is_its_labels (drop at s) n (drop e s)).0 k.found).1 in
       sym (hosts (base n) (good_base n good) (base-part ∙ base_octets s at e n k b (begun n k)))
 
-  pub asked_fault : h ≡ false → Fault ≡ requested_at s at
+  pub asked_fault : h ≡ false → None ≡ requested_at s at
   asked_fault t = let (n, k) = name_there s at o e f g in unrequestable s at e n k (requestable n k ∙ t)
 
-  pub asked_good : h ≡ true → Good (record { wildcard = w; base = b; next = e }) ≡ requested_at s at
+  pub asked_good : h ≡ true → Some (record { wildcard = w; base = b; next = e }) ≡ requested_at s at
   asked_good t =
       let (n, k) = name_there s at o e f g in
       let to = requested_to s at e n k b (begun n k) (requestable n k ∙ t) w (wild told s at o e f g part n k) in

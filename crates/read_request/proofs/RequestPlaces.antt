@@ -1,24 +1,21 @@
 -- What the offsets of a requested name say about the name read there, for code that walks a request by them.
+use Rattle.std.specs.Prelude.{Option, None, Some}
 use Prim.Native.Nat.{ℕ, ◌≤◌, ◌<◌, ◌+◌, ◌-◌}
 use native.Mathlib.Omega.{arith}
 use mathlib.Core.Path.{◌≡◌, refl, ap, ◌∙◌}
 use mathlib.Core.Logic.{◌↔◌}
-use mathlib.Core.Bool.{Bool, true, false, cond}
+use mathlib.Core.Bool.{Bool, true, false}
 use mathlib.Core.List.{List, [], ◌∷◌, ◌++◌, append_assoc}
-use mathlib.Core.Option.{Option, none, some}
 use lib.ListN.{length, drop, take, length-drop, length-append}
 use lib.Seq.{drop-drop, take_at, drop-append_seam, length-take-le}
 use Rattle.spec_octets.specs.Octets.{text}
 use Rattle.spec_octets.specs.Reader.{given}
-use Rattle.spec_octets.proofs.ListLaws.{All-tail}
 use Rattle.spec_octets.proofs.Texts.{same_equal}
 use Rattle.spec_octets.proofs.ReaderLaws.{fault_told, bind_some, given_some}
-use Rattle.spec_name.specs.Names.{Name, wire, name, GoodName}
+use Rattle.spec_name.specs.Names.{Name, wire, name}
 use Rattle.spec_name.proofs.NameLaws.{name_is_its_labels, fewer_labels}
 use Rattle.read_name.proofs.PlaceLaws.{NameTo, name_to}
 use Rattle.read_request.specs.declared.Requested.{Requested}
-use Rattle.read_request.specs.declared.RequestedRead.{RequestedRead}
-use Rattle.read_request.specs.declared.RequestedRead.TheVariants.{Good, Fault}
 use Rattle.spec_request.specs.Request.{is_asterisk, is_wildcard, base, is_requestable, requested_name}
 use Rattle.read_request.specs.Places.{places_of, requested_at}
 
@@ -39,7 +36,7 @@ wire_base (l ∷ ls) = go (is_asterisk l) refl
 module _ (s : List ℕ) (at : ℕ) where
   -- the requested name n stands in s from `at` up to r.next, and its X from r.base on
   pub record RequestedTo (r : Requested) (n : Name) : Type 0 where
-    pub found : requested_name (drop at s) ≡ some (n, drop r.next s)
+    pub found : requested_name (drop at s) ≡ Some (n, drop r.next s)
     pub wild : r.wildcard ≡ is_wildcard n
     pub octets : take (r.next - r.base) (drop r.base s) ≡ wire (base n)
     pub from : at ≤ r.base
@@ -52,7 +49,7 @@ module _ (s : List ℕ) (at : ℕ) where
     unfolding requested_name
     read = rw k.found
 
-    pub unrequestable : is_requestable n ≡ false → Fault ≡ requested_at s at
+    pub unrequestable : is_requestable n ≡ false → None ≡ requested_at s at
     unfolding requested_at
     unrequestable f = rw (read, f)
 
@@ -86,7 +83,7 @@ module _ (s : List ℕ) (at : ℕ) where
         inside = k.inside;
       }
 
-  told : (r : Requested) (n : Name) → RequestedTo r n → requested_at s at ≡ Good r
+  told : (r : Requested) (n : Name) → RequestedTo r n → requested_at s at ≡ Some r
   unfolding requested_at
   told r n k =
       let e : length s - length (drop r.next s) ≡ r.next = omega (arith, length-drop r.next s, k.inside) in
@@ -94,30 +91,30 @@ module _ (s : List ℕ) (at : ℕ) where
       let b : r.next - length (wire (base n)) ≡ r.base = omega (arith, ap length k.octets, k.onward) in
       rw (k.found, e, b, ← k.wild)
 
-  the_one : (q r : Requested) (n : Name) → RequestedTo q n → requested_at s at ≡ Good r → RequestedTo r n
+  the_one : (q r : Requested) (n : Name) → RequestedTo q n → requested_at s at ≡ Some r → RequestedTo r n
   the_one q r n k g = let e : q ≡ r = cc (told q n k) in rw e at k
 
-  pub requested_ends : (r : Requested) → (requested_at s at ≡ Good r) ↔ ((n : Name) × RequestedTo r n)
+  pub requested_ends : (r : Requested) → (requested_at s at ≡ Some r) ↔ ((n : Name) × RequestedTo r n)
   unfolding requested_at requested_name
   requested_ends r = (go (requested_name (drop at s)) refl, λ k. told r k.0 k.1)
     where
-      go : (o : Option (Name × List ℕ)) → requested_name (drop at s) ≡ o → requested_at s at ≡ Good r → (n : Name) × RequestedTo r n
-      go none h g = let z : ◌≡◌ {A = ℕ} 0 1 = cc in absurd (omega arith)
-      go (some q) h g =
+      go : (o : Option (Name × List ℕ)) → requested_name (drop at s) ≡ o → requested_at s at ≡ Some r → (n : Name) × RequestedTo r n
+      go None h g = let z : ◌≡◌ {A = ℕ} 0 1 = cc in absurd (omega arith)
+      go (Some q) h g =
           let (n, mid, found, ok) = (bind_some name _ (drop at s) q.0 q.1).0 h in
           let (good, same, rest) = (given_some (is_requestable n) n q.0 mid q.1).0 ok in
           (n, the_one _ r n (requested_to _ n (name_to s at n mid found) _ refl good _ refl) g)
 
-  pub requested_faults : (requested_at s at ≡ Fault) ↔ (requested_name (drop at s) ≡ none)
+  pub requested_faults : (requested_at s at ≡ None) ↔ (requested_name (drop at s) ≡ None)
   unfolding requested_at
   requested_faults = fault_told (places_of s) (requested_name (drop at s)) (λ r e. let z : ◌≡◌ {A = ℕ} 0 1 = cc in omega arith)
 
   -- the same as a caller of requested_name knows it
-  module _ (o : RequestedRead) (f : o ≡ requested_at s at) where
-    pub name_broken : o ≡ Fault → requested_name (drop at s) ≡ none
+  module _ (o : Option Requested) (f : o ≡ requested_at s at) where
+    pub name_broken : o ≡ None → requested_name (drop at s) ≡ None
     name_broken g = requested_faults.0 (cc)
 
-    module _ (r : Requested) (g : o ≡ Good r) where
+    module _ (r : Requested) (g : o ≡ Some r) where
       pub requested_there : (n : Name) × RequestedTo r n
       requested_there = (requested_ends r).0 (cc)
 

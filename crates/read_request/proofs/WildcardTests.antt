@@ -1,32 +1,24 @@
 -- A wildcard by the first two octets of its wire form, as the code tests them.
-use Prim.Native.Nat.{ℕ, ◌<◌}
+use Prim.Native.Nat.{ℕ, suc}
 use native.Mathlib.Omega.{arith}
 use mathlib.Core.Path.{◌≡◌, refl, ap}
-use mathlib.Core.Bool.{false, and-true, and-false}
+use mathlib.Core.Bool.{true, ◌&&◌, and-false}
 use mathlib.Core.List.{List, [], ◌∷◌}
 use lib.Dec.{eqb}
-use lib.ListN.{length, get_or, length-append}
+use lib.ListN.{length}
 use Prim.Native.Char.{code}
+use borrow.Author.Tests.{ne_eqb}
+use Rattle.std.specs.List.{starts_with}
+use Rattle.std.proofs.lemmas.Bool.Decides.{nat_tests}
 use Rattle.spec_name.specs.Names.{Name, wire}
 use Rattle.spec_request.specs.Request.{is_wildcard}
 
-module _ (x : List ℕ) where
-  pub short_no_wildcard : (n : Name) → x ≡ wire n → length x < 2 → false ≡ is_wildcard n
-  unfolding is_wildcard
-  short_no_wildcard [] e h = refl
-  short_no_wildcard ([] ∷ ls) e h = refl
-  short_no_wildcard ((a ∷ l) ∷ ls) e h = absurd (omega (arith, simp length-append at (ap length e)))
+either_way : (a b : ℕ) → eqb a b ≡ eqb b a
+either_way a b = grind (arith, nat_tests)
 
-  pub length_no_wildcard : (n : Name) → x ≡ wire n → (get_or x 0 0 ≡ 1 → ⊥) → false ≡ is_wildcard n
-  unfolding is_wildcard
-  length_no_wildcard [] e h = refl
-  length_no_wildcard ([] ∷ ls) e h = refl
-  length_no_wildcard ((a ∷ []) ∷ ls) e h = absurd (h (rw e))
-  length_no_wildcard ((a ∷ b ∷ l) ∷ ls) e h = rw and-false
-
-  pub asterisk_tells : (n : Name) → x ≡ wire n → get_or x 0 0 ≡ 1 → eqb (get_or x 1 0) (code "*") ≡ is_wildcard n
-  unfolding is_wildcard
-  asterisk_tells [] e h = absurd (omega (arith, ap (λ y. get_or y 0 0) e))
-  asterisk_tells ([] ∷ ls) e h = absurd (omega (arith, ap (λ y. get_or y 0 0) e))
-  asterisk_tells ((a ∷ []) ∷ ls) e h = rw (e, and-true)
-  asterisk_tells ((a ∷ b ∷ l) ∷ ls) e h = absurd (omega (arith, ap (λ y. get_or y 0 0) e))
+pub asterisk_tells : (x : List ℕ) (n : Name) → x ≡ wire n → starts_with eqb x (1 ∷ code "*" ∷ []) ≡ is_wildcard n
+unfolding is_wildcard
+asterisk_tells x [] e = rw e refl
+asterisk_tells x ([] ∷ ls) e = rw e refl
+asterisk_tells x ((a ∷ []) ∷ ls) e = rw e (ap (λ t. t && true) (either_way (code "*") a))
+asterisk_tells x ((a ∷ b ∷ l) ∷ ls) e = rw (e, ne_eqb 1 (suc (suc (length l))) (λ z. omega arith), and-false)

@@ -9,9 +9,9 @@ ghost use Rattle.spec_name.specs.Names.{Name, wire, GoodName};
 ghost use Rattle.spec_request.specs.Request.{is_wildcard, request_refusal};
 ghost use Rattle.read_request.specs.Places.{requested_at};
 
-use read_name::{Climb, NameEnd};
+use read_name::Climb;
 use spec_limits::{MAX_NAMES, MAX_REQUEST_OCTETS};
-use spec_refusal::{Check, NameNo, Refusal};
+use spec_refusal::{NameNo, Refusal};
 
 // A requested name X or *.X: the offset of X, and the offset after the closing zero.
 #[derive(Clone, Copy)]
@@ -21,30 +21,18 @@ pub struct Requested {
     pub next: usize,
 }
 
-#[derive(Clone, Copy)]
-pub enum RequestedRead {
-    Good(Requested),
-    Fault,
-}
-
 // Whether the first label of a name is an asterisk.
 fn is_wildcard(name: &[u8]) -> bool
     ensures { (n : Name) → name.now ≡ wire n → result ≡ is_wildcard n }
 {
-    if name.len() < 2 {
-        return false;
-    }
-    if name[0] != 1 {
-        return false;
-    }
-    name[1] == b'*'
+    name.starts_with(&[1, b'*'])
 }
 
 // Whether a name is not the root, and its labels hold letters, digits and inner hyphens.
 fn are_host_labels(name: &[u8]) -> bool
     ensures { (n : Name) → GoodName n → name.now ≡ wire n → result ≡ not (is_empty n) && all is_host_label n }
 {
-    let mut at: usize = 0;
+    let mut at = 0;
     loop {
         let next = Climb { at }.up(name).at;
         // The closing zero.
@@ -59,21 +47,16 @@ fn are_host_labels(name: &[u8]) -> bool
 }
 
 // Reads the requested name that begins at offset `at`.
-pub fn requested_name(s: &[u8], at: usize) -> RequestedRead
+pub fn requested_name(s: &[u8], at: usize) -> Option<Requested>
     ensures { result ≡ requested_at s.now at }
 {
-    let NameEnd::At(next) = read_name::name_end(s, at) else {
-        return RequestedRead::Fault;
-    };
+    let next = read_name::name_end(s, at)?;
     let wildcard = is_wildcard(&s[at..next]);
-    let mut base = at;
-    if wildcard {
-        base = at + 2;
-    }
+    let base = if wildcard { at + 2 } else { at };
     if !are_host_labels(&s[base..next]) {
-        return RequestedRead::Fault;
+        return None;
     }
-    RequestedRead::Good(Requested {
+    Some(Requested {
         wildcard,
         base,
         next,
@@ -81,26 +64,24 @@ pub fn requested_name(s: &[u8], at: usize) -> RequestedRead
 }
 
 // Refusals 1, 2 and 3.
-pub fn check_request(s: &[u8]) -> Check
+pub fn check_request(s: &[u8]) -> Result<(), Refusal>
     ensures { result ≡ checked (request_refusal s.now) }
 {
     if MAX_REQUEST_OCTETS < s.len() {
-        return Check::Refused(Refusal::RequestTooLong);
+        return Err(Refusal::RequestTooLong);
     }
-    if s.len() == 0 {
-        return Check::Refused(Refusal::BadName(NameNo(0)));
+    if s.is_empty() {
+        return Err(Refusal::BadName(NameNo(0)));
     }
-    let mut at: usize = 0;
-    let mut k: usize = 0;
+    let mut at = 0;
+    let mut k = 0;
     while at < s.len() {
         if k == MAX_NAMES {
-            return Check::Refused(Refusal::TooManyNames);
+            return Err(Refusal::TooManyNames);
         }
-        let RequestedRead::Good(n) = requested_name(s, at) else {
-            return Check::Refused(Refusal::BadName(NameNo(k)));
-        };
+        let n = requested_name(s, at).ok_or(Refusal::BadName(NameNo(k)))?;
         at = n.next;
         k += 1;
     }
-    Check::Accepted
+    Ok(())
 }

@@ -1,10 +1,12 @@
 -- The way through a signed body, element by element, ends at its key exactly when the body is laid out as it must be.
+use Rattle.read_tbs.specs.declared.KeyAt.{KeyAt}
+use Rattle.std.proofs.lemmas.Option.{none-some}
+use Rattle.std.specs.Prelude.{Option, None, Some}
 use Prim.Native.Nat.{ℕ, ◌+◌, ◌-◌, ◌≤◌}
 use native.Mathlib.Omega.{arith}
 use mathlib.Core.Path.{◌≡◌, refl, sym, ap, ◌∙◌}
 use mathlib.Core.Bool.{Bool, true, false, cond}
 use mathlib.Core.List.{List, [], ◌++◌}
-use mathlib.Core.Option.{Option, none, some, none-ne-some}
 use lib.ListN.{length, drop, length-append}
 use Rattle.spec_octets.proofs.ReaderLaws.{bind_some, pure_some}
 use Rattle.spec_der.specs.Elements.{Element, wire_element, tagged, elements}
@@ -14,17 +16,13 @@ use Rattle.spec_der.proofs.Forms.{next_read, next_stand}
 use Rattle.spec_der.proofs.ElementLaws.{GoodTagged, tagged_form, tagged_is_its_form, elements_end_to_end, contents_fit}
 use Rattle.spec_der.proofs.TbsLaws.{version_read}
 use Rattle.read_element.proofs.LengthWays.{drop_front, long_front}
-use Rattle.read_tbs.specs.declared.Place.{Place}
-use Rattle.read_tbs.specs.declared.Place.TheVariants.{At, Fault}
-use Rattle.read_tbs.specs.declared.KeyRead.{KeyRead}
-use Rattle.read_tbs.specs.declared.KeyRead.TheVariants.{At as KeyThere, Fault as KeyFault}
 use Rattle.read_tbs.specs.Places.{end_place, past, start, are_elements, key_between, key_places, key_in_tbs}
 use Rattle.read_tbs.proofs.ElementWalk.{are_elements_lem}
 
 module _ (s : List ℕ) where
   -- the walk has come to offset p, and `left` are the octets from there on
-  pub record Reached (o : Place) (p : ℕ) (left : List ℕ) : Type 0 where
-    pub place : o ≡ At p
+  pub record Reached (o : Option ℕ) (p : ℕ) (left : List ℕ) : Type 0 where
+    pub place : o ≡ Some p
     pub rest : drop p s ≡ left
 
   -- the offset after what was read is the one where the octets left begin
@@ -32,7 +30,7 @@ module _ (s : List ℕ) where
   ended p w left e h = omega (arith, long_front s p w left e)
 
   pub step :
-      (t : ℕ) (o o' : Place) (p : ℕ) (mid left : List ℕ) (e : Element) → o' ≡ past (tagged t) s o → Reached o p mid → mid ≡ wire_element e ++ left →
+      (t : ℕ) (o o' : Option ℕ) (p : ℕ) (mid left : List ℕ) (e : Element) → o' ≡ past (tagged t) s o → Reached o p mid → mid ≡ wire_element e ++ left →
       GoodTagged t e → Reached o' (p + length (wire_element e)) left
   step t o o' p mid left e f r front good =
       let here : drop p s ≡ wire_element e ++ left = r.rest ∙ front in
@@ -43,7 +41,7 @@ module _ (s : List ℕ) where
 
   -- the version is passed, or there is none
   pub begun :
-      (o : Place) (v : Option Element) (left : List ℕ) → o ≡ past version s start → version s ≡ some (v, left) →
+      (o : Option ℕ) (v : Option Element) (left : List ℕ) → o ≡ past version s start → version s ≡ Some (v, left) →
       Reached o (length (wire_version v)) left
   begun o v left f read =
       let front = (version_read s v left read).0 in
@@ -52,11 +50,11 @@ module _ (s : List ℕ) where
 
   -- a place that was reached: what stands before it
   passed :
-      {C : Type 0} (t : ℕ) (o o' : Place) (q : ℕ) → o' ≡ past (tagged t) s o → o' ≡ At q →
-      ((p : ℕ) (e : Element) → o ≡ At p → drop p s ≡ wire_element e ++ drop q s → GoodTagged t e → C) → C
+      {C : Type 0} (t : ℕ) (o o' : Option ℕ) (q : ℕ) → o' ≡ past (tagged t) s o → o' ≡ Some q →
+      ((p : ℕ) (e : Element) → o ≡ Some p → drop p s ≡ wire_element e ++ drop q s → GoodTagged t e → C) → C
   passed {C} t o o' q f g next = go o refl (sym f ∙ g)
     where
-      found : (p : ℕ) (e : Element) (left : List ℕ) → o ≡ At p → tagged t (drop p s) ≡ some (e, left) → At (length s - length left) ≡ At q → C
+      found : (p : ℕ) (e : Element) (left : List ℕ) → o ≡ Some p → tagged t (drop p s) ≡ Some (e, left) → Some (length s - length left) ≡ Some q → C
       found p e left h read same =
           let (front, good) = (tagged_is_its_form t (drop p s) e left).0 read in
           let l = long_front s p (wire_element e) left front in
@@ -65,34 +63,34 @@ module _ (s : List ℕ) where
           let behind : drop q s ≡ left = rw (← place, also) (drop_front s p (wire_element e) left front) in
           next p e h (rw behind front) good
 
-      by : (p : ℕ) → o ≡ At p → (r : Option (Element × List ℕ)) → tagged t (drop p s) ≡ r → end_place s r ≡ At q → C
-      by p h none read e = let z : ◌≡◌ {A = ℕ} 0 1 = cc in absurd (omega arith)
-      by p h (some r) read e = found p r.0 r.1 h read e
+      by : (p : ℕ) → o ≡ Some p → (r : Option (Element × List ℕ)) → tagged t (drop p s) ≡ r → end_place s r ≡ Some q → C
+      by p h None read e = let z : ◌≡◌ {A = ℕ} 0 1 = cc in absurd (omega arith)
+      by p h (Some r) read e = found p r.0 r.1 h read e
 
-      go : (x : Place) → o ≡ x → past (tagged t) s x ≡ At q → C
-      go (At p) h e = by p h (tagged t (drop p s)) refl e
-      go Fault h e = let z : ◌≡◌ {A = ℕ} 0 1 = cc in absurd (omega arith)
+      go : (x : Option ℕ) → o ≡ x → past (tagged t) s x ≡ Some q → C
+      go (Some p) h e = by p h (tagged t (drop p s)) refl e
+      go None h e = let z : ◌≡◌ {A = ℕ} 0 1 = cc in absurd (omega arith)
 
-  first : {C : Type 0} (o : Place) (p : ℕ) → o ≡ past version s start → o ≡ At p → ((v : Option Element) → version s ≡ some (v, drop p s) → C) → C
+  first : {C : Type 0} (o : Option ℕ) (p : ℕ) → o ≡ past version s start → o ≡ Some p → ((v : Option Element) → version s ≡ Some (v, drop p s) → C) → C
   first {C} o p f g next = go (version s) refl (sym f ∙ g)
     where
-      found : (v : Option Element) (left : List ℕ) → version s ≡ some (v, left) → C
+      found : (v : Option Element) (left : List ℕ) → version s ≡ Some (v, left) → C
       found v left read =
           let r = begun o v left f read in
-          let same : At (length (wire_version v)) ≡ At p = sym r.place ∙ g in
+          let same : Some (length (wire_version v)) ≡ Some p = sym r.place ∙ g in
           let place : length (wire_version v) ≡ p = cc in
           next v (rw (← place, r.rest) read)
 
-      go : (x : Option (Option Element × List ℕ)) → version s ≡ x → end_place s x ≡ At p → C
-      go none read e = let z : ◌≡◌ {A = ℕ} 0 1 = cc in absurd (omega arith)
-      go (some x) read e = found x.0 x.1 read
+      go : (x : Option (Option Element × List ℕ)) → version s ≡ x → end_place s x ≡ Some p → C
+      go None read e = let z : ◌≡◌ {A = ℕ} 0 1 = cc in absurd (omega arith)
+      go (Some x) read e = found x.0 x.1 read
 
   module _
-      (serial signature issuer validity subject key others : Place) (f₀ : serial ≡ past version s start) (f₁ : signature ≡ past (tagged 2) s serial)
+      (serial signature issuer validity subject key others : Option ℕ) (f₀ : serial ≡ past version s start) (f₁ : signature ≡ past (tagged 2) s serial)
       (f₂ : issuer ≡ past (tagged 48) s signature) (f₃ : validity ≡ past (tagged 48) s issuer) (f₄ : subject ≡ past (tagged 48) s validity)
       (f₅ : key ≡ past (tagged 48) s subject) (f₆ : others ≡ past (tagged 48) s key) where
     -- the body is laid out, so the walk ends at its key
-    laid_out : (t : TbsCertificate) (rest : List ℕ) → tbs_certificate s ≡ some (t, rest) → key_between s key others ≡ key_places (some (t, rest))
+    laid_out : (t : TbsCertificate) (rest : List ℕ) → tbs_certificate s ≡ Some (t, rest) → key_between s key others ≡ key_places (Some (t, rest))
     unfolding tbs_certificate
     laid_out t rest h =
         let (v, s₁, h₁, r₁) = (bind_some version _ s t rest).0 h in
@@ -113,17 +111,17 @@ module _ (s : List ℕ) where
         last _ _ s₆ s₇ es s₈ at₅ at₆ h₈ _ ((pure_some _ t s₈ rest).0 r₈).0 (simp length-append) refl))))))
       where
         last :
-            (p q : ℕ) (s₆ s₇ : List ℕ) (es : List Element) (s₈ : List ℕ) → Reached key p s₆ → Reached others q s₇ → elements s₇ ≡ some (es, s₈) →
+            (p q : ℕ) (s₆ s₇ : List ℕ) (es : List Element) (s₈ : List ℕ) → Reached key p s₆ → Reached others q s₇ → elements s₇ ≡ Some (es, s₈) →
             (made : TbsCertificate) → made ≡ t → length (before_in_tbs made) ≡ p → q ≡ p + length (wire_element made.subject_public_key_info) →
-            key_between s key others ≡ key_places (some (t, rest))
+            key_between s key others ≡ key_places (Some (t, rest))
         last p q s₆ s₇ es s₈ a b h made same from to =
             rw (← same, from, ← to, a.place, b.place, b.rest, pass s₇ es s₈ h)
           where
-            pass : (s₇ : List ℕ) (es : List Element) (s₈ : List ℕ) → elements s₇ ≡ some (es, s₈) → are_elements s₇ ≡ true
+            pass : (s₇ : List ℕ) (es : List Element) (s₈ : List ℕ) → elements s₇ ≡ Some (es, s₈) → are_elements s₇ ≡ true
             pass s₇ es s₈ h = let (front, nil, good) = (elements_end_to_end s₇ es s₈).0 h in (are_elements_lem s₇).1 (es, front, good)
 
     -- the walk ends at a key, so the body is laid out
-    walked : (p q : ℕ) → key ≡ At p → others ≡ At q → are_elements (drop q s) ≡ true → (t : TbsCertificate) × (tbs_certificate s ≡ some (t, []))
+    walked : (p q : ℕ) → key ≡ Some p → others ≡ Some q → are_elements (drop q s) ≡ true → (t : TbsCertificate) × (tbs_certificate s ≡ Some (t, []))
     unfolding tbs_certificate
     walked p q k o more =
         passed 48 key others q f₆ o (λ p₅ e₆ k₅ w₆ g₆.
@@ -153,18 +151,53 @@ module _ (s : List ℕ) where
     unfolding key_in_tbs
     walk = go (tbs_certificate s) refl
       where
-        unread : tbs_certificate s ≡ none → (first last : Place) → key ≡ first → others ≡ last → key_between s first last ≡ KeyFault
-        unread h (At p) (At q) k o = by (are_elements (drop q s)) refl
+        unread : tbs_certificate s ≡ None → (first last : Option ℕ) → key ≡ first → others ≡ last → key_between s first last ≡ None
+        unread h (Some p) (Some q) k o = by (are_elements (drop q s)) refl
           where
-            by : (t : Bool) → are_elements (drop q s) ≡ t → cond t (KeyThere (record { from = p; to = q })) KeyFault ≡ KeyFault
-            by true e = let (t, read) = walked p q k o e in absurd (none-ne-some _ (sym h ∙ read))
+            by : (t : Bool) → are_elements (drop q s) ≡ t → cond {A = Option KeyAt} t (Some (record { from = p; to = q })) None ≡ None
+            by true e = let (t, read) = walked p q k o e in absurd (none-some _ (sym h ∙ read))
             by false e = refl
-        unread h (At p) Fault k o = refl
-        unread h Fault last k o = refl
+        unread h (Some p) None k o = refl
+        unread h None last k o = refl
 
         go : (x : Option (TbsCertificate × List ℕ)) → tbs_certificate s ≡ x → key_between s key others ≡ key_places x
-        go none h = unread h key others refl refl
-        go (some x) h = laid_out x.0 x.1 h
+        go None h = unread h key others refl refl
+        go (Some x) h = laid_out x.0 x.1 h
 
-    pub tbs_walk : (r : KeyRead) → r ≡ key_between s key others → r ≡ key_in_tbs s
+    pub tbs_walk : (r : Option KeyAt) → r ≡ key_between s key others → r ≡ key_in_tbs s
     tbs_walk r e = e ∙ walk
+
+-- a law for each return of key_in_tbs
+module _ (s : List ℕ) (a : ℕ) (f₀ : past version s start ≡ Some a) where
+  pub no_signature : None ≡ past (tagged 2) s (Some a) → None ≡ key_in_tbs s
+  no_signature h = tbs_walk s (Some a) None None None None None None (sym f₀) h refl refl refl refl refl None refl
+
+  module _ (b : ℕ) (f₁ : Some b ≡ past (tagged 2) s (Some a)) where
+    pub no_issuer : None ≡ past (tagged 48) s (Some b) → None ≡ key_in_tbs s
+    no_issuer h = tbs_walk s (Some a) (Some b) None None None None None (sym f₀) f₁ h refl refl refl refl None refl
+
+    module _ (c : ℕ) (f₂ : Some c ≡ past (tagged 48) s (Some b)) where
+      pub no_validity : None ≡ past (tagged 48) s (Some c) → None ≡ key_in_tbs s
+      no_validity h = tbs_walk s (Some a) (Some b) (Some c) None None None None (sym f₀) f₁ f₂ h refl refl refl None refl
+
+      module _ (d : ℕ) (f₃ : Some d ≡ past (tagged 48) s (Some c)) where
+        pub no_subject : None ≡ past (tagged 48) s (Some d) → None ≡ key_in_tbs s
+        no_subject h = tbs_walk s (Some a) (Some b) (Some c) (Some d) None None None (sym f₀) f₁ f₂ f₃ h refl refl None refl
+
+        module _ (e : ℕ) (f₄ : Some e ≡ past (tagged 48) s (Some d)) where
+          pub no_from : None ≡ past (tagged 48) s (Some e) → None ≡ key_in_tbs s
+          no_from h = tbs_walk s (Some a) (Some b) (Some c) (Some d) (Some e) None None (sym f₀) f₁ f₂ f₃ f₄ h refl None refl
+
+          module _ (f : ℕ) (f₅ : Some f ≡ past (tagged 48) s (Some e)) where
+            pub no_to : None ≡ past (tagged 48) s (Some f) → None ≡ key_in_tbs s
+            no_to h = tbs_walk s (Some a) (Some b) (Some c) (Some d) (Some e) (Some f) None (sym f₀) f₁ f₂ f₃ f₄ f₅ h None refl
+
+            module _ (g : ℕ) (f₆ : Some g ≡ past (tagged 48) s (Some f)) where
+              ends : (t : Bool) (r : Option KeyAt) → t ≡ are_elements (drop g s) → r ≡ cond {A = Option KeyAt} t (Some (record { from = f; to = g })) None → r ≡ key_in_tbs s
+              ends t r u k = tbs_walk s (Some a) (Some b) (Some c) (Some d) (Some e) (Some f) (Some g) (sym f₀) f₁ f₂ f₃ f₄ f₅ f₆ r (k ∙ rw u)
+
+              pub key_read : true ≡ are_elements (drop g s) → Some (record { from = f; to = g }) ≡ key_in_tbs s
+              key_read u = ends true (Some (record { from = f; to = g })) u refl
+
+              pub others_broken : false ≡ are_elements (drop g s) → None ≡ key_in_tbs s
+              others_broken u = ends false None u refl

@@ -29,26 +29,25 @@ fn read_name(s: &[u8], parameters: usize) -> ValueRead
 {
     let front = text_classes::trim_end(s);
     let name = text_classes::trim_start(front);
-    if name.len() == 0 {
-        return ValueRead::Nameless;
-    }
-    // Labels of any length: the limit of 63 octets is checked where the name is used.
-    if text_labels::are_labels(name, name.len()) {
-        let from = front.len() - name.len();
-        return ValueRead::Named(NameAt {
-            from,
+    if name.is_empty() {
+        ValueRead::Nameless
+    } else if text_labels::are_labels(name, name.len()) {
+        // Labels of any length: the limit of 63 octets is checked where the name is used.
+        ValueRead::Named(NameAt {
+            from: front.len() - name.len(),
             to: front.len(),
             parameters,
-        });
+        })
+    } else {
+        ValueRead::Malformed
     }
-    ValueRead::Malformed
 }
 
 pub fn read_value(s: &[u8]) -> ValueRead
     ensures { result ≡ value_at s.now }
 {
     let e = text_labels::piece_end(s, 0, b';');
-    let mut parameters: usize = e;
+    let mut parameters = e;
     if e < s.len() {
         parameters = e + 1;
         if !read_parameters::are_parameters(&s[parameters..]) {

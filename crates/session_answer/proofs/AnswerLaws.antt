@@ -1,4 +1,5 @@
 -- The ways out of the functions that take a book.
+use Rattle.std.specs.Prelude.{None, Some, Result, Ok, Err, Option}
 use Prim.Native.Nat.{ℕ, suc, ◌+◌, ◌<◌}
 use native.Mathlib.Numerals.{add-one}
 use native.Mathlib.Omega.{arith}
@@ -7,14 +8,11 @@ use mir.Val.{Fits}
 use mathlib.Core.Path.{◌≡◌, refl, ap, sym, ◌∙◌}
 use mathlib.Core.Bool.{Bool, true, false, ◌&&◌, true≢false}
 use mathlib.Core.List.{List}
-use mathlib.Core.Option.{none, some}
 use lib.Dec.{ltb}
 use lib.ListN.{length, drop}
 use Rattle.spec_limits.specs.Limits.{max_name_octets}
 use Rattle.spec_refusal.specs.declared.Refusal.{Refusal}
 use Rattle.spec_refusal.specs.declared.Refusal.TheVariants.{SessionEnded}
-use Rattle.spec_refusal.specs.declared.Check.{Check}
-use Rattle.spec_refusal.specs.declared.Check.TheVariants.{Accepted, Refused as CheckRefused}
 use Rattle.spec_refusal.specs.Refusal.{number}
 use Rattle.spec_refusal.specs.Checks.{checked}
 use Rattle.spec_refusal.proofs.Checked.{refused, accepted}
@@ -39,13 +37,9 @@ use Rattle.spec_session.specs.Steps.{ended_refusal, goes_to, one_up, closed_with
 use Rattle.spec_session.proofs.Kept.{reached, kept_tests}
 use Rattle.spec_session.proofs.StepLaws.{live}
 use Rattle.session_kept.specs.declared.Place.{Place}
-use Rattle.session_kept.specs.declared.KeptName.{KeptName}
-use Rattle.session_kept.specs.declared.KeptName.TheVariants.{At, Broken}
 use Rattle.session_kept.specs.Places.{kept_at}
 use Rattle.session_kept.proofs.NamesAbove.{name_alone}
 use Rattle.session_check.proofs.KeptLaws.{broken, at_place}
-use Rattle.session_look.specs.declared.Looked.{Looked}
-use Rattle.session_look.specs.declared.Looked.TheVariants.{Empty, Decides}
 use Rattle.session_look.specs.Looks.{looked_at}
 use Rattle.session_look.specs.Theorems.{looked_by_rule}
 use Rattle.session_look.proofs.RuleLook.{look_by_the_rule}
@@ -71,7 +65,7 @@ module _ (s : Session) (k : is_kept s ≡ true) where
       (one_up s)
   label_off u e = rw (e, add-one) refl
 
-  module _ (n : Name) (f : kept_name s ≡ some n) where
+  module _ (n : Name) (f : kept_name s ≡ Some n) where
     both_true : (t : Bool) → (t && true) && true ≡ t
     both_true true = refl
     both_true false = refl
@@ -85,13 +79,13 @@ module _ (s : Session) (k : is_kept s ≡ true) where
         ∙ ap (λ w. (ltb (suc s.up) (length (base n)) && true) && w) ((kept_tests s).0 k).2
         ∙ both_true (ltb (suc s.up) (length (base n)))
 
-  module _ (t : Session) (e : t ≡ one_up s) (q : KeptName) (g : q ≡ kept_at t) where
-    pub asks_parent_lem : (p : Place) → q ≡ At p → (n : Name) → kept_name s ≡ some n → t ≡ by_lookup s n empty
+  module _ (t : Session) (e : t ≡ one_up s) (q : Option Place) (g : q ≡ kept_at t) where
+    pub asks_parent_lem : (p : Place) → q ≡ Some p → (n : Name) → kept_name s ≡ Some n → t ≡ by_lookup s n empty
     asks_parent_lem p h n f =
         let keeps : is_kept (one_up s) ≡ true = rw e at (at_place t p (sym g ∙ h)).0 in
         rw (sym (next_kept n f) ∙ keeps) e
 
-    pub no_parent : q ≡ Broken → (r : Session) → r ≡ closed_with 0 0 s → (n : Name) → kept_name s ≡ some n → r ≡ by_lookup s n empty
+    pub no_parent : q ≡ None → (r : Session) → r ≡ closed_with 0 0 s → (n : Name) → kept_name s ≡ Some n → r ≡ by_lookup s n empty
     unfolding verdict judgement_code
     no_parent h r i n f =
         let breaks : is_kept (one_up s) ≡ false = rw e at (broken t (sym g ∙ h)) in
@@ -120,19 +114,19 @@ module _ (s : Session) (j : Judgement) (t : Session) where
   ends_refused r e n f g = rw (e, ← f) g
 
 -- where the name asked for is
-pub stands_there : (s : Session) (q : KeptName) (p : Place) → q ≡ kept_at s → q ≡ At p → kept_at s ≡ At p
+pub stands_there : (s : Session) (q : Option Place) (p : Place) → q ≡ kept_at s → q ≡ Some p → kept_at s ≡ Some p
 stands_there s q p g e = sym g ∙ e
 
 -- the verdict that decides is one alone
-decides_same : {j k : Judgement} → Decides j ≡ Decides k → j ≡ k
+decides_same : {j k : Judgement} → Some j ≡ Some k → j ≡ k
 decides_same e = cc
 
 -- a session that takes answers, and an accepted book
-module _ (s : Session) (b : List ℕ) (takes : is_asking s ≡ true) (passes : book_refusal b ≡ none) where
+module _ (s : Session) (b : List ℕ) (takes : is_asking s ≡ true) (passes : book_refusal b ≡ None) where
   pub asks_keeps : is_kept s ≡ true
   asks_keeps = (live s takes).keeps
 
-  pub never_broken : (q : KeptName) → q ≡ kept_at s → q ≡ Broken → s ≡ by_records s (kept_name s) (as_book (records b))
+  pub never_broken : (q : Option Place) → q ≡ kept_at s → q ≡ None → s ≡ by_records s (kept_name s) (as_book (records b))
   never_broken q g e = absurd (true≢false (sym asks_keeps ∙ broken s (sym g ∙ e)))
 
   abbrev name : Name
@@ -144,8 +138,8 @@ module _ (s : Session) (b : List ℕ) (takes : is_asking s ≡ true) (passes : b
   records_by : by_records s (kept_name s) (as_book (records b)) ≡ by_lookup s name the_lookup
   records_by = ap (λ o. by_records s o (as_book (records b))) (live s takes).kept
 
-  module _ (r : Looked)
-      (g : (n : Name) → kept_name s ≡ some n → r ≡ looked_at (kept_applicant s) (held s.issuer) b s.up (is_wildcard n) (wire (drop s.up (base n)))) where
+  module _ (r : Option Judgement)
+      (g : (n : Name) → kept_name s ≡ Some n → r ≡ looked_at (kept_applicant s) (held s.issuer) b s.up (is_wildcard n) (wire (drop s.up (base n)))) where
     ruled : r ≡ looked_by_rule (kept_applicant s) (held s.issuer) s.up (is_wildcard name) the_lookup
     ruled =
         g name (live s takes).kept
@@ -153,21 +147,21 @@ module _ (s : Session) (b : List ℕ) (takes : is_asking s ≡ true) (passes : b
         (asked_good s name (live s takes).kept)
 
     pub finds_none :
-        r ≡ Empty → (t : Session) → ((n : Name) → kept_name s ≡ some n → t ≡ by_lookup s n empty) → t ≡ by_records s (kept_name s) (as_book (records b))
+        r ≡ None → (t : Session) → ((n : Name) → kept_name s ≡ Some n → t ≡ by_lookup s n empty) → t ≡ by_records s (kept_name s) (as_book (records b))
     finds_none e t h = go the_lookup refl (sym e ∙ ruled)
       where
         go :
-            (l : Lookup) → the_lookup ≡ l → Empty ≡ looked_by_rule (kept_applicant s) (held s.issuer) s.up (is_wildcard name) l →
+            (l : Lookup) → the_lookup ≡ l → None ≡ looked_by_rule (kept_applicant s) (held s.issuer) s.up (is_wildcard name) l →
             t ≡ by_records s (kept_name s) (as_book (records b))
         go empty f i = h name (live s takes).kept ∙ sym (records_by ∙ ap (by_lookup s name) f)
         go (found rs) f i = let z : ◌≡◌ {A = ℕ} 0 1 = cc in absurd (omega arith)
         go (endless q) f i = let z : ◌≡◌ {A = ℕ} 0 1 = cc in absurd (omega arith)
 
-    pub finds_verdict : (j : Judgement) → r ≡ Decides j → (t : Session) → t ≡ closed_by j s → t ≡ by_records s (kept_name s) (as_book (records b))
+    pub finds_verdict : (j : Judgement) → r ≡ Some j → (t : Session) → t ≡ closed_by j s → t ≡ by_records s (kept_name s) (as_book (records b))
     finds_verdict j e t h = h ∙ go the_lookup refl (sym e ∙ ruled)
       where
         go :
-            (l : Lookup) → the_lookup ≡ l → Decides j ≡ looked_by_rule (kept_applicant s) (held s.issuer) s.up (is_wildcard name) l →
+            (l : Lookup) → the_lookup ≡ l → Some j ≡ looked_by_rule (kept_applicant s) (held s.issuer) s.up (is_wildcard name) l →
             closed_by j s ≡ by_records s (kept_name s) (as_book (records b))
         go empty f i = let z : ◌≡◌ {A = ℕ} 0 1 = cc in absurd (omega arith)
         go (found rs) f i = ap (λ v. closed_by v s) (decides_same i) ∙ sym (records_by ∙ ap (by_lookup s name) f)
@@ -182,15 +176,15 @@ module _ (s : Session) (b : List ℕ) (t : Bool) (f : t ≡ is_asking s) where
   pub takes_answer : t ≡ true → is_asking s ≡ true
   takes_answer e = sym f ∙ e
 
-  module _ (e : t ≡ true) (c : Check) (g : c ≡ checked (book_refusal b)) where
-    pub book_refused : (r : Refusal) → c ≡ CheckRefused r → ◌≡◌ {A = Stepped} (record { answer = Judged (Refused r); session = s }) (answered s b)
+  module _ (e : t ≡ true) (c : Result Unit Refusal) (g : c ≡ checked (book_refusal b)) where
+    pub book_refused : (r : Refusal) → c ≡ Err r → ◌≡◌ {A = Stepped} (record { answer = Judged (Refused r); session = s }) (answered s b)
     unfolding answered ended_refusal
     book_refused r h = rw (← f, e, refused (book_refusal b) g r h) refl
 
-    pub passes_check : c ≡ Accepted → book_refusal b ≡ none
+    pub passes_check : c ≡ (Ok tt) → book_refusal b ≡ None
     passes_check h = accepted (book_refusal b) g h
 
     pub answers_so :
-        c ≡ Accepted → (u : Session) → u ≡ by_records s (kept_name s) (as_book (records b)) → (r : Stepped) → r ≡ goes_to u → r ≡ answered s b
+        c ≡ (Ok tt) → (u : Session) → u ≡ by_records s (kept_name s) (as_book (records b)) → (r : Stepped) → r ≡ goes_to u → r ≡ answered s b
     unfolding answered ended_refusal
     answers_so h u k r i = rw (← f, e, accepted (book_refusal b) g h) (i ∙ ap goes_to k)

@@ -2,58 +2,42 @@
 #![tactic(auto)]
 
 ghost use Rattle.std.specs.Prelude.{◌≡◌, true, drop};
-ghost use Rattle.std.proofs.Math.Option.{none, some};
 ghost use Rattle.spec_name.specs.Names.{Name, wire};
 ghost use Rattle.spec_request.specs.Request.{is_wildcard, base};
 ghost use Rattle.spec_record.specs.Records.{records, book_refusal};
 ghost use Rattle.spec_rule.specs.RelevantSet.{as_book, empty};
 ghost use Rattle.spec_session.specs.Sessions.{held, kept_name, kept_applicant, is_kept, is_asking};
 ghost use Rattle.spec_session.specs.Steps.{one_up, closed_by, by_lookup, by_records, answered};
-ghost use Rattle.session_kept.specs.declared.KeptName.TheVariants.{At};
 ghost use Rattle.session_kept.specs.Places.{kept_at};
 ghost use Rattle.session_look.specs.Looks.{looked_at};
 
-use session_kept::{KeptName, Place};
-use session_look::Looked;
-use spec_refusal::{Check, Refusal};
+use session_kept::{Place, held_part};
+use spec_applicant::Applicant;
+use spec_refusal::Refusal;
 use spec_rule::{Judgement, LabelsOff};
-use spec_session::{Session, SessionAnswer, Stepped, Text};
+use spec_session::{Session, SessionAnswer, Stepped};
 
 // Takes one more label off.
 fn one_up(session: Session) -> Session
     requires { is_kept session ≡ true }
     ensures { result ≡ one_up session }
 {
-    let phase = session.phase;
-    let up = session.up + 1;
-    let verdict = session.verdict;
-    let rr = session.rr;
-    let name = session.name;
-    let issuer = session.issuer;
-    let account = session.account;
-    let method = session.method;
     Session {
-        phase,
-        up,
-        verdict,
-        rr,
-        name,
-        issuer,
-        account,
-        method,
+        up: session.up + 1,
+        ..session
     }
 }
 
 // Nothing is found at the name asked for: its parent is asked for next, if that is not the root. Else the issuer is permitted.
 fn go_up(session: Session) -> Session
     requires { is_kept session ≡ true }
-    ensures { (n : Name) → kept_name session ≡ some n → result ≡ by_lookup session n empty }
+    ensures { (n : Name) → kept_name session ≡ Some n → result ≡ by_lookup session n empty }
 {
     let next = one_up(session);
-    let KeptName::At(_) = session_check::kept(next) else {
-        return session_step::close_session(session, 0, 0);
-    };
-    next
+    match session_check::kept(next) {
+        Some(_) => next,
+        None => session_step::close_session(session, 0, 0),
+    }
 }
 
 // Ends a session with a verdict.
@@ -73,72 +57,37 @@ fn close_by(session: Session, judgement: Judgement) -> Session
     }
 }
 
-// Looks up the name x for kept texts.
-fn look_texts(
-    issuer: Text,
-    account: Text,
-    method: Text,
-    book: &[u8],
-    x: &[u8],
-    up: usize,
-    wildcard: bool,
-) -> Looked
-    ensures { result ≡ looked_at (record { account = held account; method = held method }) (held issuer) book.now up wildcard x.now }
-{
-    let i = issuer.octets;
-    let a = account.octets;
-    let m = method.octets;
-    let issuer_end = session_kept::held_length(issuer);
-    let account_end = session_kept::held_length(account);
-    let method_end = session_kept::held_length(method);
-    session_look::look(
-        &i[0..issuer_end],
-        &a[0..account_end],
-        &m[0..method_end],
-        book,
-        x,
-        LabelsOff(up),
-        wildcard,
-    )
-}
-
 // Looks up the name asked for, which is at this place of the kept name.
-fn look_at(session: Session, p: Place, book: &[u8]) -> Looked
-    requires { kept_at session ≡ At p }
-    ensures { (n : Name) → kept_name session ≡ some n → result ≡ looked_at (kept_applicant session) (held session.issuer) book.now session.up (is_wildcard n) (wire (drop session.up (base n))) }
+fn look_at(session: Session, p: Place, book: &[u8]) -> Option<Judgement>
+    requires { kept_at session ≡ Some p }
+    ensures { (n : Name) → kept_name session ≡ Some n → result ≡ looked_at (kept_applicant session) (held session.issuer) book.now session.up (is_wildcard n) (wire (drop session.up (base n))) }
 {
-    let name = session.name;
-    let issuer = session.issuer;
-    let account = session.account;
-    let method = session.method;
-    let up = session.up;
-    let offset = p.offset;
-    let wildcard = p.wildcard;
-    let octets = name.octets;
-    let end = session_kept::held_length(name);
-    look_texts(
-        issuer,
-        account,
-        method,
+    let applicant = Applicant {
+        account: held_part(&session.account),
+        method: held_part(&session.method),
+    };
+    session_look::look(
+        held_part(&session.issuer),
+        applicant,
         book,
-        &octets[offset..end],
-        up,
-        wildcard,
+        &held_part(&session.name)[p.offset..],
+        LabelsOff(session.up),
+        p.wildcard,
     )
 }
 
 // The session after an accepted book.
 fn by_book(session: Session, book: &[u8]) -> Session
-    requires { (is_asking session ≡ true) × (book_refusal book.now ≡ none) }
+    requires { (is_asking session ≡ true) × (book_refusal book.now ≡ None) }
     ensures { result ≡ by_records session (kept_name session) (as_book (records book.now)) }
 {
     // A session that takes answers doesn't get here: its name is kept.
-    let KeptName::At(p) = session_check::kept(session) else {
+    let Some(p) = session_check::kept(session) else {
         return session;
     };
     match look_at(session, p, book) {
-        Looked::Empty => go_up(session),
-        Looked::Decides(j) => close_by(session, j),
+        None => go_up(session),
+        Some(j) => close_by(session, j),
     }
 }
 
@@ -150,7 +99,7 @@ pub fn answer(session: Session, book: &[u8]) -> Stepped
         let answer = SessionAnswer::Judged(Judgement::Refused(Refusal::SessionEnded));
         return Stepped { answer, session };
     }
-    if let Check::Refused(r) = book_check::check_book(book) {
+    if let Err(r) = book_check::check_book(book) {
         let answer = SessionAnswer::Judged(Judgement::Refused(r));
         return Stepped { answer, session };
     }

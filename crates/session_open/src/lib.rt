@@ -5,59 +5,51 @@ ghost use Rattle.std.specs.Prelude.{◌≡◌};
 ghost use Rattle.spec_refusal.specs.Checks.{checked};
 ghost use Rattle.spec_rule.specs.Calls.{first_refusal};
 ghost use Rattle.spec_session.specs.Steps.{one_name_refusal, open_checks, session_of, ended_session, opened};
+ghost use Rattle.spec_applicant.specs.Applicants.{texts};
 
-use read_request::RequestedRead;
+use session_kept::keep_text;
+use spec_applicant::Applicant;
 use spec_limits::MAX_REQUEST_OCTETS;
-use spec_refusal::{Check, NameNo, Refusal};
+use spec_refusal::{NameNo, Refusal};
 use spec_rule::Judgement;
-use spec_session::{ASKING, MAX_TEXT_OCTETS, Session, SessionAnswer, Stepped, Text};
+use spec_session::{ASKING, Session, SessionAnswer, Stepped};
 
 // Refusals 1 and 2 for a request of one name.
-fn check_one_name(s: &[u8]) -> Check
+fn check_one_name(s: &[u8]) -> Result<(), Refusal>
     ensures { result ≡ checked (one_name_refusal s.now) }
 {
     if MAX_REQUEST_OCTETS < s.len() {
-        return Check::Refused(Refusal::RequestTooLong);
+        return Err(Refusal::RequestTooLong);
     }
-    let RequestedRead::Good(n) = read_request::requested_name(s, 0) else {
-        return Check::Refused(Refusal::BadName(NameNo(0)));
-    };
+    let n = read_request::requested_name(s, 0).ok_or(Refusal::BadName(NameNo(0)))?;
     if n.next < s.len() {
-        return Check::Refused(Refusal::BadName(NameNo(1)));
+        return Err(Refusal::BadName(NameNo(1)));
     }
-    Check::Accepted
+    Ok(())
 }
 
 // The inputs in the order of checks.
-fn check_opening(request: &[u8], issuer: &[u8], account: &[u8], method: &[u8]) -> Check
-    ensures { result ≡ checked (first_refusal (open_checks request.now issuer.now (record { account = account.entry.now; method = method.now }))) }
+fn check_opening(request: &[u8], issuer: &[u8], applicant: Applicant) -> Result<(), Refusal>
+    ensures { result ≡ checked (first_refusal (open_checks request.now issuer.now (texts applicant.entry))) }
 {
-    if let Check::Refused(r) = check_one_name(request) {
-        return Check::Refused(r);
-    }
-    if let Check::Refused(r) = read_issuer::check_issuer(issuer) {
-        return Check::Refused(r);
-    }
-    read_applicant::check_applicant(account, method)
+    check_one_name(request)?;
+    read_issuer::check_issuer(issuer)?;
+    read_applicant::check_applicant(applicant)
 }
 
 // A session that asks for X.
-fn new_session(request: &[u8], issuer: &[u8], account: &[u8], method: &[u8]) -> Session
-    ensures { result ≡ session_of request.now issuer.now (record { account = account.entry.now; method = method.now }) }
+fn new_session(request: &[u8], issuer: &[u8], applicant: Applicant) -> Session
+    ensures { result ≡ session_of request.now issuer.now (texts applicant.entry) }
 {
-    let name = session_kept::keep_text(request);
-    let issuer_text = session_kept::keep_text(issuer);
-    let account_text = session_kept::keep_text(account);
-    let method_text = session_kept::keep_text(method);
     Session {
         phase: ASKING,
         up: 0,
         verdict: 0,
         rr: 0,
-        name,
-        issuer: issuer_text,
-        account: account_text,
-        method: method_text,
+        name: keep_text(request),
+        issuer: keep_text(issuer),
+        account: keep_text(applicant.account),
+        method: keep_text(applicant.method),
     }
 }
 
@@ -65,8 +57,7 @@ fn new_session(request: &[u8], issuer: &[u8], account: &[u8], method: &[u8]) -> 
 fn ended_session() -> Session
     ensures { result ≡ ended_session }
 {
-    let octets = [0u8; MAX_TEXT_OCTETS];
-    let text = Text { length: 0, octets };
+    let text = keep_text(&[]);
     Session {
         phase: 0,
         up: 0,
@@ -80,13 +71,14 @@ fn ended_session() -> Session
 }
 
 // Opens a session with one requested name, an issuer domain name, an account and a method.
-pub fn open(request: &[u8], issuer: &[u8], account: &[u8], method: &[u8]) -> Stepped
-    ensures { result ≡ opened request.now issuer.now (record { account = account.entry.now; method = method.now }) }
+pub fn open(request: &[u8], issuer: &[u8], applicant: Applicant) -> Stepped
+    ensures { result ≡ opened request.now issuer.now (texts applicant.entry) }
 {
-    if let Check::Refused(r) = check_opening(request, issuer, account, method) {
-        let answer = SessionAnswer::Judged(Judgement::Refused(r));
-        let session = ended_session();
-        return Stepped { answer, session };
+    match check_opening(request, issuer, applicant) {
+        Ok(()) => session_step::go_to(new_session(request, issuer, applicant)),
+        Err(r) => Stepped {
+            answer: SessionAnswer::Judged(Judgement::Refused(r)),
+            session: ended_session(),
+        },
     }
-    session_step::go_to(new_session(request, issuer, account, method))
 }

@@ -7,6 +7,7 @@ ghost use Rattle.spec_session_words.specs.SessionWords.{packed_session};
 use spec_session::SessionAnswer;
 
 // 40: a name to be looked up, its length in a, and in b its offset in the kept name. 23: a lookup failed. 41: ended without a verdict.
+#[tactic(auto, unfolding(spec_session_words::specs::SessionWords::packed_session, spec_session::specs::Steps::session_code, spec_answers::specs::Answers::packed_judgement))]
 pub fn pack_session(a: SessionAnswer) -> u64
     ensures { result ≡ packed_session a }
 {

@@ -1,8 +1,9 @@
 -- The ways out of kept_verdict and of state.
+use Rattle.std.specs.Prelude.{Option, None, Some}
 use Prim.Native.Nat.{ℕ, ◌≤◌, ◌<◌}
+use native.Mathlib.Omega.{arith}
 use mathlib.Core.Path.{◌≡◌, refl, ap, sym, ◌∙◌}
 use mathlib.Core.Bool.{Bool, true, false, cond, ◌&&◌}
-use mathlib.Core.Option.{Option, none, some}
 use lib.Dec.{eqb}
 use lib.ListN.{length, drop}
 use borrow.Author.Tests.{eq-eqb, ne_eqb, lt-ltb, le-ltb}
@@ -18,8 +19,6 @@ use Rattle.spec_session.specs.Sessions.{held, is_kept, asking, decided, is_askin
 use Rattle.spec_session.proofs.Kept.{broken_is_ended}
 use Rattle.spec_session.proofs.StepLaws.{asks, asks_nothing, state_tells}
 use Rattle.session_kept.specs.declared.Place.{Place}
-use Rattle.session_kept.specs.declared.KeptName.{KeptName}
-use Rattle.session_kept.specs.declared.KeptName.TheVariants.{At, Broken}
 use Rattle.session_kept.specs.Places.{kept_at}
 use Rattle.session_check.proofs.KeptLaws.{place_of, broken, at_place}
 use Rattle.session_state.specs.Verdicts.{or_no_verdict}
@@ -49,7 +48,7 @@ module _ (v r u : ℕ) where
   unfolding verdict_of
   is_beyond a b h = rw (ne_eqb v 0 a, ne_eqb v 23 b, le-ltb r max_records h) (go (eqb v 20) (eqb v 21) (eqb v 22))
     where
-      go : (x y z : Bool) → NoVerdict ≡ or_no_verdict (cond x none (cond y none (cond z none none)))
+      go : (x y z : Bool) → NoVerdict ≡ or_no_verdict (cond x None (cond y None (cond z None None)))
       go true y z = refl
       go false true z = refl
       go false false true = refl
@@ -64,18 +63,18 @@ both_true : {a b : Bool} → a ≡ true → b ≡ true → a && b ≡ true
 both_true e f = rw (e, f) refl
 
 name_told :
-    (s : Session) (p : Place) (n : Name) → p ≡ place_of (length (held s.name)) n s.up → asked s ≡ some (drop s.up (base n)) →
+    (s : Session) (p : Place) (n : Name) → p ≡ place_of (length (held s.name)) n s.up → asked s ≡ Some (drop s.up (base n)) →
     Asks p.offset p.length ≡ state s
 unfolding state
 name_told s p n e f = rw (e, f) refl
 
-module _ (s : Session) (q : KeptName) (f : q ≡ kept_at s) where
-  pub says_nothing : q ≡ Broken → NoVerdict ≡ state s
+module _ (s : Session) (q : Option Place) (f : q ≡ kept_at s) where
+  pub says_nothing : q ≡ None → NoVerdict ≡ state s
   says_nothing e =
       let (no_name, no-verdict) = broken_is_ended s (broken s (sym f ∙ e)) in
       sym ((state_tells s).2 no_name no-verdict)
 
-  module _ (p : Place) (e : q ≡ At p) where
+  module _ (p : Place) (e : q ≡ Some p) where
     keeps : is_kept s ≡ true
     keeps = (at_place s p (sym f ∙ e)).0
 
@@ -85,7 +84,7 @@ module _ (s : Session) (q : KeptName) (f : q ≡ kept_at s) where
         let (n, name, place) = (at_place s p (sym f ∙ e)).1 in
         name_told s p n place (asks s n (both_true (eq-eqb s.phase 1 h) keeps) name)
 
-    no_name : (s.phase ≡ 1 → ⊥) → asked s ≡ none
+    no_name : (s.phase ≡ 1 → ⊥) → asked s ≡ None
     unfolding is_asking asking
     no_name h = asks_nothing s (rw (ne_eqb s.phase 1 h) refl)
 
@@ -95,12 +94,12 @@ module _ (s : Session) (q : KeptName) (f : q ≡ kept_at s) where
 
     stands : s.phase ≡ 2 → standing s ≡ verdict_of s.verdict s.rr s.up
     unfolding standing decided
-    stands h = ap (λ t. cond t (verdict_of s.verdict s.rr s.up) none) (both_true (eq-eqb s.phase 2 h) keeps)
+    stands h = ap (λ t. cond t (verdict_of s.verdict s.rr s.up) None) (both_true (eq-eqb s.phase 2 h) keeps)
 
-    pub says_verdict : (s.phase ≡ 1 → ⊥) → s.phase ≡ 2 → (v : SessionAnswer) → v ≡ or_no_verdict (verdict_of s.verdict s.rr s.up) → v ≡ state s
+    pub says_verdict : s.phase ≡ 2 → (v : SessionAnswer) → v ≡ or_no_verdict (verdict_of s.verdict s.rr s.up) → v ≡ state s
     unfolding state
-    says_verdict h k v g = g ∙ sym (rw (no_name h, stands k) (go (verdict_of s.verdict s.rr s.up)))
+    says_verdict k v g = g ∙ sym (rw (no_name (λ h. omega arith), stands k) (go (verdict_of s.verdict s.rr s.up)))
       where
-        go : (o : Option SessionAnswer) → state_from (length (held s.name)) none o ≡ or_no_verdict o
-        go none = refl
-        go (some v) = refl
+        go : (o : Option SessionAnswer) → state_from (length (held s.name)) None o ≡ or_no_verdict o
+        go None = refl
+        go (Some v) = refl

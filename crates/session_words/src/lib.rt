@@ -6,6 +6,7 @@ ghost use Rattle.spec_session_words.specs.SessionWords.{worded, caa_session_open
 ghost use Rattle.session_words.specs.Called.{called};
 
 use session_pack::pack_session;
+use spec_applicant::Applicant;
 use spec_session::{Session, Stepped};
 
 // The session that a caller keeps in memory and lends for each call. It is the session of the definitions, and nothing more: the crate of a type alone can give it methods.
@@ -37,7 +38,8 @@ impl LentSession {
     pub fn open(request: &[u8], issuer: &[u8], account: &[u8], method: &[u8]) -> Called
         ensures { result ≡ called (caa_session_open request.now issuer.now (record { account = account.entry.now; method = method.now })) }
     {
-        pack_step(session_open::open(request, issuer, account, method))
+        let applicant = Applicant { account, method };
+        pack_step(session_open::open(request, issuer, applicant))
     }
 
     pub fn answer(self, book: &[u8]) -> Called

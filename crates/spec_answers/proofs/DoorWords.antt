@@ -1,4 +1,5 @@
 -- Which answer a word stands for, by its number n and its fields a, b and c.
+use Rattle.std.specs.Prelude.{Result, Ok, Err}
 use Prim.Native.Nat.{ℕ, ◌≤◌}
 use native.Mathlib.Omega.{arith}
 use mathlib.Core.Path.{◌≡◌, refl}
@@ -11,8 +12,6 @@ use Rattle.spec_rule.specs.declared.PermittedIssuers.{PermittedIssuers}
 use Rattle.spec_rule.specs.declared.PermittedIssuers.TheVariants.{Anyone, Listed, Refused as ListRefused}
 use Rattle.spec_rule.specs.Verdicts.{denial}
 use Rattle.spec_rule.specs.Calls.{AnswerCode, judgement_code, permitted_issuers_code}
-use Rattle.spec_line.specs.declared.LineAnswer.{LineAnswer}
-use Rattle.spec_line.specs.declared.LineAnswer.TheVariants.{Length, Refused as LineRefused}
 use Rattle.spec_answers.specs.Answers.{value_of}
 use Rattle.spec_answers.specs.LineAnswers.{line_code}
 
@@ -137,22 +136,22 @@ module _ (n a b c : ℕ) where
   unfolding permitted_issuers_code
   list_a x h e = (of_answer permitted_issuers_code (list_30 x h e) h).1
 
-  pub line_refused : (m : LineAnswer) → Holds (line_code m) → 1 ≤ n → (r : Refusal) × (m ≡ LineRefused r) × (number r ≡ n) × (place r ≡ a)
+  pub line_refused : (m : Result ℕ Refusal) → Holds (line_code m) → 1 ≤ n → (r : Refusal) × (m ≡ Err r) × (number r ≡ n) × (place r ≡ a)
   unfolding line_code
-  line_refused (Length k) h low = absurd (omega arith)
-  line_refused (LineRefused r) h low = (r, refl, omega arith, omega arith)
+  line_refused (Ok k) h low = absurd (omega arith)
+  line_refused (Err r) h low = (r, refl, omega arith, omega arith)
 
-  pub line_b : (m : LineAnswer) → Holds (line_code m) → b ≡ 0
+  pub line_b : (m : Result ℕ Refusal) → Holds (line_code m) → b ≡ 0
   unfolding line_code
-  line_b (Length k) h = h.2
-  line_b (LineRefused r) h = h.2
+  line_b (Ok k) h = h.2
+  line_b (Err r) h = h.2
 
-  pub line_c : (m : LineAnswer) → Holds (line_code m) → c ≡ 0
+  pub line_c : (m : Result ℕ Refusal) → Holds (line_code m) → c ≡ 0
   unfolding line_code
-  line_c (Length k) h = h.3
-  line_c (LineRefused r) h = h.3
+  line_c (Ok k) h = h.3
+  line_c (Err r) h = h.3
 
-  pub line_0 : (m : LineAnswer) → Holds (line_code m) → n ≡ 0 → m ≡ Length a
+  pub line_0 : (m : Result ℕ Refusal) → Holds (line_code m) → n ≡ 0 → m ≡ Ok a
   unfolding line_code
-  line_0 (Length k) h e = rw h.1
-  line_0 (LineRefused r) h e = absurd (omega (arith, number_range r))
+  line_0 (Ok k) h e = rw h.1
+  line_0 (Err r) h e = absurd (omega (arith, number_range r))

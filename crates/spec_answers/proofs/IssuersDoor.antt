@@ -1,10 +1,10 @@
 -- The word of caa_permitted_issuers_for and the buffer: the first row of the table that holds, or the list.
-use Prim.Native.Nat.{ℕ, ◌≤◌, ◌<◌}
+use Rattle.std.specs.Prelude.{Option, None, Some}
+use Prim.Native.Nat.{ℕ, ◌≤◌}
 use native.Mathlib.Omega.{arith}
 use mathlib.Core.Path.{◌≡◌, refl, sym, ap, ◌∙◌}
 use mathlib.Core.Logic.{◌↔◌, ◌≢◌, ◌⊎◌, inl, inr, ⊎_elim}
 use mathlib.Core.List.{List, [], ◌∷◌, ◌++◌, Memᴰ}
-use mathlib.Core.Option.{Option, none, some}
 use lib.Dec.{leb}
 use lib.ListN.{length, drop, length-append}
 use lib.Seq.{take_at}
@@ -99,13 +99,13 @@ module _ (request : List ℕ) (who : Applicant) (book buffer : List ℕ) (reques
   abbrev Unrefused : Type 0
   Unrefused = (r : Refusal) → Refuses r → ⊥
 
-  abbrev None : Type 0
-  None = NoneHolds (ListTable request who book buffer)
+  abbrev Unrefused_all : Type 0
+  Unrefused_all = NoneHolds (ListTable request who book buffer)
 
-  none_held : Unrefused → None
+  none_held : Unrefused → Unrefused_all
   none_held = none_holds (list_rows request who book buffer) Refuses refuses
 
-  passed : None → Unrefused
+  passed : Unrefused_all → Unrefused
   passed = never_refuses (list_rows request who book buffer) Refuses refuses
 
   refused_word : (n p : ℕ) → 1 ≤ n → n ≤ 19 → ((number_in W ≡ n) × (field_a W ≡ p)) ↔ FirstToHold (ListTable request who book buffer) n p
@@ -116,17 +116,17 @@ module _ (request : List ℕ) (who : Applicant) (book buffer : List ℕ) (reques
 
   -- a call that is not refused, or with 8, finds nothing wrong with what it was handed
   abbrev Accepted : Type 0
-  Accepted = (request_refusal request ≡ none) × (applicant_refusal who ≡ none) × (book_refusal book ≡ none)
+  Accepted = (request_refusal request ≡ None) × (applicant_refusal who ≡ None) × (book_refusal book ≡ None)
 
   accepted : ((r : Refusal) → number r ≢ 8 → Refuses r → ⊥) → Accepted
   unfolding list_issuers number
   accepted never = go (request_refusal request) (applicant_refusal who) (book_refusal book) refl refl refl
     where
       go : (a b c : Option Refusal) → request_refusal request ≡ a → applicant_refusal who ≡ b → book_refusal book ≡ c → Accepted
-      go none none none e f g = (e, f, g)
-      go (some r) b c e f g = absurd (never r (λ n. omega (arith, (request_refusals request request-octets).3 r e)) (rw e))
-      go none (some r) c e f g = absurd (never r (λ n. omega (arith, ap number ((applicant_refusals who).2 r f))) (rw (e, f)))
-      go none none (some r) e f g = absurd (never r (λ n. ⊎_elim (λ k. omega arith) (λ k. omega arith) ((book_refusals book book-octets).4 r g)) (rw (e, f, g)))
+      go None None None e f g = (e, f, g)
+      go (Some r) b c e f g = absurd (never r (λ n. omega (arith, (request_refusals request request-octets).3 r e)) (rw e))
+      go None (Some r) c e f g = absurd (never r (λ n. omega (arith, ap number ((applicant_refusals who).2 r f))) (rw (e, f)))
+      go None None (Some r) e f g = absurd (never r (λ n. ⊎_elim (λ k. omega arith) (λ k. omega arith) ((book_refusals book book-octets).4 r g)) (rw (e, f, g)))
 
   tells : Unrefused → ListingTells request who book buffer L
   tells never =
@@ -143,13 +143,13 @@ module _ (request : List ℕ) (who : Applicant) (book buffer : List ℕ) (reques
   abbrev Free : Type 0
   Free = All (Unrestricted (as_book (records book))) (requested_names request)
 
-  anyone_exactly : (number_in W ≡ 30) ↔ (None × Free)
+  anyone_exactly : (number_in W ≡ 30) ↔ (Unrefused_all × Free)
   anyone_exactly = (
     λ n. let (e, never) = at_30 n in (none_held never, (tells never).anyone_exactly.0 e),
     λ (no_row, free). anyone_word request who book buffer book-octets ((tells (passed no_row)).anyone_exactly.1 free),
   )
 
-  listed_exactly : (number_in W ≡ 31) ↔ (None × (Free → ⊥))
+  listed_exactly : (number_in W ≡ 31) ↔ (Unrefused_all × (Free → ⊥))
   listed_exactly = (
     λ n. let (e, never) = at_31 n in (none_held never, λ free. anyone≢listed (sym ((tells never).anyone_exactly.1 free) ∙ e)),
     λ (no_row, bound). ⊎_elim

@@ -1,10 +1,10 @@
 -- The word of caa_judge_for: the first row of the table that holds, or the verdict.
+use Rattle.std.specs.Prelude.{Option, None, Some}
 use Prim.Native.Nat.{ℕ, ◌≤◌}
 use native.Mathlib.Omega.{arith}
 use mathlib.Core.Path.{◌≡◌, refl, sym, ◌∙◌}
 use mathlib.Core.Logic.{◌↔◌}
 use mathlib.Core.List.{List, [], ◌∷◌, Memᴰ}
-use mathlib.Core.Option.{Option, none, some}
 use Rattle.spec_refusal.specs.declared.Refusal.{Refusal}
 use Rattle.spec_octets.specs.Octets.{Octets}
 use Rattle.spec_request.specs.Request.{requested_names, request_refusal}
@@ -48,7 +48,7 @@ module _ (request issuer : List ℕ) (who : Applicant) (book : List ℕ) where
 
   -- a call that is not refused finds nothing wrong with what it was handed
   abbrev Accepted : Type 0
-  Accepted = (request_refusal request ≡ none) × (issuer_refusal issuer ≡ none) × (applicant_refusal who ≡ none) × (book_refusal book ≡ none)
+  Accepted = (request_refusal request ≡ None) × (issuer_refusal issuer ≡ None) × (applicant_refusal who ≡ None) × (book_refusal book ≡ None)
 
   accepted : ((r : Refusal) → j ≡ Refused r → ⊥) → Accepted
   unfolding judge
@@ -57,35 +57,35 @@ module _ (request issuer : List ℕ) (who : Applicant) (book : List ℕ) where
       go :
           (a b c d : Option Refusal) → request_refusal request ≡ a → issuer_refusal issuer ≡ b → applicant_refusal who ≡ c → book_refusal book ≡ d →
           Accepted
-      go none none none none e f g h = (e, f, g, h)
-      go (some r) b c d e f g h = absurd (never r (rw e))
-      go none (some r) c d e f g h = absurd (never r (rw (e, f)))
-      go none none (some r) d e f g h = absurd (never r (rw (e, f, g)))
-      go none none none (some r) e f g h = absurd (never r (rw (e, f, g, h)))
+      go None None None None e f g h = (e, f, g, h)
+      go (Some r) b c d e f g h = absurd (never r (rw e))
+      go None (Some r) c d e f g h = absurd (never r (rw (e, f)))
+      go None None (Some r) d e f g h = absurd (never r (rw (e, f, g)))
+      go None None None (Some r) e f g h = absurd (never r (rw (e, f, g, h)))
 
-  abbrev None : Type 0
-  None = NoneHolds (JudgeTable request issuer who book)
+  abbrev Unrefused_all : Type 0
+  Unrefused_all = NoneHolds (JudgeTable request issuer who book)
 
   abbrev Ruled : Type 0
   Ruled = VerdictOn who (as_book (records book)) (requested_names request) issuer j
 
   module _ (request-octets : Octets request) (book-octets : Octets book) where
-    none_held : ((r : Refusal) → j ≡ Refused r → ⊥) → None
+    none_held : ((r : Refusal) → j ≡ Refused r → ⊥) → Unrefused_all
     none_held = none_holds (judge_rows request issuer who book) (λ r. j ≡ Refused r) (judge_refusals request issuer who book request-octets book-octets)
 
-    passed : None → Accepted
+    passed : Unrefused_all → Accepted
     passed h =
         accepted
         (never_refuses (judge_rows request issuer who book) (λ r. j ≡ Refused r) (judge_refusals request issuer who book request-octets book-octets) h)
 
     -- an answer v that is no refusal: A is how the word has it, B is what the rule has for it
-    verdict_exactly : {A B : Type 0} (v : Judgement) → ((r : Refusal) → v ≡ Refused r → ⊥) → A ↔ (j ≡ v) → (Ruled → (j ≡ v) ↔ B) → A ↔ (None × B)
+    verdict_exactly : {A B : Type 0} (v : Judgement) → ((r : Refusal) → v ≡ Refused r → ⊥) → A ↔ (j ≡ v) → (Ruled → (j ≡ v) ↔ B) → A ↔ (Unrefused_all × B)
     verdict_exactly {A} {B} v other word rule = (λ h. found (word.0 h), λ (no_row, h). word.1 ((rule (ruled (passed no_row))).1 h))
       where
         ruled : Accepted → Ruled
         ruled (e, f, g, h) = judge_accepted request issuer who book e f g h
 
-        found : j ≡ v → None × B
+        found : j ≡ v → Unrefused_all × B
         found e =
             let calm : (r : Refusal) → j ≡ Refused r → ⊥ = λ r f. other r (sym e ∙ f) in
             (none_held calm, (rule (ruled (accepted calm))).0 e)

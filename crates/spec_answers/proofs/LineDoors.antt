@@ -1,4 +1,5 @@
 -- The words of the two calls on lines, and the buffer: a refusal, or the output at the start of the buffer.
+use Rattle.std.specs.Prelude.{Ok, Err}
 use Prim.Native.Nat.{ℕ, ◌≤◌, ◌<◌}
 use native.Mathlib.Omega.{arith}
 use mathlib.Core.Path.{◌≡◌, refl, sym, ap, ◌∙◌}
@@ -16,8 +17,6 @@ use Rattle.spec_refusal.proofs.Table.{number_and_place_tell}
 use Rattle.spec_octets.specs.Lists.{all}
 use Rattle.spec_octets.proofs.ListLaws.{true_or_false, All-member, all_true}
 use Rattle.spec_record.specs.Property.{Property}
-use Rattle.spec_line.specs.declared.LineAnswer.{LineAnswer}
-use Rattle.spec_line.specs.declared.LineAnswer.TheVariants.{Length, Refused}
 use Rattle.spec_line.specs.Calls.{Output}
 use Rattle.spec_packed.specs.Packed.{number_in, field_a, field_b, field_c}
 use Rattle.spec_answers.specs.LineAnswers.{line_code}
@@ -48,9 +47,9 @@ at_most_11 {n} ns e there = leb-true n 11 (All-member ((all_true (λ m. leb m 11
 
 -- x at the front, the rest as it was
 abbrev pub at_front : List ℕ → List ℕ → Output
-at_front x buffer = record { answer = Length (length x); buffer = x ++ drop (length x) buffer }
+at_front x buffer = record { answer = Ok (length x); buffer = x ++ drop (length x) buffer }
 
-length≢refused : {n : ℕ} {r : Refusal} → Length n ≡ Refused r → ⊥
+length≢refused : {n : ℕ} {r : Refusal} → Ok n ≡ Err r → ⊥
 length≢refused e = let z : ◌≡◌ {A = ℕ} 0 1 = cc in omega arith
 
 -- a number fits or it is too large
@@ -64,22 +63,22 @@ whole_length : (x buffer : List ℕ) → length x ≤ length buffer → length (
 whole_length x buffer room = rw length-append (omega (arith, length-drop (length x) buffer))
 
 module _ (o : Output) (buffer : List ℕ) (w : ℕ) (u : Holds (number_in w) (field_a w) (field_b w) (field_c w) (line_code o.answer)) where
-  refused_word : (r : Refusal) → ((number_in w ≡ number r) × (field_a w ≡ place r)) ↔ (o.answer ≡ Refused r)
+  refused_word : (r : Refusal) → ((number_in w ≡ number r) × (field_a w ≡ place r)) ↔ (o.answer ≡ Err r)
   unfolding line_code
   refused_word r = (
     λ (n, a). let (q, e, nq, pq) = line_refused _ _ _ _ o.answer u (omega (arith, number_range r)) in known e (nq ∙ n) (pq ∙ a),
     λ e. let h = of_answer _ _ _ _ line_code e u in (h.0, h.1),
   )
     where
-      known : {q : Refusal} → o.answer ≡ Refused q → number q ≡ number r → place q ≡ place r → o.answer ≡ Refused r
+      known : {q : Refusal} → o.answer ≡ Err q → number q ≡ number r → place q ≡ place r → o.answer ≡ Err r
       known {q} e n p = rw (number_and_place_tell q r n p) at e
 
-  pub no_room_word : (k : ℕ) → ((number_in w ≡ 8) × (field_a w ≡ k)) ↔ (o.answer ≡ Refused (NoRoom k))
+  pub no_room_word : (k : ℕ) → ((number_in w ≡ 8) × (field_a w ≡ k)) ↔ (o.answer ≡ Err (NoRoom k))
   unfolding number place
   no_room_word k = refused_word (NoRoom k)
 
   -- a refusal without a place is known by its number
-  pub placeless_word : (r : Refusal) → 9 ≤ number r → number r ≤ 11 → (number_in w ≡ number r) ↔ (o.answer ≡ Refused r)
+  pub placeless_word : (r : Refusal) → 9 ≤ number r → number r ≤ 11 → (number_in w ≡ number r) ↔ (o.answer ≡ Err r)
   placeless_word r big small = (
     λ n. let (q, e, nq, pq) = line_refused _ _ _ _ o.answer u (omega arith) in
         (refused_word r).0 (n, sym pq ∙ place_0 q (omega arith) (omega arith) ∙ sym (place_0 r big small)),
@@ -111,9 +110,9 @@ module _ (o : Output) (buffer : List ℕ) (w : ℕ) (u : Holds (number_in w) (fi
   module _
       (bad : Refusal) (Good : Property → Type 0) (out : Property → List ℕ)
       (placed : (p : Property) → Good p → length (out p) ≤ length buffer → o ≡ at_front (out p) buffer)
-      (tight : (p : Property) → Good p → length buffer < length (out p) → o.answer ≡ Refused (NoRoom (length (out p))))
-      (kept : (r : Refusal) → o.answer ≡ Refused r → o.buffer ≡ buffer) where
-    unrefused : number_in w ≡ 0 → (r : Refusal) → o.answer ≡ Refused r → ⊥
+      (tight : (p : Property) → Good p → length buffer < length (out p) → o.answer ≡ Err (NoRoom (length (out p))))
+      (kept : (r : Refusal) → o.answer ≡ Err r → o.buffer ≡ buffer) where
+    unrefused : number_in w ≡ 0 → (r : Refusal) → o.answer ≡ Err r → ⊥
     unrefused n r e = length≢refused (sym (line_0 _ _ _ _ o.answer u n) ∙ e)
 
     has_room : number_in w ≡ 0 → (p : Property) → Good p → length (out p) ≤ length buffer
@@ -123,7 +122,7 @@ module _ (o : Output) (buffer : List ℕ) (w : ℕ) (u : Holds (number_in w) (fi
     is_there n p good = outputs (out p) (placed p good (has_room n p good))
 
     -- a refused call leaves the buffer
-    refused_fills : (r : Refusal) → o.answer ≡ Refused r → Number bad → Fills bad Good out
+    refused_fills : (r : Refusal) → o.answer ≡ Err r → Number bad → Fills bad Good out
     refused_fills r e n = record {
       output_exactly = (λ z. absurd (unrefused z r e), λ (p, good, room). (outputs (out p) (placed p good room)).0);
       there = is_there;
@@ -146,7 +145,7 @@ module _ (o : Output) (buffer : List ℕ) (w : ℕ) (u : Holds (number_in w) (fi
           number_found_lem = inl n;
         }
 
-    pub fills : (o.answer ≡ Refused LineTooLong) ⊎ ((o.answer ≡ Refused bad) ⊎ ((p : Property) × Good p)) → Fills bad Good out
+    pub fills : (o.answer ≡ Err LineTooLong) ⊎ ((o.answer ≡ Err bad) ⊎ ((p : Property) × Good p)) → Fills bad Good out
     fills (inl e) = let n = ((refused_word _).1 e).0 in refused_fills _ e (inr (inr (inl n)))
     fills (inr (inl e)) = let n = ((refused_word _).1 e).0 in refused_fills _ e (inr (inr (inr n)))
     fills (inr (inr (p, good))) = good_fills p good (fits_or_not (length (out p)) (length buffer))

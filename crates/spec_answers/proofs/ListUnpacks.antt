@@ -1,10 +1,10 @@
 -- Unpacking the answer of the call that lists the permitted issuers gives its number and values: each fits its field.
+use Rattle.std.specs.Prelude.{Option, None, Some}
 use Prim.Native.Nat.{ℕ, ◌^◌, ◌≤◌, ◌<◌}
 use native.Mathlib.Omega.{arith}
 use mathlib.Core.Path.{◌≡◌, refl}
 use mathlib.Core.Bool.{Bool, true, false, cond}
 use mathlib.Core.List.{List, [], ◌∷◌}
-use mathlib.Core.Option.{Option, none, some}
 use lib.Dec.{leb}
 use lib.ListN.{length}
 use Rattle.spec_limits.specs.Limits.{max_book_octets}
@@ -40,7 +40,7 @@ count_less [] = omega arith
 count_less (n ∷ ns) = omega (arith, count_less ns)
 
 module _ (request : List ℕ) (who : Applicant) (book buffer : List ℕ) (octets : Octets book) where
-  list_small : book_refusal book ≡ none → (ns : List (List ℕ)) → issuers (authorizations request who book) ≡ listed ns →
+  list_small : book_refusal book ≡ None → (ns : List (List ℕ)) → issuers (authorizations request who book) ≡ listed ns →
       (length (entries ns) < 2 ^ 24) × (length ns < 2 ^ 16)
   unfolding max_book_octets
   list_small f ns g =
@@ -52,14 +52,14 @@ module _ (request : List ℕ) (who : Applicant) (book buffer : List ℕ) (octets
   fits : (b c d : Option Refusal) → request_refusal request ≡ b → applicant_refusal who ≡ c → book_refusal book ≡ d → (i : Issuers) →
       issuers (authorizations request who book) ≡ i → ListFits (list_issuers request who book buffer).answer
   unfolding list_issuers place
-  fits (some r) c d e a f i g = rw e (rw e at (request_fits request))
-  fits none (some r) d e a f i g = rw (e, a) (rw a at (applicant_fits who))
-  fits none none (some r) e a f i g = rw (e, a, f) (rw f at (book_fits book))
-  fits none none none e a f anyone g = rw (e, a, f, g) tt
-  fits none none none e a f (listed ns) g = rw (e, a, f, g) (by (leb (length (entries ns)) (length buffer)) (list_small f ns g))
+  fits (Some r) c d e a f i g = rw e (rw e at (request_fits request))
+  fits None (Some r) d e a f i g = rw (e, a) (rw a at (applicant_fits who))
+  fits None None (Some r) e a f i g = rw (e, a, f) (rw f at (book_fits book))
+  fits None None None e a f anyone g = rw (e, a, f, g) tt
+  fits None None None e a f (listed ns) g = rw (e, a, f, g) (by (leb (length (entries ns)) (length buffer)) (list_small f ns g))
     where
       by : (t : Bool) → (length (entries ns) < 2 ^ 24) × (length ns < 2 ^ 16) →
-          ListFits (unless_refused (first_refusal (none ∷ none ∷ none ∷ cond t none (some (NoRoom (length (entries ns)))) ∷ [])) (written (listed ns) buffer) buffer).answer
+          ListFits (unless_refused (first_refusal (None ∷ None ∷ None ∷ cond t None (Some (NoRoom (length (entries ns)))) ∷ [])) (written (listed ns) buffer) buffer).answer
       by true h = h
       by false h = h.0
 

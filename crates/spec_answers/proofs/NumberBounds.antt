@@ -1,10 +1,10 @@
 -- The numbers in a judgement fit their fields: name numbers, record numbers and labels taken off are below their limits, and so is a refusal's place.
-use Prim.Native.Nat.{ℕ, zero, suc, ◌+◌, ◌^◌, ◌≤◌, ◌<◌}
+use Rattle.std.specs.Prelude.{Option, None, Some}
+use Prim.Native.Nat.{ℕ, zero, suc, ◌^◌, ◌≤◌, ◌<◌}
 use native.Mathlib.Omega.{arith}
 use mathlib.Core.Path.{◌≡◌, refl}
-use mathlib.Core.Bool.{Bool, true, false, cond, true≢false}
+use mathlib.Core.Bool.{true≢false}
 use mathlib.Core.List.{List, [], ◌∷◌, ◌++◌, map}
-use mathlib.Core.Option.{Option, none, some}
 use lib.ListN.{length, drop, length-append}
 use Rattle.spec_limits.specs.Limits.{max_names, max_records}
 use Rattle.spec_refusal.specs.declared.Refusal.{Refusal}
@@ -24,7 +24,7 @@ use Rattle.spec_rule.specs.declared.Judgement.TheVariants.{Permitted, UnknownCri
 use Rattle.spec_rule.specs.RelevantSet.{CaaRecord, Book, empty, found, endless, as_book, relevant_set}
 use Rattle.spec_rule.specs.Verdicts.{decision, verdict}
 use Rattle.spec_rule.specs.Calls.{decisions, first_refusal, judge_checks, refused_or, judge}
-use Rattle.spec_rule.specs.Meaning.{AliasOf, DecidedAt, LowestNot}
+use Rattle.spec_rule.specs.Meaning.{DecidedAt, LowestNot}
 use Rattle.spec_rule.proofs.Lookups.{a_lookup}
 use Rattle.spec_rule.proofs.Nearest.{nearest_name_decides}
 use Rattle.spec_rule.proofs.LabelsTakenOff.{up_below_labels}
@@ -42,8 +42,8 @@ Fits (Refused r) = place r < 2 ^ 24
 
 refused_fits : (checks : List (Option Refusal)) (j : Judgement) → All PlaceFits checks → Fits j → Fits (refused_or (first_refusal checks) j)
 refused_fits [] j hs k = k
-refused_fits (none ∷ checks) j (all_cons h hs) k = refused_fits checks j hs k
-refused_fits (some r ∷ checks) j (all_cons h hs) k = h
+refused_fits (None ∷ checks) j (all_cons h hs) k = refused_fits checks j hs k
+refused_fits (Some r ∷ checks) j (all_cons h hs) k = h
 
 -- The verdict: a record's number is one of the book's, a name's one of the request's.
 names_few : (s : List ℕ) → length (requested_names s) ≤ max_names
@@ -51,7 +51,7 @@ unfolding requested_names name_items
 names_few s = whole_within max_names (name_items s) (items_within requested_name max_names s)
 
 -- each name of a request was read, so it is valid
-pub name_read : (s : List ℕ) (n : Name) (rest : List ℕ) → requested_name s ≡ some (n, rest) → (s ≡ wire n ++ rest) × GoodName n
+pub name_read : (s : List ℕ) (n : Name) (rest : List ℕ) → requested_name s ≡ Some (n, rest) → (s ≡ wire n ++ rest) × GoodName n
 unfolding requested_name
 name_read s n rest e =
     let (m, mid, f, g) = (bind_some name _ s n rest).0 e in
@@ -72,8 +72,8 @@ items_good (suc room) (x ∷ s) = go (requested_name (x ∷ s)) refl (items_good
     go :
         (o : Option (Name × List ℕ)) → requested_name (x ∷ s) ≡ o → ((t : List ℕ) → All GoodName (whole_items (items requested_name room t))) →
         All GoodName (whole_items (before o (items requested_name room)))
-    go none e ih = all_nil
-    go (some r) e ih = follow_good r.0 (items requested_name room r.1) (name_read (x ∷ s) r.0 r.1 e).1 (ih r.1)
+    go None e ih = all_nil
+    go (Some r) e ih = follow_good r.0 (items requested_name room r.1) (name_read (x ∷ s) r.0 r.1 e).1 (ih r.1)
 
 names_good : (s : List ℕ) → All GoodName (requested_names s)
 unfolding requested_names name_items

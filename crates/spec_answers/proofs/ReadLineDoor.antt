@@ -1,11 +1,12 @@
 -- The word of caa_read_line and the buffer: a refusal, or the data, which caa_write_line writes as a line again.
+use Rattle.std.proofs.lemmas.Option.{none-some, same_Some}
+use Rattle.std.specs.Prelude.{Option, None, Some, Err}
 use Prim.Native.Nat.{ℕ, ◌≤◌, ◌<◌}
 use native.Mathlib.Omega.{arith}
 use mathlib.Core.Path.{◌≡◌, refl, sym, ◌∙◌}
 use mathlib.Core.Logic.Iff
 use mathlib.Core.Logic.{◌⊎◌, inl, inr, ⊎_elim}
 use mathlib.Core.List.{List, [], ◌∷◌, Memᴰ}
-use mathlib.Core.Option.{Option, none, some, none-ne-some, some-injective}
 use lib.ListN.{length, take}
 use Rattle.spec_limits.specs.Limits.{max_data_octets, max_line_octets}
 use Rattle.spec_refusal.specs.declared.Refusal.TheVariants.{NoRoom, BadLine, LineTooLong}
@@ -13,7 +14,6 @@ use Rattle.spec_refusal.specs.Refusal.{number}
 use Rattle.spec_octets.specs.Octets.{Octets}
 use Rattle.spec_record.specs.Property.{Property, wire_property}
 use Rattle.spec_record.proofs.PropertyLaws.{property_is_its_parts}
-use Rattle.spec_line.specs.declared.LineAnswer.TheVariants.{Refused}
 use Rattle.spec_line.specs.Written.{line}
 use Rattle.spec_line.specs.Read.{read_line}
 use Rattle.spec_line.specs.Grammar.{LineOf}
@@ -37,8 +37,8 @@ readable : (s : List ℕ) → ((p : Property) × LineOf p s) ⊎ ((p : Property)
 readable s = go (read_line s) refl
   where
     go : (o : Option Property) → read_line s ≡ o → ((p : Property) × LineOf p s) ⊎ ((p : Property) → LineOf p s → ⊥)
-    go none e = inr (λ p stands. none-ne-some p (sym e ∙ (line_is_the_grammar s p).1 stands))
-    go (some p) e = inl (p, (line_is_the_grammar s p).0 e)
+    go None e = inr (λ p stands. none-some p (sym e ∙ (line_is_the_grammar s p).1 stands))
+    go (Some p) e = inl (p, (line_is_the_grammar s p).0 e)
 
 -- such data is one that can be written, with flags of one octet
 writable : (s : List ℕ) (p : Property) → LineOf p s → Writable (wire_property p) p × (p.flags < 256)
@@ -61,10 +61,10 @@ module _ (s buffer : List ℕ) (octets : Octets s) where
   placed : (p : Property) → Good p → length (wire_property p) ≤ length buffer → O ≡ at_front (wire_property p) buffer
   placed p (short, stands, fits) room = data_placed s buffer p short stands fits room
 
-  tight : (p : Property) → Good p → length buffer < length (wire_property p) → O.answer ≡ Refused (NoRoom (length (wire_property p)))
+  tight : (p : Property) → Good p → length buffer < length (wire_property p) → O.answer ≡ Err (NoRoom (length (wire_property p)))
   tight p (short, stands, fits) less = ((read_refusals s buffer).2 _).1 (short, (p, stands, fits, refl, less))
 
-  way : (O.answer ≡ Refused LineTooLong) ⊎ ((O.answer ≡ Refused BadLine) ⊎ ((p : Property) × Good p))
+  way : (O.answer ≡ Err LineTooLong) ⊎ ((O.answer ≡ Err BadLine) ⊎ ((p : Property) × Good p))
   way = ⊎_elim
       (λ short. ⊎_elim
       (λ (p, stands). ⊎_elim
@@ -103,7 +103,7 @@ module _ (s buffer : List ℕ) (octets : Octets s) where
     where
       flags_of : (p : Property) → Writable (wire_property p) p → p.flags < 256 → FlagsFit (wire_property p)
       flags_of p w flags q e =
-          rw (some-injective p q (sym ((property_is_its_parts (wire_property p) p).1 (w.0, w.1)) ∙ e)) at flags
+          rw (same_Some p q (sym ((property_is_its_parts (wire_property p) p).1 (w.0, w.1)) ∙ e)) at flags
 
   reads_again : number_in W ≡ 0 → (p : Property) → LineOf p s → (first second : List ℕ) → length (line p) ≤ length first →
       field_a W ≤ length second → Outputs (caa_read_line (front_of (caa_write_line (take (field_a W) O.buffer) first)) second) (wire_property (small_tag p))

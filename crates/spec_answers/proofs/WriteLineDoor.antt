@@ -1,4 +1,6 @@
 -- The word of caa_write_line and the buffer: a refusal, or the line, which caa_read_line reads back.
+use Rattle.std.proofs.lemmas.Option.{none-some, same_Some}
+use Rattle.std.specs.Prelude.{Option, None, Some, Err}
 use Prim.Native.Nat.{ℕ, ◌≤◌, ◌<◌}
 use native.Mathlib.Omega.{arith}
 use mathlib.Core.Path.{◌≡◌, refl, sym, ◌∙◌}
@@ -6,7 +8,6 @@ use mathlib.Core.Logic.Iff
 use mathlib.Core.Logic.{◌⊎◌, inl, inr, ⊎_elim}
 use mathlib.Core.Bool.{Bool, true, false, true≢false}
 use mathlib.Core.List.{List, [], ◌∷◌, Memᴰ}
-use mathlib.Core.Option.{Option, none, some, none-ne-some, some-injective}
 use lib.ListN.{length, take, length-append, length-map}
 use Rattle.spec_limits.specs.Limits.{max_tag_octets, max_data_octets, max_line_octets}
 use Rattle.spec_refusal.specs.declared.Refusal.TheVariants.{NoRoom, LineTooLong, BadData}
@@ -15,7 +16,6 @@ use Rattle.spec_octets.specs.Octets.{Octets, is_letter_or_digit}
 use Rattle.spec_octets.proofs.ListLaws.{All-head, All-tail, All-rest, all_true}
 use Rattle.spec_record.specs.Property.{Property, wire_property, property}
 use Rattle.spec_record.proofs.PropertyLaws.{property_is_its_parts}
-use Rattle.spec_line.specs.declared.LineAnswer.TheVariants.{Refused}
 use Rattle.spec_line.specs.Written.{line}
 use Rattle.spec_line.specs.Grammar.{LineOf, HasLine}
 use Rattle.spec_line.specs.Calls.{Output, is_writable, write_line, parse_line}
@@ -54,16 +54,16 @@ writable : (d : List ℕ) → ((p : Property) × Writable d p) ⊎ ((p : Propert
 writable d = go (property d) refl
   where
     letters :
-        (q : Property) → property d ≡ some q → (t : Bool) → is_writable q ≡ t →
+        (q : Property) → property d ≡ Some q → (t : Bool) → is_writable q ≡ t →
         ((p : Property) × Writable d p) ⊎ ((p : Property) → Writable d p → ⊥)
     letters q e true t = let (is, tagged) = (property_is_its_parts d q).0 e in inl (q, (is, tagged, (all_true is_letter_or_digit q.tag).0 t))
     letters q e false t = inr (λ p (is, tagged, good).
-        let same : q ≡ p = some-injective q p (sym e ∙ (property_is_its_parts d p).1 (is, tagged)) in
+        let same : q ≡ p = same_Some q p (sym e ∙ (property_is_its_parts d p).1 (is, tagged)) in
         true≢false (sym ((all_true is_letter_or_digit p.tag).1 good) ∙ rw same at t))
 
     go : (o : Option Property) → property d ≡ o → ((p : Property) × Writable d p) ⊎ ((p : Property) → Writable d p → ⊥)
-    go none e = inr (λ p (is, tagged, good). none-ne-some p (sym e ∙ (property_is_its_parts d p).1 (is, tagged)))
-    go (some q) e = letters q e (is_writable q) refl
+    go None e = inr (λ p (is, tagged, good). none-some p (sym e ∙ (property_is_its_parts d p).1 (is, tagged)))
+    go (Some q) e = letters q e (is_writable q) refl
 
 module _ (d buffer : List ℕ) (octets : Octets d) where
   abbrev O : Output
@@ -81,10 +81,10 @@ module _ (d buffer : List ℕ) (octets : Octets d) where
   placed : (p : Property) → Good p → length (line p) ≤ length buffer → O ≡ at_front (line p) buffer
   placed p (short, w) room = line_placed d buffer p short w room
 
-  tight : (p : Property) → Good p → length buffer < length (line p) → O.answer ≡ Refused (NoRoom (length (line p)))
+  tight : (p : Property) → Good p → length buffer < length (line p) → O.answer ≡ Err (NoRoom (length (line p)))
   tight p (short, w) less = ((write_refusals d buffer).2 _).1 (short, (p, w, refl, less))
 
-  way : (O.answer ≡ Refused LineTooLong) ⊎ ((O.answer ≡ Refused BadData) ⊎ ((p : Property) × Good p))
+  way : (O.answer ≡ Err LineTooLong) ⊎ ((O.answer ≡ Err BadData) ⊎ ((p : Property) × Good p))
   way = ⊎_elim
       (λ short. inr (⊎_elim (λ (p, w). inr (p, (short, w))) (λ h. inl ((write_refusals d buffer).1.1 (short, h))) (writable d)))
       (λ long. inl ((write_refusals d buffer).0.1 long))

@@ -4,7 +4,7 @@
 -- theirs in SessionDoor.antt of spec_session_words.
 --
 -- Where the terms of the statements are defined, in specs/ of the crate named:
---   Row-1 to Row-8, Row-12, Row-15   the rows of the table of refusals: Theorems.antt of spec_request, spec_issuer, spec_record, spec_rule,
+--   Row1 to Row8, Row12, Row15   the rows of the table of refusals: Theorems.antt of spec_request, spec_issuer, spec_record, spec_rule,
 --                                    spec_applicant
 --   Applicant                        who asks, the account text and the method text: Applicant.antt of spec_applicant
 --   order                            the order of checks, as refusal numbers: Order.antt of spec_refusal

@@ -1,9 +1,8 @@
 -- Equations that restate a definition, so that it can't change unnoticed. Each is proved under its name in proofs/.
-use Rattle.std.specs.Prelude.{ℕ, ◌≡◌, [], ◌∷◌}
+use Rattle.std.specs.Prelude.{ℕ, ◌≡◌, [], ◌∷◌, Ok, Err}
 use Rattle.spec_refusal.specs.Refusal.{number, place}
 use Rattle.spec_answers.specs.Answers.{value_of}
 use Rattle.spec_refusal.specs.declared.Refusal.{Refusal}
-use Rattle.spec_line.specs.declared.LineAnswer.TheVariants.{Length, Refused as LineRefused}
 use Rattle.spec_answers.specs.LineAnswers.{line_code}
 
 -- The values of an answer in their order, and 0 for those that it doesn't have.
@@ -23,5 +22,5 @@ ValuesInOrder =
 -- Number 0 with the length of the output, or a refusal with its number and place.
 abbrev pub LineCodes : Type 0
 LineCodes =
-    ((n : ℕ) → line_code (Length n) ≡ record { number = 0; values = n ∷ [] })
-    × ((r : Refusal) → line_code (LineRefused r) ≡ record { number = number r; values = place r ∷ [] })
+    ((n : ℕ) → line_code (Ok n) ≡ record { number = 0; values = n ∷ [] })
+    × ((r : Refusal) → line_code (Err r) ≡ record { number = number r; values = place r ∷ [] })

@@ -1,9 +1,7 @@
 -- What the definitions of this crate mean. Each statement is proved under its name in proofs/.
-use Rattle.std.specs.Prelude.{ℕ, ◌≡◌, List}
+use Rattle.std.specs.Prelude.{ℕ, ◌≡◌, List, Ok, Err}
 use Rattle.spec_refusal.specs.declared.Refusal.TheVariants.{RequestTooLong, BadName, TooManyNames, BadIssuer, BookTooLong, BadRecord, TooManyRecords, NoRoom, BadLine, LineTooLong, BadData, AliasConflict}
-use Rattle.spec_refusal.specs.Refusal.{number}
 use Rattle.spec_packed.specs.Packed.{number_in, field_a, field_b, field_c}
-use Rattle.spec_line.specs.declared.LineAnswer.TheVariants.{Length, Refused as LineRefused}
 use Rattle.spec_line.specs.Calls.{write_line, parse_line}
 use Rattle.spec_octets.specs.Octets.{Octets}
 use Rattle.spec_applicant.specs.Applicant.{Applicant}
@@ -62,11 +60,11 @@ PackedAnswers =
     × (packed_issuers (ListRefused (NoRoom 32)) ≡ 8200)
     × (packed_issuers Anyone ≡ 30)
     × (packed_issuers (Listed 2 32) ≡ 8589942815)
-    × (packed_line (Length 36) ≡ 9216)
-    × (packed_line (LineRefused (NoRoom 32)) ≡ 8200)
-    × (packed_line (LineRefused BadLine) ≡ 9)
-    × (packed_line (LineRefused LineTooLong) ≡ 10)
-    × (packed_line (LineRefused BadData) ≡ 11)
+    × (packed_line (Ok 36) ≡ 9216)
+    × (packed_line (Err (NoRoom 32)) ≡ 8200)
+    × (packed_line (Err BadLine) ≡ 9)
+    × (packed_line (Err LineTooLong) ≡ 10)
+    × (packed_line (Err BadData) ≡ 11)
 
 -- An answer is packed as the word x. Taken apart again, x gives the number n and the fields a, b and c.
 abbrev pub PackedWith : ℕ → ℕ → ℕ → ℕ → ℕ → ℕ → Type 0
@@ -90,5 +88,5 @@ LargestAnswers =
     × PackedAs (packed_judgement (Refused (AliasConflict (record { 0 = 1023 })))) 261900 12 1023 0
     × PackedAs (packed_issuers (Listed 1024 49152)) 4398059094047 31 49152 1024
     × PackedAs (packed_issuers (ListRefused (NoRoom 49152))) 12582920 8 49152 0
-    × PackedAs (packed_line (Length 16384)) 4194304 0 16384 0
-    × PackedAs (packed_line (LineRefused (NoRoom 16384))) 4194312 8 16384 0
+    × PackedAs (packed_line (Ok 16384)) 4194304 0 16384 0
+    × PackedAs (packed_line (Err (NoRoom 16384))) 4194312 8 16384 0

@@ -1,7 +1,6 @@
 -- Who asks for the certificate: the account at the CA (RFC 8657 section 3) and the validation method (section 4), as texts.
-use Rattle.std.specs.Prelude.{ℕ, Bool, cond, not, ◌&&◌, List, eqb, length}
+use Rattle.std.specs.Prelude.{ℕ, Bool, cond, not, ◌&&◌, List, eqb, length, Option, None, Some}
 use Prim.Native.Char.{code}
-use Rattle.std.proofs.Math.Option.{Option, none, some}
 use Rattle.spec_limits.specs.Limits.{max_account_octets}
 use Rattle.spec_refusal.specs.declared.Refusal.{Refusal}
 use Rattle.spec_refusal.specs.declared.Refusal.TheVariants.{BadAccountOrMethod}
@@ -25,4 +24,4 @@ is_applicant who = is_account who.account && is_method who.method
 
 -- Row 15 of the table of refusals.
 unfoldable pub applicant_refusal : Applicant → Option Refusal
-applicant_refusal who = cond (is_applicant who) none (some BadAccountOrMethod)
+applicant_refusal who = cond (is_applicant who) None (Some BadAccountOrMethod)

@@ -1,4 +1,5 @@
 pub mod Applicant
+pub mod Applicants
 pub mod Admission
 pub mod Meaning
 pub mod ApplicantEdges

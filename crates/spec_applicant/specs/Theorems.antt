@@ -1,6 +1,5 @@
 -- What the definitions of this crate mean. Each statement is proved under its name in proofs/.
-use Rattle.std.specs.Prelude.{◌≡◌, ◌↔◌, ◌⊎◌, true, List, map}
-use Rattle.std.proofs.Math.Option.{none, some}
+use Rattle.std.specs.Prelude.{◌≡◌, ◌↔◌, ◌⊎◌, true, List, map, None, Some}
 use Rattle.spec_refusal.specs.declared.Refusal.{Refusal}
 use Rattle.spec_refusal.specs.declared.Refusal.TheVariants.{BadAccountOrMethod}
 use Rattle.spec_octets.specs.Lists.{Selects}
@@ -25,8 +24,8 @@ ApplicantRow who r = (r ≡ BadAccountOrMethod) × Row15 who
 
 abbrev pub ApplicantRefusals : Type 0
 ApplicantRefusals =
-    (who : Applicant) → ((applicant_refusal who ≡ some BadAccountOrMethod) ↔ Row15 who) × ((applicant_refusal who ≡ none) ↔ GoodApplicant who)
-    × ((r : Refusal) → applicant_refusal who ≡ some r → r ≡ BadAccountOrMethod)
+    (who : Applicant) → ((applicant_refusal who ≡ Some BadAccountOrMethod) ↔ Row15 who) × ((applicant_refusal who ≡ None) ↔ GoodApplicant who)
+    × ((r : Refusal) → applicant_refusal who ≡ Some r → r ≡ BadAccountOrMethod)
 
 -- Parameters admit an applicant exactly when the account and the method keep to both limits.
 abbrev pub AdmitsExactly : Type 0

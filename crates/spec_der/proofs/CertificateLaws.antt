@@ -1,11 +1,12 @@
 -- Octets are read as a certificate exactly when they are that certificate written.
+use Rattle.std.proofs.lemmas.Option.{none-some, same_Some}
+use Rattle.std.specs.Prelude.{Option, None, Some}
 use Prim.Native.Nat.{ℕ, ◌+◌, ◌≤◌, ◌<◌, ◌^◌}
 use native.Mathlib.Omega.{arith}
 use mathlib.Core.Path.{◌≡◌, refl, sym, ap, ◌∙◌}
 use mathlib.Core.Logic.{◌↔◌, ◌⊎◌, inl, inr}
 use mathlib.Core.Bool.{Bool, true, false, cond}
 use mathlib.Core.List.{List, [], ◌∷◌, ◌++◌, append_assoc, append-nil, cons≢nil}
-use mathlib.Core.Option.{Option, none, some, none-ne-some, some-injective}
 use lib.Dec.{leb}
 use lib.ListN.{length, length-append}
 use borrow.Author.Tests.{leb-true, le-leb}
@@ -21,25 +22,25 @@ use Rattle.spec_der.proofs.ElementLaws.{GoodTagged, element_form, tagged_form, c
 use Rattle.spec_der.proofs.TbsLaws.{GoodVersion, TbsGood, tbs_is_its_form}
 
 module _ {A : Type 0} where
-  pub filling_some : (o : Option (A × List ℕ)) (a : A) → (filling o ≡ some a) ↔ (o ≡ some (a, []))
-  filling_some none a = (λ e. absurd (none-ne-some _ e), λ e. absurd (none-ne-some _ e))
-  filling_some (some (b, [])) a = (λ e. (pure_some b a [] []).1 (some-injective _ _ e, refl), λ e. ap some ((pure_some b a [] []).0 e).0)
-  filling_some (some (b, x ∷ s)) a = (λ e. absurd (none-ne-some _ e), λ e. absurd (cons≢nil ((pure_some b a (x ∷ s) []).0 e).1))
+  pub filling_some : (o : Option (A × List ℕ)) (a : A) → (filling o ≡ Some a) ↔ (o ≡ Some (a, []))
+  filling_some None a = (λ e. absurd (none-some _ e), λ e. absurd (none-some _ e))
+  filling_some (Some (b, [])) a = (λ e. (pure_some b a [] []).1 (same_Some _ _ e, refl), λ e. ap Some ((pure_some b a [] []).0 e).0)
+  filling_some (Some (b, x ∷ s)) a = (λ e. absurd (none-some _ e), λ e. absurd (cons≢nil ((pure_some b a (x ∷ s) []).0 e).1))
 
-  as_read_lem : (o : Option A) (a : A) (mid rest : List ℕ) → (as_read o mid ≡ some (a, rest)) ↔ ((o ≡ some a) × (mid ≡ rest))
-  as_read_lem none a mid rest = (λ e. absurd (none-ne-some _ e), λ k. absurd (none-ne-some _ k.0))
-  as_read_lem (some b) a mid rest = (
-    λ e. let (p, q) = (pure_some b a mid rest).0 e in (ap some p, q),
-    λ k. (pure_some b a mid rest).1 (some-injective _ _ k.0, k.1),
+  as_read_lem : (o : Option A) (a : A) (mid rest : List ℕ) → (as_read o mid ≡ Some (a, rest)) ↔ ((o ≡ Some a) × (mid ≡ rest))
+  as_read_lem None a mid rest = (λ e. absurd (none-some _ e), λ k. absurd (none-some _ k.0))
+  as_read_lem (Some b) a mid rest = (
+    λ e. let (p, q) = (pure_some b a mid rest).0 e in (ap Some p, q),
+    λ k. (pure_some b a mid rest).1 (same_Some _ _ k.0, k.1),
   )
 
 -- what fills the contents of a SEQUENCE
 module _
     {A : Type 0} (read : Reader A) (wire : A → List ℕ) (Good : A → Type 0)
-    (law : (d : List ℕ) (a : A) → (read d ≡ some (a, [])) ↔ ((d ≡ wire a) × Good a)) where
+    (law : (d : List ℕ) (a : A) → (read d ≡ Some (a, [])) ↔ ((d ≡ wire a) × Good a)) where
   sequence_of_lem :
       (s : List ℕ) (a : A) (rest : List ℕ) →
-      (sequence_of read s ≡ some (a, rest)) ↔ ((s ≡ wire_sequence (wire a) ++ rest) × (Good a × (length (wire a) < 2 ^ 16)))
+      (sequence_of read s ≡ Some (a, rest)) ↔ ((s ≡ wire_sequence (wire a) ++ rest) × (Good a × (length (wire a) < 2 ^ 16)))
   sequence_of_lem s a rest = (found, λ h. stands h.0 h.1.0 h.1.1)
     where
       opened :
@@ -52,13 +53,13 @@ module _
           both : e.tag ≡ sequence → e.contents ≡ wire a → e ≡ record { tag = sequence; contents = wire a }
           both p q = rw (← p, ← q) refl
 
-      found : sequence_of read s ≡ some (a, rest) → (s ≡ wire_sequence (wire a) ++ rest) × (Good a × (length (wire a) < 2 ^ 16))
+      found : sequence_of read s ≡ Some (a, rest) → (s ≡ wire_sequence (wire a) ++ rest) × (Good a × (length (wire a) < 2 ^ 16))
       found h =
           next_read (tagged_form sequence) _ h (λ e mid front good k.
           let (f, r) = (as_read_lem (filling (read e.contents)) a mid rest).0 k in
           opened e mid front good ((law e.contents a).0 ((filling_some (read e.contents) a).0 f)) r)
 
-      stands : s ≡ wire_sequence (wire a) ++ rest → Good a → length (wire a) < 2 ^ 16 → sequence_of read s ≡ some (a, rest)
+      stands : s ≡ wire_sequence (wire a) ++ rest → Good a → length (wire a) < 2 ^ 16 → sequence_of read s ≡ Some (a, rest)
       stands front good small =
           next_stand (tagged_form sequence) _ (record { tag = sequence; contents = wire a }) rest front ((λ z. omega arith, small), refl)
           ((as_read_lem (filling (read (wire a))) a rest rest).1 ((filling_some (read (wire a)) a).1 ((law (wire a) a).1 (refl, good)), refl))
@@ -71,7 +72,7 @@ module _
     reads = sequence_of_lem;
   }
 
-pub tbs_fills : (d : List ℕ) (t : TbsCertificate) → (tbs_certificate d ≡ some (t, [])) ↔ ((d ≡ wire_tbs t) × TbsGood t)
+pub tbs_fills : (d : List ℕ) (t : TbsCertificate) → (tbs_certificate d ≡ Some (t, [])) ↔ ((d ≡ wire_tbs t) × TbsGood t)
 tbs_fills d t = (λ h. let k = (tbs_is_its_form d t []).0 h in (k.0, k.2), λ h. (tbs_is_its_form d t []).1 (h.0, refl, h.1))
 
 abbrev tbs_form : Form TbsCertificate
@@ -88,7 +89,7 @@ ContentsGood c =
     (TbsGood c.tbs_certificate × (length (wire_tbs c.tbs_certificate) < 2 ^ 16)) × GoodElement c.signature_algorithm
     × GoodElement c.signature_value
 
-pub contents_fill : (d : List ℕ) (c : Certificate) → (certificate_contents d ≡ some (c, [])) ↔ ((d ≡ wire_contents c) × ContentsGood c)
+pub contents_fill : (d : List ℕ) (c : Certificate) → (certificate_contents d ≡ Some (c, [])) ↔ ((d ≡ wire_contents c) × ContentsGood c)
 unfolding certificate_contents
 contents_fill d c = (read, λ h. stand h.0 h.1)
   where
@@ -98,14 +99,14 @@ contents_fill d c = (read, λ h. stand h.0 h.1)
     last a b e made e₁ e₂ e₃ good same =
         rw (← same.0) (e₁ ∙ rw (e₂, e₃, same.1, append-nil) (sym (contents_parts made)), good)
 
-    read : certificate_contents d ≡ some (c, []) → (d ≡ wire_contents c) × ContentsGood c
+    read : certificate_contents d ≡ Some (c, []) → (d ≡ wire_contents c) × ContentsGood c
     read h =
         next_read tbs_form _ h (λ tbs s₁ e₁ g₁ r₁.
         next_read element_form _ r₁ (λ algorithm s₂ e₂ g₂ r₂.
         next_read element_form _ r₂ (λ value s₃ e₃ g₃ r₃.
         last s₁ s₂ s₃ _ e₁ e₂ e₃ (g₁, g₂, g₃) ((pure_some _ c s₃ []).0 r₃))))
 
-    stand : d ≡ wire_contents c → ContentsGood c → certificate_contents d ≡ some (c, [])
+    stand : d ≡ wire_contents c → ContentsGood c → certificate_contents d ≡ Some (c, [])
     stand front good =
         let (g₁, g₂, g₃) = good in
         next_stand tbs_form _ c.tbs_certificate (wire_element c.signature_algorithm ++ wire_element c.signature_value) (front ∙ contents_parts c) g₁
@@ -142,7 +143,7 @@ module _ (t : TbsCertificate) where
       long = simp length-append
 
       version :
-          (w : Option Element) → (w ≡ none) ⊎ ((v : Element) × (w ≡ some v) × (v.tag ≡ 160)) → length (wire_version w) < 2 ^ 16 → GoodVersion w
+          (w : Option Element) → (w ≡ None) ⊎ ((v : Element) × (w ≡ Some v) × (v.tag ≡ 160)) → length (wire_version w) < 2 ^ 16 → GoodVersion w
       version w (inl e) h = inl e
       version w (inr k) h =
           let l = rw k.1 at h in
@@ -151,7 +152,7 @@ module _ (t : TbsCertificate) where
   tbs_layout : TbsGood t → TbsLayout t
   tbs_layout h = let (v, a, b, c, d, e, k, o) = h in (version v, a.1, b.1, c.1, d.1, e.1, k.1, All-imp (λ x g. g.0) o)
     where
-      version : GoodVersion t.version → (t.version ≡ none) ⊎ ((v : Element) × (t.version ≡ some v) × (v.tag ≡ 160))
+      version : GoodVersion t.version → (t.version ≡ None) ⊎ ((v : Element) × (t.version ≡ Some v) × (v.tag ≡ 160))
       version (inl e) = inl e
       version (inr k) = inr (k.0, k.1, k.2.1)
 
@@ -163,8 +164,8 @@ pub certificate_is_its_layout : CertificateIsItsLayout
 unfolding certificate max_certificate_octets
 certificate_is_its_layout s c = (go (leb (length s) max_certificate_octets) refl, λ h. stand h.0 h.1 h.2)
   where
-    go : (t : Bool) → leb (length s) max_certificate_octets ≡ t → cond t (filling (sequence_of certificate_contents s)) none ≡ some c → LaidOut s c
-    go false e h = absurd (none-ne-some _ h)
+    go : (t : Bool) → leb (length s) max_certificate_octets ≡ t → cond t (filling (sequence_of certificate_contents s)) None ≡ Some c → LaidOut s c
+    go false e h = absurd (none-some _ h)
     go true e h =
         let (front, good) = (sequence_of_lem certificate_contents wire_contents ContentsGood contents_fill s c []).0 ((filling_some _ c).0 h) in
         let (tbs, a, v) = good.0 in
@@ -172,7 +173,7 @@ certificate_is_its_layout s c = (go (leb (length s) max_certificate_octets) refl
 
     stand :
         s ≡ wire_certificate c → Layout c → length s ≤ max_certificate_octets →
-        cond (leb (length s) max_certificate_octets) (filling (sequence_of certificate_contents s)) none ≡ some c
+        cond (leb (length s) max_certificate_octets) (filling (sequence_of certificate_contents s)) None ≡ Some c
     stand front layout few =
         let whole : length (wire_certificate c) ≤ 16384 = rw (← front) few in
         let inner = sequence_fits (wire_contents c) in

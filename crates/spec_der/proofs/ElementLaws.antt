@@ -1,11 +1,12 @@
 -- An element is read exactly where it is written; so are an element with a given tag, and elements one after the other.
+use Rattle.std.proofs.lemmas.Option.{none-some}
+use Rattle.std.specs.Prelude.{Some}
 use Prim.Native.Nat.{ℕ, ◌%◌, ◌<◌, ◌^◌}
 use native.Mathlib.Omega.{arith}
 use mathlib.Core.Path.{◌≡◌, refl, sym, ap, ◌∙◌}
 use mathlib.Core.Logic.{◌↔◌, ◌≢◌}
 use mathlib.Core.Bool.{true}
 use mathlib.Core.List.{List, [], ◌∷◌, ◌++◌, append_assoc, cons≢nil}
-use mathlib.Core.Option.{Option, some, none-ne-some}
 use lib.Dec.{eqb}
 use lib.ListN.{length, length-append}
 use borrow.Author.Tests.{eqb-true, eqb-false, eq-eqb, ne_eqb, not-true}
@@ -49,14 +50,14 @@ element_is_its_form s e rest = (read, λ h. stand h.0 h.1)
     found t n c s₁ s₂ s₃ e₁ e₂ e₃ small long h =
         rw (← h.1, ← h.2, element_parts (record { tag = t; contents = c }) s₃, long, ← e₃, ← e₂) (e₁, ((short_tag t).0 h.0, small))
 
-    read : element s ≡ some (e, rest) → Stands
+    read : element s ≡ Some (e, rest) → Stands
     read h =
         next_read octet_form _ h (λ t s₁ e₁ g₁ h₁.
         next_read length_form _ h₁ (λ n s₂ e₂ g₂ h₂.
         next_read (octets_form n) _ h₂ (λ c s₃ e₃ g₃ h₃.
         found t n c s₁ s₂ s₃ e₁ e₂ e₃ g₂ g₃ ((given_some _ _ e s₃ rest).0 h₃))))
 
-    stand : s ≡ wire_element e ++ rest → GoodElement e → element s ≡ some (e, rest)
+    stand : s ≡ wire_element e ++ rest → GoodElement e → element s ≡ Some (e, rest)
     stand front good =
         next_stand octet_form _ e.tag (wire_length (length e.contents) ++ (e.contents ++ rest)) (front ∙ element_parts e rest) tt
         (next_stand length_form _ (length e.contents) (e.contents ++ rest) refl good.1
@@ -71,7 +72,7 @@ abbrev pub GoodTagged : ℕ → Element → Type 0
 GoodTagged t e = GoodElement e × (e.tag ≡ t)
 
 pub tagged_is_its_form :
-    (t : ℕ) (s : List ℕ) (e : Element) (rest : List ℕ) → (tagged t s ≡ some (e, rest)) ↔ ((s ≡ wire_element e ++ rest) × GoodTagged t e)
+    (t : ℕ) (s : List ℕ) (e : Element) (rest : List ℕ) → (tagged t s ≡ Some (e, rest)) ↔ ((s ≡ wire_element e ++ rest) × GoodTagged t e)
 unfolding tagged
 tagged_is_its_form t s e rest = (
   λ h. next_read element_form _ h (λ d mid front good k. found d mid front good ((given_some (eqb d.tag t) d e mid rest).0 k)),
@@ -87,13 +88,13 @@ abbrev pub tagged_form : ℕ → Form Element
 tagged_form t = record { read = tagged t; wire = wire_element; Good = GoodTagged t; reads = tagged_is_its_form t }
 
 -- one after the other
-pub all_of_lem : (i : Items Element) (es : List Element) (rest : List ℕ) → (all_of i ≡ some (es, rest)) ↔ ((i ≡ whole es) × (rest ≡ []))
+pub all_of_lem : (i : Items Element) (es : List Element) (rest : List ℕ) → (all_of i ≡ Some (es, rest)) ↔ ((i ≡ whole es) × (rest ≡ []))
 all_of_lem (whole xs) es rest = (
   λ h. let (p, q) = (pure_some xs es [] rest).0 h in (ap whole p, sym q),
   λ h. rw h.1 (ap all_of h.0),
 )
-all_of_lem (broken k) es rest = (λ h. absurd (none-ne-some _ h), λ h. absurd (none-ne-some _ (ap all_of h.0)))
-all_of_lem over es rest = (λ h. absurd (none-ne-some _ h), λ h. absurd (none-ne-some _ (ap all_of h.0)))
+all_of_lem (broken k) es rest = (λ h. absurd (none-some _ h), λ h. absurd (none-some _ (ap all_of h.0)))
+all_of_lem over es rest = (λ h. absurd (none-some _ h), λ h. absurd (none-some _ (ap all_of h.0)))
 
 pub elements_end_to_end : ElementsEndToEnd
 unfolding elements

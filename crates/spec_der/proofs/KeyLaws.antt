@@ -1,9 +1,9 @@
 -- The key part is the key of the certificate, where it stands, and is empty if the octets are no certificate.
+use Rattle.std.specs.Prelude.{Option, None, Some}
 use Prim.Native.Nat.{ℕ}
 use mathlib.Core.Path.{◌≡◌, refl, sym, ap, ◌∙◌}
 use mathlib.Core.Bool.{true, false≢true}
 use mathlib.Core.List.{List, [], ◌++◌, append_assoc}
-use mathlib.Core.Option.{Option, none, some}
 use Rattle.spec_der.specs.Elements.{wire_element}
 use Rattle.spec_der.specs.Certificate.{TbsCertificate, Certificate, wire_sequence, wire_elements, wire_tbs, wire_contents, wire_certificate, certificate}
 use Rattle.spec_der.specs.Key.{is_read, is_certificate, key_in, key_part, header, before_in_tbs, before_key, after_key}
@@ -44,16 +44,16 @@ key_part_tells s = (
   λ c h. (part c h, h.0 ∙ key_stands c ∙ ap (λ x. before_key c ++ x ++ after_key c) (sym (part c h))),
 )
   where
-    read : (c : Certificate) → LaidOut s c → certificate s ≡ some c
+    read : (c : Certificate) → LaidOut s c → certificate s ≡ Some c
     read c h = (certificate_is_its_layout s c).1 h
 
     part : (c : Certificate) → LaidOut s c → key_in (certificate s) ≡ wire_element c.tbs_certificate.subject_public_key_info
     part c h = ap key_in (read c h)
 
     nothing : (o : Option Certificate) → certificate s ≡ o → ((c : Certificate) → LaidOut s c → ⊥) → key_in o ≡ []
-    nothing none e bad = refl
-    nothing (some c) e bad = absurd (bad c ((certificate_is_its_layout s c).0 e))
+    nothing None e bad = refl
+    nothing (Some c) e bad = absurd (bad c ((certificate_is_its_layout s c).0 e))
 
     something : (o : Option Certificate) → certificate s ≡ o → is_read o ≡ true → (c : Certificate) × LaidOut s c
-    something none e h = absurd (false≢true h)
-    something (some c) e h = (c, (certificate_is_its_layout s c).0 e)
+    something None e h = absurd (false≢true h)
+    something (Some c) e h = (c, (certificate_is_its_layout s c).0 e)

@@ -1,10 +1,10 @@
 -- The length octets of an element: they are read exactly where they are written, and they are the shortest.
+use Rattle.std.specs.Prelude.{Some}
 use Prim.Native.Nat.{ℕ, ◌≤◌, ◌<◌, ◌^◌}
 use native.Mathlib.Omega.{arith}
 use mathlib.Core.Path.{◌≡◌, refl, sym, ◌∙◌}
 use mathlib.Core.Bool.{Bool, true, false}
 use mathlib.Core.List.{List, [], ◌∷◌, ◌++◌}
-use mathlib.Core.Option.{some}
 use lib.Dec.{ltb}
 use lib.ListN.{length}
 use borrow.Author.Tests.{ltb-true, ltb-false, lt-ltb, le-ltb}
@@ -47,7 +47,7 @@ small n x more e v = by_length n (λ h w. omega arith) (λ h k w. omega arith) (
 module _ (s : List ℕ) (n : ℕ) (rest : List ℕ) where
   pub length_stands :
       (x : ℕ) (more : List ℕ) → length more ≡ more_length_octets x → x ∷ more ≡ wire_length n → length_value x more ≡ n → s ≡ (x ∷ more) ++ rest →
-      element_length s ≡ some (n, rest)
+      element_length s ≡ Some (n, rest)
   unfolding element_length
   length_stands x more l e v front =
       next_stand octet_form _ x (more ++ rest) front tt
@@ -66,13 +66,13 @@ length_is_its_form s n rest = (read, λ h. stand h.0 h.1)
         let e : x ∷ more ≡ wire_length n = (same_equal (x ∷ more) (wire_length (length_value x more))).0 h.0 ∙ rw h.1 in
         (front ∙ rw (← e, h.2), small n x more e h.1)
 
-    read : element_length s ≡ some (n, rest) → (s ≡ wire_length n ++ rest) × (n < 2 ^ 16)
+    read : element_length s ≡ Some (n, rest) → (s ≡ wire_length n ++ rest) × (n < 2 ^ 16)
     read h =
         next_read octet_form _ h (λ x s₁ e₁ g₁ h₁.
         next_read (octets_form (more_length_octets x)) _ h₁ (λ more s₂ e₂ g₂ h₂.
         found x more s₂ (rw (← e₂) e₁) ((given_some _ _ n s₂ rest).0 h₂)))
 
-    stand : s ≡ wire_length n ++ rest → n < 2 ^ 16 → element_length s ≡ some (n, rest)
+    stand : s ≡ wire_length n ++ rest → n < 2 ^ 16 → element_length s ≡ Some (n, rest)
     stand front h =
         by_length n
         (λ k w. length_stands s n rest n [] (rw (lt-ltb n 128 k)) (sym w) (rw (lt-ltb n 128 k)) (rw w at front))

@@ -1,6 +1,5 @@
 -- The layout of a certificate (RFC 5280 section 4.1), as far down as its public key. Of the elements beside that way only tag and length are read.
-use Rattle.std.specs.Prelude.{ℕ, cond, List, [], ◌∷◌, ◌++◌, map, eqb, leb, length}
-use Rattle.std.proofs.Math.Option.{Option, none, some}
+use Rattle.std.specs.Prelude.{ℕ, cond, List, [], ◌∷◌, ◌++◌, map, eqb, leb, length, Option, None, Some}
 use Rattle.spec_octets.specs.Lists.{flatten}
 use Rattle.spec_octets.specs.Reader.{Reader, pure, ◌>>=◌}
 use Rattle.spec_der.specs.Elements.{Element, wire_element, element, tagged, elements}
@@ -38,8 +37,8 @@ abbrev pub wire_sequence : List ℕ → List ℕ
 wire_sequence d = wire_element (record { tag = sequence; contents = d })
 
 abbrev pub wire_version : Option Element → List ℕ
-wire_version none = []
-wire_version (some e) = wire_element e
+wire_version None = []
+wire_version (Some e) = wire_element e
 
 abbrev pub wire_elements : List Element → List ℕ
 wire_elements es = flatten (map wire_element es)
@@ -57,8 +56,8 @@ wire_certificate c = wire_sequence (wire_contents c)
 
 -- The version, if the octets begin with an element that has its tag. Otherwise nothing is read.
 abbrev pub as_version : List ℕ → Option (Element × List ℕ) → Option (Option Element × List ℕ)
-as_version s none = some (none, s)
-as_version s (some r) = cond (eqb r.0.tag version_tag) (some (some r.0, r.1)) (some (none, s))
+as_version s None = Some (None, s)
+as_version s (Some r) = cond (eqb r.0.tag version_tag) (Some (Some r.0, r.1)) (Some (None, s))
 
 unfoldable pub version : Reader (Option Element)
 version s = as_version s (element s)
@@ -86,14 +85,14 @@ tbs_certificate = do
 
 -- The value that was read, if nothing is left after it.
 abbrev pub filling : {A : Type 0} → Option (A × List ℕ) → Option A
-filling none = none
-filling (some (a, [])) = some a
-filling (some (a, x ∷ s)) = none
+filling None = None
+filling (Some (a, [])) = Some a
+filling (Some (a, x ∷ s)) = None
 
 -- The contents of a SEQUENCE, all of them.
 abbrev pub as_read : {A : Type 0} → Option A → Reader A
-as_read none s = none
-as_read (some a) s = some (a, s)
+as_read None s = None
+as_read (Some a) s = Some (a, s)
 
 abbrev pub sequence_of : {A : Type 0} → Reader A → Reader A
 sequence_of read = do
@@ -109,4 +108,4 @@ certificate_contents = do
 
 -- The certificate in s; none if s isn't laid out as one or has too many octets.
 unfoldable pub certificate : List ℕ → Option Certificate
-certificate s = cond (leb (length s) max_certificate_octets) (filling (sequence_of certificate_contents s)) none
+certificate s = cond (leb (length s) max_certificate_octets) (filling (sequence_of certificate_contents s)) None

@@ -1,44 +1,43 @@
 -- Lengths, elements and certificates as octets, each with what is read, worked out by hand.
-use Rattle.std.specs.Prelude.{ℕ, ◌+◌, ◌/◌, ◌%◌, List, [], ◌∷◌, ◌++◌, length, replicate}
-use Rattle.std.proofs.Math.Option.{Option, none, some}
+use Rattle.std.specs.Prelude.{ℕ, ◌/◌, ◌%◌, List, [], ◌∷◌, ◌++◌, length, replicate, Option, None, Some}
 use Rattle.spec_der.specs.Elements.{Element}
 
 -- Length octets, with the length and what is left; none if they are no length.
 abbrev pub length_edges : List (List ℕ × Option (ℕ × List ℕ))
 length_edges =
     -- One octet: 0 to 127. What follows is left.
-    (0 ∷ [], some (0, []))
-    ∷ (127 ∷ 128 ∷ [], some (127, 128 ∷ []))
+    (0 ∷ [], Some (0, []))
+    ∷ (127 ∷ 128 ∷ [], Some (127, 128 ∷ []))
     -- Two octets: 128 to 255. 127 and 0 have a shorter form.
-    ∷ (129 ∷ 128 ∷ [], some (128, []))
-    ∷ (129 ∷ 255 ∷ 9 ∷ [], some (255, 9 ∷ []))
-    ∷ (129 ∷ 127 ∷ [], none)
-    ∷ (129 ∷ 0 ∷ [], none)
+    ∷ (129 ∷ 128 ∷ [], Some (128, []))
+    ∷ (129 ∷ 255 ∷ 9 ∷ [], Some (255, 9 ∷ []))
+    ∷ (129 ∷ 127 ∷ [], None)
+    ∷ (129 ∷ 0 ∷ [], None)
     -- Three octets: 256 to 65,535, high octet first. 128 and 255 have a shorter form.
-    ∷ (130 ∷ 1 ∷ 0 ∷ [], some (256, []))
-    ∷ (130 ∷ 64 ∷ 3 ∷ 5 ∷ [], some (16387, 5 ∷ []))
-    ∷ (130 ∷ 255 ∷ 255 ∷ [], some (65535, []))
-    ∷ (130 ∷ 0 ∷ 128 ∷ [], none)
-    ∷ (130 ∷ 0 ∷ 255 ∷ [], none)
-    ∷ (130 ∷ 0 ∷ 0 ∷ [], none)
+    ∷ (130 ∷ 1 ∷ 0 ∷ [], Some (256, []))
+    ∷ (130 ∷ 64 ∷ 3 ∷ 5 ∷ [], Some (16387, 5 ∷ []))
+    ∷ (130 ∷ 255 ∷ 255 ∷ [], Some (65535, []))
+    ∷ (130 ∷ 0 ∷ 128 ∷ [], None)
+    ∷ (130 ∷ 0 ∷ 255 ∷ [], None)
+    ∷ (130 ∷ 0 ∷ 0 ∷ [], None)
     -- Four octets and more, with zeros first and without.
-    ∷ (131 ∷ 1 ∷ 0 ∷ 0 ∷ [], none)
-    ∷ (131 ∷ 0 ∷ 1 ∷ 0 ∷ [], none)
-    ∷ (132 ∷ 0 ∷ 0 ∷ 0 ∷ 5 ∷ [], none)
+    ∷ (131 ∷ 1 ∷ 0 ∷ 0 ∷ [], None)
+    ∷ (131 ∷ 0 ∷ 1 ∷ 0 ∷ [], None)
+    ∷ (132 ∷ 0 ∷ 0 ∷ 0 ∷ 5 ∷ [], None)
     -- 128 is the indefinite form. 255 is reserved.
-    ∷ (128 ∷ [], none)
-    ∷ (128 ∷ 0 ∷ 0 ∷ [], none)
-    ∷ (255 ∷ [], none)
-    ∷ (255 ∷ replicate 127 0, none)
+    ∷ (128 ∷ [], None)
+    ∷ (128 ∷ 0 ∷ 0 ∷ [], None)
+    ∷ (255 ∷ [], None)
+    ∷ (255 ∷ replicate 127 0, None)
     -- Lengths that are cut off.
-    ∷ ([], none)
-    ∷ (129 ∷ [], none)
-    ∷ (130 ∷ 1 ∷ [], none)
+    ∷ ([], None)
+    ∷ (129 ∷ [], None)
+    ∷ (130 ∷ 1 ∷ [], None)
     ∷ []
 
 -- Elements, with tag and contents and what is left; none if no element comes first.
 abbrev pub found : ℕ → List ℕ → List ℕ → Option (Element × List ℕ)
-found t d rest = some (record { tag = t; contents = d }, rest)
+found t d rest = Some (record { tag = t; contents = d }, rest)
 
 abbrev pub element_edges : List (List ℕ × Option (Element × List ℕ))
 element_edges =
@@ -48,19 +47,19 @@ element_edges =
     ∷ (4 ∷ 129 ∷ 128 ∷ replicate 128 7, found 4 (replicate 128 7) [])
     ∷ (4 ∷ 130 ∷ 1 ∷ 0 ∷ replicate 257 7, found 4 (replicate 256 7) (7 ∷ []))
     -- Contents that are cut off.
-    ∷ (4 ∷ 2 ∷ 7 ∷ [], none)
-    ∷ (4 ∷ 129 ∷ 128 ∷ replicate 127 7, none)
-    ∷ (4 ∷ [], none)
-    ∷ ([], none)
+    ∷ (4 ∷ 2 ∷ 7 ∷ [], None)
+    ∷ (4 ∷ 129 ∷ 128 ∷ replicate 127 7, None)
+    ∷ (4 ∷ [], None)
+    ∷ ([], None)
     -- Tags with the low five bits all set, and those next to them.
     ∷ (30 ∷ 0 ∷ [], found 30 [] [])
-    ∷ (31 ∷ 0 ∷ [], none)
+    ∷ (31 ∷ 0 ∷ [], None)
     ∷ (32 ∷ 0 ∷ [], found 32 [] [])
-    ∷ (63 ∷ 0 ∷ [], none)
-    ∷ (127 ∷ 0 ∷ [], none)
-    ∷ (191 ∷ 0 ∷ [], none)
+    ∷ (63 ∷ 0 ∷ [], None)
+    ∷ (127 ∷ 0 ∷ [], None)
+    ∷ (191 ∷ 0 ∷ [], None)
     ∷ (254 ∷ 0 ∷ [], found 254 [] [])
-    ∷ (255 ∷ 0 ∷ [], none)
+    ∷ (255 ∷ 0 ∷ [], None)
     ∷ []
 
 -- An element with a length below 128, with one of 128 to 255, and with one of 256 to 65,535.

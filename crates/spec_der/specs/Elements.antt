@@ -1,6 +1,5 @@
 -- DER elements (X.690 section 8.1): a tag octet, length octets, contents. A tag has one octet, and a length is definite and as short as can be.
-use Rattle.std.specs.Prelude.{ℕ, ◌-◌, ◌%◌, ◌<◌, ◌^◌, ◌≢◌, Bool, cond, not, List, [], ◌∷◌, ◌++◌, eqb, ltb, length}
-use Rattle.std.proofs.Math.Option.{Option, none, some}
+use Rattle.std.specs.Prelude.{ℕ, ◌-◌, ◌%◌, ◌<◌, ◌^◌, ◌≢◌, Bool, cond, not, List, [], ◌∷◌, ◌++◌, eqb, ltb, length, Option, None, Some}
 use Rattle.spec_octets.specs.Octets.{same}
 use Rattle.spec_octets.specs.Reader.{Reader, given, ◌>>=◌, octet, octets, value_from, in_octets}
 use Rattle.spec_octets.specs.Items.{Items, whole, broken, over, items}
@@ -50,9 +49,9 @@ tagged t = do
 
 -- All remaining octets, as elements one after the other.
 abbrev pub all_of : Items Element → Option (List Element × List ℕ)
-all_of (whole es) = some (es, [])
-all_of (broken k) = none
-all_of over = none
+all_of (whole es) = Some (es, [])
+all_of (broken k) = None
+all_of over = None
 
 unfoldable pub elements : Reader (List Element)
 elements s = all_of (items element (length s) s)

@@ -1,20 +1,19 @@
 -- The public key of a certificate: the whole subject_public_key_info element, with its tag and length octets.
-use Rattle.std.specs.Prelude.{ℕ, Bool, true, false, List, [], ◌∷◌, ◌++◌, length}
-use Rattle.std.proofs.Math.Option.{Option, none, some}
+use Rattle.std.specs.Prelude.{ℕ, Bool, true, false, List, [], ◌∷◌, ◌++◌, length, Option, None, Some}
 use Rattle.spec_der.specs.Elements.{wire_length, wire_element}
 use Rattle.spec_der.specs.Certificate.{sequence, TbsCertificate, Certificate, wire_version, wire_elements, wire_tbs, wire_contents, certificate}
 
 -- Whether s is laid out as a certificate.
 abbrev pub is_read : Option Certificate → Bool
-is_read none = false
-is_read (some c) = true
+is_read None = false
+is_read (Some c) = true
 
 unfoldable pub is_certificate : List ℕ → Bool
 is_certificate s = is_read (certificate s)
 
 abbrev pub key_in : Option Certificate → List ℕ
-key_in none = []
-key_in (some c) = wire_element c.tbs_certificate.subject_public_key_info
+key_in None = []
+key_in (Some c) = wire_element c.tbs_certificate.subject_public_key_info
 
 -- The octets of the key; empty if s isn't laid out as a certificate.
 unfoldable pub key_part : List ℕ → List ℕ

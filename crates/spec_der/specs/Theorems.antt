@@ -1,6 +1,5 @@
 -- What the definitions of this crate mean. Each statement is proved under its name in proofs/.
-use Rattle.std.specs.Prelude.{ℕ, ◌+◌, ◌%◌, ◌≤◌, ◌<◌, ◌^◌, ◌≡◌, ◌↔◌, ◌≢◌, ◌⊎◌, true, List, [], ◌∷◌, ◌++◌, map, length}
-use Rattle.std.proofs.Math.Option.{none, some}
+use Rattle.std.specs.Prelude.{ℕ, ◌+◌, ◌%◌, ◌≤◌, ◌<◌, ◌^◌, ◌≡◌, ◌↔◌, ◌≢◌, ◌⊎◌, true, List, [], ◌∷◌, ◌++◌, map, length, None, Some}
 use Rattle.spec_octets.specs.Lists.{All, flatten}
 use Rattle.spec_octets.specs.Octets.{Octets}
 use Rattle.spec_octets.specs.Reader.{value_from}
@@ -24,18 +23,18 @@ LengthShortest =
 -- A length is read exactly where it is written, up to 65,535.
 abbrev pub LengthIsItsForm : Type 0
 LengthIsItsForm =
-    (s : List ℕ) (n : ℕ) (rest : List ℕ) → (element_length s ≡ some (n, rest)) ↔ ((s ≡ wire_length n ++ rest) × (n < 2 ^ 16))
+    (s : List ℕ) (n : ℕ) (rest : List ℕ) → (element_length s ≡ Some (n, rest)) ↔ ((s ≡ wire_length n ++ rest) × (n < 2 ^ 16))
 
 -- An element is read exactly where it is written.
 abbrev pub ElementIsItsForm : Type 0
 ElementIsItsForm =
-    (s : List ℕ) (e : Element) (rest : List ℕ) → (element s ≡ some (e, rest)) ↔ ((s ≡ wire_element e ++ rest) × GoodElement e)
+    (s : List ℕ) (e : Element) (rest : List ℕ) → (element s ≡ Some (e, rest)) ↔ ((s ≡ wire_element e ++ rest) × GoodElement e)
 
 -- Octets are elements exactly when they are these elements written one after the other. Nothing is left.
 abbrev pub ElementsEndToEnd : Type 0
 ElementsEndToEnd =
     (s : List ℕ) (es : List Element) (rest : List ℕ) →
-    (elements s ≡ some (es, rest)) ↔ ((s ≡ flatten (map wire_element es)) × (rest ≡ []) × All GoodElement es)
+    (elements s ≡ Some (es, rest)) ↔ ((s ≡ flatten (map wire_element es)) × (rest ≡ []) × All GoodElement es)
 
 -- An element with one tag octet: the low five bits are not all set.
 abbrev pub Short : Element → Type 0
@@ -45,7 +44,7 @@ Short e = e.tag % 32 ≢ 31
 -- any tag of one octet.
 abbrev pub TbsLayout : TbsCertificate → Type 0
 TbsLayout t =
-    ((t.version ≡ none) ⊎ ((v : Element) × (t.version ≡ some v) × (v.tag ≡ 160)))
+    ((t.version ≡ None) ⊎ ((v : Element) × (t.version ≡ Some v) × (v.tag ≡ 160)))
     × (t.serial_number.tag ≡ 2) × (t.signature.tag ≡ 48) × (t.issuer.tag ≡ 48) × (t.validity.tag ≡ 48)
     × (t.subject.tag ≡ 48) × (t.subject_public_key_info.tag ≡ 48) × All Short t.others
 
@@ -58,7 +57,7 @@ LaidOut s c = (s ≡ wire_certificate c) × Layout c × (length s ≤ max_certif
 
 -- Octets are read as a certificate exactly when they are that certificate written, and nothing else. So no octets are two certificates.
 abbrev pub CertificateIsItsLayout : Type 0
-CertificateIsItsLayout = (s : List ℕ) (c : Certificate) → (certificate s ≡ some c) ↔ LaidOut s c
+CertificateIsItsLayout = (s : List ℕ) (c : Certificate) → (certificate s ≡ Some c) ↔ LaidOut s c
 
 -- The key part is empty exactly when the octets are no certificate. Otherwise it is the key of the certificate that they are, where it stands.
 abbrev pub KeyPartTells : Type 0

@@ -1,15 +1,15 @@
 -- The whole blocks of a list, one after the other.
-use Prim.Native.Nat.{ℕ, zero, suc, ◌+◌, ◌-◌, ◌*◌, ◌/◌, ◌%◌, ◌≤◌, ◌<◌}
-use native.Mathlib.Nat.{zero-mul, div-eq-sub-div, div-eq_of_lt, div-add-mod', mod-lt, div-lt_iff_lt-mul, le-div_iff_mul-le}
+use Prim.Native.Nat.{ℕ, zero, suc, ◌+◌, ◌*◌, ◌/◌, ◌≤◌, ◌<◌}
+use native.Mathlib.Nat.{zero-mul, div-eq-sub-div, div-eq_of_lt, div-add-mod', mod-lt}
 use native.Mathlib.Numerals.{add-one}
 use native.Mathlib.Omega.{arith}
-use mathlib.Core.Path.{◌≡◌, refl, sym, ap, ◌∙◌}
-use mathlib.Core.List.{List, [], ◌∷◌, ◌++◌, map}
+use mathlib.Core.Path.{◌≡◌, refl, ap, ◌∙◌}
+use mathlib.Core.List.{List, ◌++◌, map}
 use lib.ListN.{length, take, drop, length-append, length-drop}
 use lib.Seq.{take-append-le, drop-append-le, drop-drop}
 use Rattle.spec_octets.specs.Reader.{value_from}
-use Rattle.spec_digest.specs.Padding.{cut, blocks, block_words, padding, padded}
-use Rattle.spec_digest.specs.Family.{State, Member, compress, compress_all, absorbed, hash_value}
+use Rattle.spec_digest.specs.Padding.{blocks, block_words, padding, padded}
+use Rattle.spec_digest.specs.Family.{State, Member, compress, absorbed, hash_value}
 use Rattle.spec_digest.proofs.CutLaws.{cut_front}
 
 -- the words of a block that is the front of b

@@ -1,12 +1,12 @@
 -- The padding fills the last block.
-use Prim.Native.Nat.{ℕ, zero, suc, ◌+◌, ◌-◌, ◌*◌, ◌/◌, ◌%◌, ◌^◌, ◌≤◌, ◌<◌}
+use Prim.Native.Nat.{ℕ, zero, suc, ◌+◌, ◌-◌, ◌*◌, ◌/◌, ◌%◌, ◌≤◌, ◌<◌}
 use native.Mathlib.Nat.{div-add-mod', mod-lt, mul-div_cancel, mod-eq_of_lt, mul-add-mod_self_right, div-lt_iff_lt-mul, div-mul-le_self, mul-le-mul_right, le_of_eq}
 use native.Mathlib.Omega.{arith}
-use mathlib.Core.Path.{◌≡◌, refl, sym, ap, ◌∙◌}
-use mathlib.Core.List.{List, [], ◌∷◌, ◌++◌}
+use mathlib.Core.Path.{◌≡◌, refl, sym}
+use mathlib.Core.List.{List, ◌∷◌, ◌++◌}
 use lib.ListN.{length, drop, replicate, length-append, length-replicate, length-drop}
 use lib.Seq.{drop-append-add}
-use Rattle.spec_octets.specs.Reader.{value_from, in_octets}
+use Rattle.spec_octets.specs.Reader.{in_octets}
 use Rattle.spec_octets.proofs.Numbers.{length_in_octets, numbers_written}
 use Rattle.spec_digest.specs.Padding.{zeros, padding, padded, blocks}
 use Rattle.spec_digest.specs.Theorems.{PaddingForm, PaddingLength, BlocksJoin}

@@ -1,8 +1,8 @@
 -- Words as octets: the words of a block are the block, and a digest has eight words.
-use Prim.Native.Nat.{ℕ, ◌+◌, ◌*◌, ◌^◌, ◌<◌}
+use Rattle.std.specs.Prelude.{Some}
+use Prim.Native.Nat.{ℕ, ◌*◌, ◌^◌, ◌<◌}
 use native.Mathlib.Omega.{arith}
 use mathlib.Core.Path.{◌≡◌, refl, sym, ap₂, ◌∙◌}
-use mathlib.Core.Option.{some}
 use mathlib.Core.List.{List, [], ◌∷◌, ◌++◌, map, append-nil}
 use lib.ListN.{length, length-append, length-map}
 use Rattle.spec_octets.specs.Lists.{All, all_nil, all_cons, flatten}
@@ -17,7 +17,7 @@ use Rattle.spec_digest.specs.Theorems.{WordsJoin, DigestLength}
 use Rattle.spec_digest.proofs.CutLaws.{length_cut, flatten_cut, pieces_long, pieces_all}
 
 module _ (n : ℕ) where
-  read : (p : List ℕ) → length p ≡ n → number n p ≡ some (value_from 0 p, [])
+  read : (p : List ℕ) → length p ≡ n → number n p ≡ Some (value_from 0 p, [])
   unfolding number
   read p l = rw ((octets_some n p p []).1 (sym (append-nil p), l))
 

@@ -1,5 +1,5 @@
 -- Equations that restate a definition, so that it can't change unnoticed. Each is proved under its name in proofs/.
-use Rattle.std.specs.Prelude.{ℕ, ◌+◌, ◌%◌, ◌^◌, ◌≡◌, List, map}
+use Rattle.std.specs.Prelude.{ℕ, ◌≡◌, List, map}
 use Rattle.spec_octets.specs.Lists.{flatten}
 use Rattle.spec_octets.specs.Reader.{in_octets}
 use Rattle.spec_digest.specs.Words.{majority, plus, complement, choose}

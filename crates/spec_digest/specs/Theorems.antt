@@ -1,5 +1,5 @@
 -- What the definitions of this crate mean. Each statement is proved under its name in proofs/.
-use Rattle.std.specs.Prelude.{ℕ, ◌+◌, ◌-◌, ◌*◌, ◌/◌, ◌%◌, ◌^◌, ◌≤◌, ◌<◌, ◌≡◌, List, [], ◌∷◌, ◌++◌, map, length, take, drop, get_or, replicate}
+use Rattle.std.specs.Prelude.{ℕ, ◌+◌, ◌-◌, ◌*◌, ◌/◌, ◌%◌, ◌^◌, ◌≤◌, ◌<◌, ◌≡◌, List, ◌∷◌, ◌++◌, map, length, take, drop, get_or, replicate}
 use Rattle.spec_octets.specs.Lists.{All, flatten, select}
 use Rattle.spec_octets.specs.Octets.{Octets}
 use Rattle.spec_octets.specs.Reader.{value_from, in_octets}

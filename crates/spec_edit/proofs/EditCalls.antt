@@ -1,11 +1,12 @@
 -- When the call says that a verdict may be left, and when it refuses.
+use Rattle.std.proofs.lemmas.Option.{none-some}
+use Rattle.std.specs.Prelude.{Option, None, Some}
 use Prim.Native.Nat.{ℕ}
-use mathlib.Core.Path.{◌≡◌, refl, sym, ap, ◌∙◌}
+use mathlib.Core.Path.{◌≡◌, refl, sym, ◌∙◌}
 use mathlib.Core.Logic.Iff
-use mathlib.Core.Logic.{◌↔◌, ◌⊎◌, ⊎_elim}
+use mathlib.Core.Logic.{◌↔◌, ⊎_elim}
 use mathlib.Core.Bool.{Bool, true, false, cond, not, true≢false, false≢true}
 use mathlib.Core.List.{List, [], ◌∷◌}
-use mathlib.Core.Option.{Option, none, some, none-ne-some}
 use Rattle.spec_refusal.specs.declared.Refusal.{Refusal}
 use Rattle.spec_octets.specs.Lists.{any, All}
 use Rattle.spec_octets.specs.Octets.{Octets}
@@ -18,7 +19,6 @@ use Rattle.spec_rule.specs.RelevantSet.{Book, as_book}
 use Rattle.spec_rule.specs.Calls.{first_refusal}
 use Rattle.spec_rule.proofs.CheckOrder.{checked_at, Keeps, first_row, in_front}
 use Rattle.spec_rule.proofs.RefusalLaws.{request_keeps, book_keeps}
-use Rattle.spec_edit.specs.declared.Edited.{Edited}
 use Rattle.spec_edit.specs.declared.Edited.TheVariants.{MayBeLeft, Redo, Refused, BadOwner}
 use Rattle.spec_edit.specs.Edits.{touches, may_leave, owner_name, by_owner, edit_checks, edited_or, edited}
 use Rattle.spec_edit.specs.Meaning.{Untouched, EditRow, Row17}
@@ -39,16 +39,16 @@ may_leave_lem book o ns = (
 )
 
 -- an owner is read exactly when it is the wire form of a valid name
-owner_read : (owner : List ℕ) (o : Name) → (owner_name owner ≡ some o) ↔ ((owner ≡ wire o) × GoodName o)
+owner_read : (owner : List ℕ) (o : Name) → (owner_name owner ≡ Some o) ↔ ((owner ≡ wire o) × GoodName o)
 unfolding owner_name target
 owner_read owner o = target_is_its_name owner o
 
-no_owner : (owner : List ℕ) → (owner_name owner ≡ none) ↔ Row17 owner
-no_owner owner = (λ e o f good. none-ne-some o (sym e ∙ (owner_read owner o).1 (f, good)), go (owner_name owner) refl)
+no_owner : (owner : List ℕ) → (owner_name owner ≡ None) ↔ Row17 owner
+no_owner owner = (λ e o f good. none-some o (sym e ∙ (owner_read owner o).1 (f, good)), go (owner_name owner) refl)
   where
-    go : (x : Option Name) → owner_name owner ≡ x → Row17 owner → x ≡ none
-    go none e row = refl
-    go (some o) e row = let k = (owner_read owner o).0 e in absurd (row o k.0 k.1)
+    go : (x : Option Name) → owner_name owner ≡ x → Row17 owner → x ≡ None
+    go None e row = refl
+    go (Some o) e row = let k = (owner_read owner o).0 e in absurd (row o k.0 k.1)
 
 -- which answer is given
 module _ (t : Bool) where
@@ -77,46 +77,46 @@ edited_exactly request book o e f good =
     )
 
 module _ (book : Book) (ns : List Name) where
-  refused : (c : Option Refusal) (x : Option Name) (r : Refusal) → (edited_or c (by_owner book ns x) ≡ Refused r) ↔ (c ≡ some r)
-  refused none none r = (λ e. absurd (true≢false (cc)), λ e. absurd (none-ne-some r e))
-  refused none (some o) r = (λ e. absurd (go (may_leave book o ns) e), λ e. absurd (none-ne-some r e))
+  refused : (c : Option Refusal) (x : Option Name) (r : Refusal) → (edited_or c (by_owner book ns x) ≡ Refused r) ↔ (c ≡ Some r)
+  refused None None r = (λ e. absurd (true≢false (cc)), λ e. absurd (none-some r e))
+  refused None (Some o) r = (λ e. absurd (go (may_leave book o ns) e), λ e. absurd (none-some r e))
     where
       go : (t : Bool) → cond t MayBeLeft Redo ≡ Refused r → ⊥
       go true e = true≢false (cc)
       go false e = true≢false (cc)
-  refused (some q) x r = (λ e. cc, λ e. cc)
+  refused (Some q) x r = (λ e. cc, λ e. cc)
 
-  bad_owner : (c : Option Refusal) (x : Option Name) → (edited_or c (by_owner book ns x) ≡ BadOwner) ↔ ((c ≡ none) × (x ≡ none))
-  bad_owner none none = (λ e. (refl, refl), λ h. refl)
-  bad_owner none (some o) = (λ e. absurd (go (may_leave book o ns) e), λ h. absurd (none-ne-some o (sym h.1)))
+  bad_owner : (c : Option Refusal) (x : Option Name) → (edited_or c (by_owner book ns x) ≡ BadOwner) ↔ ((c ≡ None) × (x ≡ None))
+  bad_owner None None = (λ e. (refl, refl), λ h. refl)
+  bad_owner None (Some o) = (λ e. absurd (go (may_leave book o ns) e), λ h. absurd (none-some o (sym h.1)))
     where
       go : (t : Bool) → cond t MayBeLeft Redo ≡ BadOwner → ⊥
       go true e = true≢false (cc)
       go false e = true≢false (cc)
-  bad_owner (some q) x = (λ e. absurd (true≢false (cc)), λ h. absurd (none-ne-some q (sym h.0)))
+  bad_owner (Some q) x = (λ e. absurd (true≢false (cc)), λ h. absurd (none-some q (sym h.0)))
 
   may_be_left :
       (c : Option Refusal) (x : Option Name) → edited_or c (by_owner book ns x) ≡ MayBeLeft →
-      (o : Name) × (c ≡ none) × (x ≡ some o) × (may_leave book o ns ≡ true)
-  may_be_left none none e = absurd (true≢false (cc))
-  may_be_left none (some o) e = (o, refl, refl, (left (may_leave book o ns)).0 e)
-  may_be_left (some q) x e = absurd (true≢false (cc))
+      (o : Name) × (c ≡ None) × (x ≡ Some o) × (may_leave book o ns ≡ true)
+  may_be_left None None e = absurd (true≢false (cc))
+  may_be_left None (Some o) e = (o, refl, refl, (left (may_leave book o ns)).0 e)
+  may_be_left (Some q) x e = absurd (true≢false (cc))
 
 -- no check refuses exactly when no row holds
 no_row :
     {cs : List (Option Refusal)} {rows : Refusal → Type 0} {ns : List ℕ} → Keeps cs rows ns →
-    (first_refusal cs ≡ none) ↔ ((r : Refusal) → rows r → ⊥)
+    (first_refusal cs ≡ None) ↔ ((r : Refusal) → rows r → ⊥)
 no_row {cs} {rows} keeps = (
   λ e r row. ⊎_elim
-      (λ f. none-ne-some r (sym e ∙ f))
-      (λ (p, f, less). none-ne-some p (sym e ∙ f))
+      (λ f. none-some r (sym e ∙ f))
+      (λ (p, f, less). none-some p (sym e ∙ f))
       (keeps.reached r row),
   λ h. go (first_refusal cs) refl h,
 )
   where
-    go : (c : Option Refusal) → first_refusal cs ≡ c → ((r : Refusal) → rows r → ⊥) → c ≡ none
-    go none e h = refl
-    go (some r) e h = absurd (h r (keeps.due r e))
+    go : (c : Option Refusal) → first_refusal cs ≡ c → ((r : Refusal) → rows r → ⊥) → c ≡ None
+    go None e h = refl
+    go (Some r) e h = absurd (h r (keeps.due r e))
 
 edit_keeps :
     (request book : List ℕ) → Octets request → Octets book →
@@ -139,10 +139,10 @@ edit_refusals request book owner o p =
     )
 
 -- both checks pass
-both_pass : (c d : Option Refusal) → first_refusal (c ∷ d ∷ []) ≡ none → (c ≡ none) × (d ≡ none)
-both_pass none none e = (refl, refl)
-both_pass none (some r) e = absurd (none-ne-some r (sym e))
-both_pass (some r) d e = absurd (none-ne-some r (sym e))
+both_pass : (c d : Option Refusal) → first_refusal (c ∷ d ∷ []) ≡ None → (c ≡ None) × (d ≡ None)
+both_pass None None e = (refl, refl)
+both_pass None (Some r) e = absurd (none-some r (sym e))
+both_pass (Some r) d e = absurd (none-some r (sym e))
 
 pub yes_leaves : YesLeaves
 unfolding edited

@@ -1,9 +1,10 @@
 -- An edit of an owner that touches no name of the request: both books give the same answers.
+use Rattle.std.proofs.lemmas.Option.{same_Some, none-some}
+use Rattle.std.specs.Prelude.{Option, None, Some}
 use Prim.Native.Nat.{ℕ, zero, suc}
 use mathlib.Core.Path.{◌≡◌, refl, sym, ap, ◌∙◌, fun_ext}
 use mathlib.Core.Bool.{Bool, true, false, cond}
 use mathlib.Core.List.{List, [], ◌∷◌, ◌++◌, map}
-use mathlib.Core.Option.{Option, none, some, some-injective, none-ne-some}
 use Rattle.spec_limits.specs.Limits.{max_aliases}
 use Rattle.spec_refusal.specs.declared.Refusal.{Refusal}
 use Rattle.spec_octets.specs.Lists.{any, select, All, all_nil, all_cons, Selects, selects_nil, selects_take, selects_pass}
@@ -14,13 +15,13 @@ use Rattle.spec_name.proofs.WholeNames.{whole_names}
 use Rattle.spec_request.specs.Request.{base, request_refusal}
 use Rattle.spec_issuer.specs.Issuer.{issuer_refusal}
 use Rattle.spec_applicant.specs.Applicant.{Applicant, applicant_refusal}
-use Rattle.spec_record.specs.Records.{Record, is_caa, is_alias, target, records, book_refusal}
+use Rattle.spec_record.specs.Records.{Record, is_caa, is_alias, target}
 use Rattle.spec_record.specs.Property.{property}
 use Rattle.spec_record.specs.Kinds.{kept, of_kind_from}
 use Rattle.spec_rule.specs.declared.Judgement.{Judgement}
 use Rattle.spec_rule.specs.Aliases.{Alias, as_alias, aliases, aliases_of, through, followed}
-use Rattle.spec_rule.specs.RelevantSet.{CaaRecord, as_caa, caa_records, Book, as_book, Lookup, caa_at, looked_up, lookup, first_found, empty_before, relevant_set, labels_off}
-use Rattle.spec_rule.specs.Authorizations.{authorization_from, authorization}
+use Rattle.spec_rule.specs.RelevantSet.{as_caa, Book, as_book, caa_at, looked_up, lookup, relevant_set, labels_off}
+use Rattle.spec_rule.specs.Authorizations.{authorization}
 use Rattle.spec_rule.specs.Verdicts.{decision, verdict}
 use Rattle.spec_rule.specs.IssuerLists.{issuers}
 use Rattle.spec_rule.specs.Calls.{authorizations, decisions, judge, list_issuers, first_refusal, refused_or}
@@ -28,7 +29,7 @@ use Rattle.spec_rule.specs.Theorems.{renumbered, renumbered_alias, renumbered_bo
 use Rattle.spec_rule.proofs.Renumber.{renumbering}
 use Rattle.spec_session.specs.Meaning.{targets, onward}
 use Rattle.spec_edit.specs.Edits.{touches_from, touches}
-use Rattle.spec_edit.specs.Meaning.{Apart, Untouched, DifferOnlyAt, SameAnswers}
+use Rattle.spec_edit.specs.Meaning.{Apart, Untouched, DifferOnlyAt}
 use Rattle.spec_edit.specs.Theorems.{EditElsewhere}
 use Rattle.spec_edit.proofs.Touching.{apart, NotAmong, not_from, not_touched, untouched}
 
@@ -48,16 +49,16 @@ module _ {A B : Type 0} (is_of : ℕ → ℕ → Bool) (read : List ℕ → Opti
         (k j : ℕ) (w : Name) (t : Bool) (d : Option A) (bs cs : List B) → own (map strip bs) ≡ own (map strip cs) →
         own (map strip (cond t (kept (made k w) d) [] ++ bs)) ≡ own (map strip (cond t (kept (made j w) d) [] ++ cs))
     both k j w false d bs cs e = e
-    both k j w true none bs cs e = e
-    both k j w true (some a) bs cs e = rw (numberless k j w a, e) refl
+    both k j w true None bs cs e = e
+    both k j w true (Some a) bs cs e = rw (numberless k j w a, e) refl
 
     -- a record of o is none of y
     without :
         (k : ℕ) (w : Name) (t : Bool) (d : Option A) (bs : List B) → same_name w y ≡ false →
         own (map strip (cond t (kept (made k w) d) [] ++ bs)) ≡ own (map strip bs)
     without k w false d bs e = refl
-    without k w true none bs e = refl
-    without k w true (some a) bs e = rw (owned k w a, e) refl
+    without k w true None bs e = refl
+    without k w true (Some a) bs e = rw (owned k w a, e) refl
 
     not_of : (w : Name) → (Apart o w → ⊥) → same_name w y ≡ false
     not_of w h = not_passed (same_name w y) (λ e. h (λ s. (apart o y).0 other (s ∙ (whole_names.0 w y).0 e)))
@@ -104,19 +105,19 @@ module _ (al bl : List Alias) (o : Name) (agree : (y : Name) → same_name o y �
       go (a ∷ bs) h later = later a.target h
 
   -- and the end is not o
-  end_apart : (n : ℕ) (x y : Name) → NotAmong al o (x ∷ targets n al x) → followed n al x ≡ some y → same_name o y ≡ false
+  end_apart : (n : ℕ) (x y : Name) → NotAmong al o (x ∷ targets n al x) → followed n al x ≡ Some y → same_name o y ≡ false
   end_apart zero x y h = go (aliases_of al x)
     where
-      go : (bs : List Alias) → through bs (λ t. none) x ≡ some y → same_name o y ≡ false
-      go [] e = let k = some-injective x y e in rw k at (All-head h)
-      go (a ∷ bs) e = absurd (none-ne-some y e)
+      go : (bs : List Alias) → through bs (λ t. None) x ≡ Some y → same_name o y ≡ false
+      go [] e = let k = same_Some x y e in rw k at (All-head h)
+      go (a ∷ bs) e = absurd (none-some y e)
   end_apart (suc n) x y h = go (aliases_of al x) (All-tail h) (λ t. end_apart n t y)
     where
       go :
           (bs : List Alias) → NotAmong al o (onward bs (targets n al)) →
-          ((t : Name) → NotAmong al o (t ∷ targets n al t) → followed n al t ≡ some y → same_name o y ≡ false) →
-          through bs (followed n al) x ≡ some y → same_name o y ≡ false
-      go [] later-h later e = let k = some-injective x y e in rw k at (All-head h)
+          ((t : Name) → NotAmong al o (t ∷ targets n al t) → followed n al t ≡ Some y → same_name o y ≡ false) →
+          through bs (followed n al) x ≡ Some y → same_name o y ≡ false
+      go [] later-h later e = let k = same_Some x y e in rw k at (All-head h)
       go (a ∷ bs) later-h later e = later a.target later-h e
 
 -- two books that agree on every name but o
@@ -132,15 +133,15 @@ module _ (old new : Book) (o : Name)
       h : NotAmong old.aliases o (x ∷ targets max_aliases old.aliases x)
       h = (not_from old.aliases o x).0 e
 
-      endless_too : (bs : List Alias) → looked_up new.caa bs none ≡ looked_up old.caa bs none
+      endless_too : (bs : List Alias) → looked_up new.caa bs None ≡ looked_up old.caa bs None
       endless_too [] = refl
       endless_too (a ∷ bs) = refl
 
       go :
-          (end : Option Name) → ((y : Name) → end ≡ some y → same_name o y ≡ false) →
+          (end : Option Name) → ((y : Name) → end ≡ Some y → same_name o y ≡ false) →
           looked_up new.caa (aliases_of old.aliases x) end ≡ looked_up old.caa (aliases_of old.aliases x) end
-      go none away = endless_too (aliases_of old.aliases x)
-      go (some y) away = rw (caa_agree y (away y refl)) refl
+      go None away = endless_too (aliases_of old.aliases x)
+      go (Some y) away = rw (caa_agree y (away y refl)) refl
 
   same_lookups : {xs : List Name} → All (λ x. touches_from old.aliases o x ≡ false) xs → map (lookup new) xs ≡ map (lookup old) xs
   same_lookups all_nil = refl
@@ -200,14 +201,14 @@ module _ (o : Name) {old new : List Record} (differ : DifferOnlyAt o old new) wh
 checked :
     (c : Option Refusal) (v w : Judgement) → renumbered_verdict unnumbered v ≡ renumbered_verdict unnumbered w →
     renumbered_verdict unnumbered (refused_or c v) ≡ renumbered_verdict unnumbered (refused_or c w)
-checked none v w h = h
-checked (some r) v w h = refl
+checked None v w h = h
+checked (Some r) v w h = refl
 
 pub edit_elsewhere : EditElsewhere
 unfolding judge decisions list_issuers authorizations
 edit_elsewhere request old new o e f differ all = record {
   judged = λ issuer who. rw (e, f) (checked
-      (first_refusal (request_refusal request ∷ issuer_refusal issuer ∷ applicant_refusal who ∷ none ∷ []))
+      (first_refusal (request_refusal request ∷ issuer_refusal issuer ∷ applicant_refusal who ∷ None ∷ []))
       (verdict issuer (decisions request who new))
       (verdict issuer (decisions request who old))
       (same_verdict o differ all who issuer));

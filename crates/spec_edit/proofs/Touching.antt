@@ -3,12 +3,12 @@ use Prim.Native.Nat.{ℕ, zero, suc, ◌≤◌, ◌<◌}
 use native.Mathlib.Nat.{not-suc-le-zero, le_of_suc-le-suc}
 use native.Mathlib.Omega.{arith}
 use mathlib.Core.Path.{◌≡◌, refl}
-use mathlib.Core.Logic.{◌↔◌, ◌⊎◌, inl, inr, ⊎_elim}
-use mathlib.Core.Bool.{Bool, true, false}
+use mathlib.Core.Logic.{◌↔◌}
+use mathlib.Core.Bool.{false}
 use mathlib.Core.List.{List, [], ◌∷◌}
 use lib.ListN.{length, drop}
 use Rattle.spec_limits.specs.Limits.{max_aliases}
-use Rattle.spec_octets.specs.Lists.{any, All, all_nil, all_cons, First}
+use Rattle.spec_octets.specs.Lists.{All, all_nil, all_cons}
 use Rattle.spec_octets.proofs.ListLaws.{any_false, All-head, All-tail}
 use Rattle.spec_octets.proofs.SelectLaws.{fails}
 use Rattle.spec_name.specs.Names.{Name, same_name, ancestors}
@@ -16,7 +16,7 @@ use Rattle.spec_name.proofs.WholeNames.{whole_names}
 use Rattle.spec_request.specs.Request.{base}
 use Rattle.spec_rule.specs.Aliases.{Alias, aliases_of}
 use Rattle.spec_rule.specs.RelevantSet.{Book}
-use Rattle.spec_rule.specs.Meaning.{AliasOf, Leads, arrived, onward}
+use Rattle.spec_rule.specs.Meaning.{Leads, arrived, onward}
 use Rattle.spec_rule.proofs.Following.{first_alias, the_first, has_alias}
 use Rattle.spec_session.specs.Meaning.{targets, onward as onwards}
 use Rattle.spec_edit.specs.Edits.{touches_from, touches}

@@ -1,8 +1,7 @@
 -- What an edit can touch, in one table: both sides of each edge, worked out by hand from the requirements.
-use Rattle.std.specs.Prelude.{ℕ, ◌≡◌, List, [], ◌∷◌, ◌++◌, map, replicate}
+use Rattle.std.specs.Prelude.{ℕ, ◌≡◌, List, [], ◌∷◌, ◌++◌, map, replicate, Some}
 use Prim.Native.Char.{code}
 use Prim.Native.String.{String}
-use Rattle.std.proofs.Math.Option.{some}
 use Rattle.spec_refusal.specs.declared.Refusal.TheVariants.{RequestTooLong, BadName, BookTooLong, BadRecord, AliasConflict}
 use Rattle.spec_octets.specs.Octets.{text}
 use Rattle.spec_name.specs.Names.{Name, wire}
@@ -10,7 +9,7 @@ use Rattle.spec_record.specs.Records.{Record}
 use Rattle.spec_record.specs.BookEdges.{of_octets}
 use Rattle.spec_rule.specs.RelevantSet.{as_book}
 use Rattle.spec_rule.specs.Edges.{dotted, caa, aliased, cname, letters, chain, below, root_issuing}
-use Rattle.spec_rule.specs.CallEdges.{asking, book_of, www, both, conflicting}
+use Rattle.spec_rule.specs.CallEdges.{book_of, www, conflicting}
 use Rattle.spec_edit.specs.declared.Edited.{Edited}
 use Rattle.spec_edit.specs.declared.Edited.TheVariants.{MayBeLeft, Redo, Refused, BadOwner}
 use Rattle.spec_edit.specs.Edits.{by_owner, edited}
@@ -26,7 +25,7 @@ call_edge request book owner e = record { answered = edited request book owner; 
 
 -- These names, records and owner, as they are read; and for www.example.com alone.
 abbrev pub names_edge : List String → List Record → Name → Edited → EditEdge
-names_edge ns book o e = record { answered = by_owner (as_book book) (map dotted ns) (some o); stated = e }
+names_edge ns book o e = record { answered = by_owner (as_book book) (map dotted ns) (Some o); stated = e }
 
 abbrev pub edge : List Record → String → Edited → EditEdge
 edge book o e = names_edge ("www.example.com" ∷ []) book (dotted o) e

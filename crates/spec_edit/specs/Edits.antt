@@ -1,6 +1,5 @@
 -- "What an edit can touch": whether the verdict on a request may be left as it is when a hotel edits the records of one owner.
-use Rattle.std.specs.Prelude.{ℕ, Bool, cond, not, List, [], ◌∷◌}
-use Rattle.std.proofs.Math.Option.{Option, none, some}
+use Rattle.std.specs.Prelude.{ℕ, Bool, cond, not, List, [], ◌∷◌, Option, None, Some}
 use Rattle.spec_limits.specs.Limits.{max_aliases}
 use Rattle.spec_refusal.specs.declared.Refusal.{Refusal}
 use Rattle.spec_octets.specs.Lists.{any}
@@ -32,15 +31,15 @@ owner_name owner = filling (name owner)
 
 -- For an accepted request and book. An owner that is no such name is refused, "checked last".
 abbrev pub by_owner : Book → List Name → Option Name → Edited
-by_owner book ns none = BadOwner
-by_owner book ns (some o) = cond (may_leave book o ns) MayBeLeft Redo
+by_owner book ns None = BadOwner
+by_owner book ns (Some o) = cond (may_leave book o ns) MayBeLeft Redo
 
 abbrev pub edit_checks : List ℕ → List ℕ → List (Option Refusal)
 edit_checks request book = request_refusal request ∷ book_refusal book ∷ []
 
 abbrev pub edited_or : Option Refusal → Edited → Edited
-edited_or none e = e
-edited_or (some r) e = Refused r
+edited_or None e = e
+edited_or (Some r) e = Refused r
 
 -- The call: the request, the old book, and the owner whose records are edited. Neither issuer domain name, account nor method is asked for.
 unfoldable pub edited : List ℕ → List ℕ → List ℕ → Edited

@@ -1,6 +1,5 @@
 -- What the definitions of this crate mean. Each statement is proved under its name in proofs/.
-use Rattle.std.specs.Prelude.{ℕ, ◌≡◌, ◌↔◌, List}
-use Rattle.std.proofs.Math.Option.{none}
+use Rattle.std.specs.Prelude.{ℕ, ◌≡◌, ◌↔◌, List, None}
 use Rattle.spec_refusal.specs.declared.Refusal.{Refusal}
 use Rattle.spec_octets.specs.Lists.{All}
 use Rattle.spec_octets.specs.Octets.{Octets}
@@ -17,7 +16,7 @@ use Rattle.spec_edit.specs.Meaning.{Untouched, DifferOnlyAt, SameAnswers, EditRo
 -- when the owner touches no name. Otherwise it is to be made again.
 abbrev pub EditedExactly : Type 0
 EditedExactly =
-    (request book : List ℕ) (o : Name) → request_refusal request ≡ none → book_refusal book ≡ none → GoodName o →
+    (request book : List ℕ) (o : Name) → request_refusal request ≡ None → book_refusal book ≡ None → GoodName o →
     ((edited request book (wire o) ≡ MayBeLeft) ↔ All (Untouched (as_book (records book)) o) (requested_names request))
     × ((edited request book (wire o) ≡ Redo) ↔ (All (Untouched (as_book (records book)) o) (requested_names request) → ⊥))
 
@@ -32,7 +31,7 @@ EditRefusals =
 -- answers.
 abbrev pub EditElsewhere : Type 0
 EditElsewhere =
-    (request old new : List ℕ) (o : Name) → book_refusal old ≡ none → book_refusal new ≡ none → DifferOnlyAt o (records old) (records new) →
+    (request old new : List ℕ) (o : Name) → book_refusal old ≡ None → book_refusal new ≡ None → DifferOnlyAt o (records old) (records new) →
     All (Untouched (as_book (records old)) o) (requested_names request) → SameAnswers request old new
 
 -- The call and that statement put together: where the call says that the verdict may be left, the owner is one valid name, and every accepted book
@@ -41,4 +40,4 @@ abbrev pub YesLeaves : Type 0
 YesLeaves =
     (request old owner : List ℕ) → edited request old owner ≡ MayBeLeft →
     (o : Name) × (owner ≡ wire o) × GoodName o
-    × ((new : List ℕ) → book_refusal new ≡ none → DifferOnlyAt o (records old) (records new) → SameAnswers request old new)
+    × ((new : List ℕ) → book_refusal new ≡ None → DifferOnlyAt o (records old) (records new) → SameAnswers request old new)

@@ -1,6 +1,5 @@
 -- What the definitions of this crate mean. Each statement is proved under its name in proofs/.
-use Rattle.std.specs.Prelude.{ℕ, ◌≡◌, ◌↔◌, true, List, map}
-use Rattle.std.proofs.Math.Option.{none, some}
+use Rattle.std.specs.Prelude.{ℕ, ◌≡◌, ◌↔◌, true, List, map, None, Some}
 use Rattle.spec_refusal.specs.declared.Refusal.{Refusal}
 use Rattle.spec_refusal.specs.declared.Refusal.TheVariants.{BadIssuer}
 use Rattle.spec_octets.specs.Octets.{lowered}
@@ -24,8 +23,8 @@ IssuerRow d r = (r ≡ BadIssuer) × Row4 d
 
 abbrev pub IssuerRefusals : Type 0
 IssuerRefusals =
-    (d : List ℕ) → ((issuer_refusal d ≡ some BadIssuer) ↔ Row4 d) × ((issuer_refusal d ≡ none) ↔ WellFormed d)
-    × ((r : Refusal) → issuer_refusal d ≡ some r → r ≡ BadIssuer)
+    (d : List ℕ) → ((issuer_refusal d ≡ Some BadIssuer) ↔ Row4 d) × ((issuer_refusal d ≡ None) ↔ WellFormed d)
+    × ((r : Refusal) → issuer_refusal d ≡ Some r → r ≡ BadIssuer)
 
 -- The table IssuerEdges.antt.
 abbrev pub IssuerEdges : Type 0

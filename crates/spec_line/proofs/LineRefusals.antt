@@ -1,11 +1,12 @@
 -- Each call is refused exactly by the rows of the requirements' table, and a refusal leaves the buffer unchanged.
+use Rattle.std.proofs.lemmas.Option.{none-some, same_Some}
+use Rattle.std.specs.Prelude.{Option, None, Some}
 use Prim.Native.Nat.{ℕ}
 use native.Mathlib.Omega.{arith}
 use mathlib.Core.Path.{◌≡◌, refl}
 use mathlib.Core.Logic.{◌↔◌, inl, ⊎_elim}
 use mathlib.Core.Bool.{Bool, true, false, cond}
 use mathlib.Core.List.{List}
-use mathlib.Core.Option.{Option, none, some, none-ne-some, some-injective}
 use lib.Dec.{leb-zero}
 use lib.ListN.{length}
 use Rattle.spec_limits.specs.Limits.{max_data_octets, max_line_octets}
@@ -37,32 +38,32 @@ read_refusals s buffer =
     same :
         (o : Option Property) →
         read_of o buffer ≡ outcome (length s) max_line_octets max_data_octets (λ p. length (wire_property p)) wire_property BadLine buffer o
-    same none = refl
-    same (some p) = refl
+    same None = refl
+    same (Some p) = refl
 
 -- Writing: a property that is found but can't be written counts as not found, and none is too large for its line.
 
 abbrev writable : Option Property → Option Property
-writable none = none
-writable (some p) = cond (is_writable p) (some p) none
+writable None = None
+writable (Some p) = cond (is_writable p) (Some p) None
 
-writable_some : (d : List ℕ) (p : Property) → (writable (property d) ≡ some p) ↔ Writable d p
+writable_some : (d : List ℕ) (p : Property) → (writable (property d) ≡ Some p) ↔ Writable d p
 writable_some d p = (λ h. read (property d) refl h, stand)
   where
-    letters : (q : Property) → q ≡ p → is_writable q ≡ true → property d ≡ some q → Writable d p
+    letters : (q : Property) → q ≡ p → is_writable q ≡ true → property d ≡ Some q → Writable d p
     letters q same good e =
         let (front, tagged) = (property_is_its_parts d p).0 (rw same at e) in
         (front, tagged, (all_true is_letter_or_digit p.tag).0 (rw same at good))
 
-    go : (q : Property) → property d ≡ some q → (t : Bool) → is_writable q ≡ t → cond t (some q) none ≡ some p → Writable d p
-    go q e true good h = letters q (some-injective q p h) good e
-    go q e false good h = absurd (none-ne-some p h)
+    go : (q : Property) → property d ≡ Some q → (t : Bool) → is_writable q ≡ t → cond t (Some q) None ≡ Some p → Writable d p
+    go q e true good h = letters q (same_Some q p h) good e
+    go q e false good h = absurd (none-some p h)
 
-    read : (o : Option Property) → property d ≡ o → writable o ≡ some p → Writable d p
-    read none e h = absurd (none-ne-some p h)
-    read (some q) e h = go q e (is_writable q) refl h
+    read : (o : Option Property) → property d ≡ o → writable o ≡ Some p → Writable d p
+    read None e h = absurd (none-some p h)
+    read (Some q) e h = go q e (is_writable q) refl h
 
-    stand : Writable d p → writable (property d) ≡ some p
+    stand : Writable d p → writable (property d) ≡ Some p
     stand w = rw ((property_is_its_parts d p).1 (w.0, w.1), (all_true is_letter_or_digit p.tag).1 w.2)
 
 pub write_refusals : WriteRefusals
@@ -84,9 +85,9 @@ write_refusals d buffer =
     put = outcome (length d) max_data_octets max_data_octets (λ p. 0) line BadData buffer
 
     same : (o : Option Property) → written_of o buffer ≡ put (writable o)
-    same none = refl
-    same (some p) = go (is_writable p)
+    same None = refl
+    same (Some p) = go (is_writable p)
       where
-        go : (t : Bool) → cond t (placed (line p) buffer) (refused BadData buffer) ≡ put (cond t (some p) none)
+        go : (t : Bool) → cond t (placed (line p) buffer) (refused BadData buffer) ≡ put (cond t (Some p) None)
         go true = rw leb-zero
         go false = refl

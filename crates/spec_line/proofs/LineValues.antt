@@ -1,10 +1,11 @@
 -- The value of a line, in quotes or bare and not empty, never begins with white space.
+use Rattle.std.proofs.lemmas.Option.{none-some}
+use Rattle.std.specs.Prelude.{None, Some}
 use Prim.Native.Nat.{ℕ}
 use mathlib.Core.Path.{◌≡◌, refl, ap}
 use mathlib.Core.Logic.{◌↔◌, ◌≢◌, inl, inr}
 use mathlib.Core.Bool.{Bool, true, false, cond, ◌||◌, or-true, false≢true}
 use mathlib.Core.List.{List, [], ◌∷◌, ◌++◌, map, drop_last, cons≢nil, head-eq_of_cons-eq}
-use mathlib.Core.Option.{none, some, none-ne-some}
 use lib.Dec.{eqb}
 use borrow.Author.Tests.{eqb-true, ne_eqb}
 use Rattle.spec_octets.specs.Lists.{begins, ends, All, flatten}
@@ -51,24 +52,24 @@ value_unblank v s (inl q) = rw q.1
 value_unblank v [] (inr b) = refl
 value_unblank v (x ∷ s) (inr b) = not_blank is_first refl refl x (bare_first v x s b.1)
 
-value_read : (s v : List ℕ) → line_value s ≡ some v → ValueField v s
+value_read : (s v : List ℕ) → line_value s ≡ Some v → ValueField v s
 unfolding line_value
-value_read [] v h = absurd (none-ne-some _ h)
+value_read [] v h = absurd (none-some _ h)
 value_read (x ∷ s) v h = go (eqb x quote) refl h
   where
     within :
-        x ≡ quote → (t : Bool) → ends (eqb quote) s ≡ t → cond t (unescaped is_in_quotes (drop_last s)) none ≡ some v → ValueField v (x ∷ s)
+        x ≡ quote → (t : Bool) → ends (eqb quote) s ≡ t → cond t (unescaped is_in_quotes (drop_last s)) None ≡ Some v → ValueField v (x ∷ s)
     within q true e h = inl (drop_last s, rw q (ap (◌∷◌ quote) (last_off quote s e)), (unescaped_units is_in_quotes (drop_last s) v).0 h)
-    within q false e h = absurd (none-ne-some _ h)
+    within q false e h = absurd (none-some _ h)
 
     go :
         (t : Bool) → eqb x quote ≡ t →
-        cond t (cond (ends (eqb quote) s) (unescaped is_in_quotes (drop_last s)) none) (unescaped is_bare (x ∷ s)) ≡ some v →
+        cond t (cond (ends (eqb quote) s) (unescaped is_in_quotes (drop_last s)) None) (unescaped is_bare (x ∷ s)) ≡ Some v →
         ValueField v (x ∷ s)
     go true e h = within (eqb-true x quote e) (ends (eqb quote) s) refl h
     go false e h = inr (cons≢nil, (unescaped_units is_bare (x ∷ s) v).0 h)
 
-value_stand : (s v : List ℕ) → ValueField v s → line_value s ≡ some v
+value_stand : (s v : List ℕ) → ValueField v s → line_value s ≡ Some v
 unfolding line_value
 value_stand s v (inl q) =
     let (c, e, units) = q in
@@ -76,5 +77,5 @@ value_stand s v (inl q) =
 value_stand [] v (inr b) = absurd (b.0 refl)
 value_stand (x ∷ s) v (inr b) = rw (ne_eqb x quote (unquoted x (bare_first v x s b.1))) ((unescaped_units is_bare (x ∷ s) v).1 b.1)
 
-pub value_field : (s v : List ℕ) → (line_value s ≡ some v) ↔ ValueField v s
+pub value_field : (s v : List ℕ) → (line_value s ≡ Some v) ↔ ValueField v s
 value_field s v = (value_read s v, value_stand s v)

@@ -1,11 +1,12 @@
 -- A line is read exactly when the productions match it, as the one property that it stands for.
+use Rattle.std.proofs.lemmas.Option.{none-some, same_Some}
+use Rattle.std.specs.Prelude.{Option, None, Some}
 use Prim.Native.Nat.{ℕ, ◌≤◌}
 use native.Mathlib.Omega.{arith}
 use mathlib.Core.Path.{◌≡◌, refl, ap}
 use mathlib.Core.Logic.{◌↔◌}
 use mathlib.Core.Bool.{Bool, true, false, cond, ◌&&◌, and-eq-true_iff, false≢true}
 use mathlib.Core.List.{List, [], ◌∷◌, ◌++◌}
-use mathlib.Core.Option.{Option, none, some, none-ne-some, some-injective}
 use lib.Dec.{leb}
 use lib.ListN.{length}
 use borrow.Author.Tests.{leb-true, le-leb}
@@ -25,23 +26,23 @@ use Rattle.spec_line.proofs.LineValues.{value_field, value_unblank}
 
 -- Flags.
 
-pub flags_field : (s : List ℕ) (n : ℕ) → (decimal_octet s ≡ some n) ↔ OctetField n s
+pub flags_field : (s : List ℕ) (n : ℕ) → (decimal_octet s ≡ Some n) ↔ OctetField n s
 unfolding decimal_octet
 flags_field s n = (λ h. go _ refl h, stand)
   where
     is_flags : Bool
     is_flags = between 1 3 (length s) && all is_digit s && leb (decimal_from 0 s) 255
 
-    go : (t : Bool) → is_flags ≡ t → cond t (some (decimal_from 0 s)) none ≡ some n → OctetField n s
+    go : (t : Bool) → is_flags ≡ t → cond t (Some (decimal_from 0 s)) None ≡ Some n → OctetField n s
     go true e h =
         let (front, small) = (and-eq-true_iff (between 1 3 (length s) && all is_digit s) (leb (decimal_from 0 s) 255)).0 e in
         let (long, digits) = (and-eq-true_iff (between 1 3 (length s)) (all is_digit s)).0 front in
         let (low, high) = (and-eq-true_iff (leb 1 (length s)) (leb (length s) 3)).0 long in
-        let value : decimal_from 0 s ≡ n = some-injective _ _ h in
+        let value : decimal_from 0 s ≡ n = same_Some _ _ h in
         (leb-true 1 _ low, leb-true _ 3 high, (all_true is_digit s).0 digits, value, rw value at (leb-true (decimal_from 0 s) 255 small))
-    go false e h = absurd (none-ne-some _ h)
+    go false e h = absurd (none-some _ h)
 
-    stand : OctetField n s → decimal_octet s ≡ some n
+    stand : OctetField n s → decimal_octet s ≡ Some n
     stand k =
         let (low, high, digits, value, small) = k in
         rw (le-leb 1 (length s) low, le-leb (length s) 3 high, (all_true is_digit s).1 digits, value, le-leb n 255 small)
@@ -73,25 +74,25 @@ unblank (x ∷ t) long clean rest = All-head clean
 -- The fields together.
 
 pub fields_some :
-    {A : Type 0} (o : Option (List ℕ × List ℕ)) (k : List ℕ → List ℕ → Option A) (p : A) → if_read none o k ≡ some p →
-    (f rest : List ℕ) × (o ≡ some (f, rest)) × (k f rest ≡ some p)
-fields_some none k p h = absurd (none-ne-some _ h)
-fields_some (some r) k p h = (r.0, r.1, refl, h)
+    {A : Type 0} (o : Option (List ℕ × List ℕ)) (k : List ℕ → List ℕ → Option A) (p : A) → if_read None o k ≡ Some p →
+    (f rest : List ℕ) × (o ≡ Some (f, rest)) × (k f rest ≡ Some p)
+fields_some None k p h = absurd (none-some _ h)
+fields_some (Some r) k p h = (r.0, r.1, refl, h)
 
 property_some :
-    (o : Option ℕ) (t : List ℕ) (w : Option (List ℕ)) (p : Property) → property_of o t w ≡ some p →
-    (o ≡ some p.flags) × (t ≡ p.tag) × (is_line_tag t ≡ true) × (w ≡ some p.value)
-property_some none t w p h = absurd (none-ne-some _ h)
-property_some (some f) t none p h = absurd (none-ne-some _ h)
-property_some (some f) t (some v) p h = go (is_line_tag t) refl h
+    (o : Option ℕ) (t : List ℕ) (w : Option (List ℕ)) (p : Property) → property_of o t w ≡ Some p →
+    (o ≡ Some p.flags) × (t ≡ p.tag) × (is_line_tag t ≡ true) × (w ≡ Some p.value)
+property_some None t w p h = absurd (none-some _ h)
+property_some (Some f) t None p h = absurd (none-some _ h)
+property_some (Some f) t (Some v) p h = go (is_line_tag t) refl h
   where
     go :
-        (b : Bool) → is_line_tag t ≡ b → cond b (some (record { flags = f; tag = t; value = v })) none ≡ some p →
-        (some f ≡ some p.flags) × (t ≡ p.tag) × (is_line_tag t ≡ true) × (some v ≡ some p.value)
+        (b : Bool) → is_line_tag t ≡ b → cond b (Some (record { flags = f; tag = t; value = v })) None ≡ Some p →
+        (Some f ≡ Some p.flags) × (t ≡ p.tag) × (is_line_tag t ≡ true) × (Some v ≡ Some p.value)
     go true e h =
-        let same = some-injective _ _ h in
-        (ap (λ (q : Property). some q.flags) same, ap (λ (q : Property). q.tag) same, e, ap (λ (q : Property). some q.value) same)
-    go false e h = absurd (none-ne-some _ h)
+        let same = same_Some _ _ h in
+        (ap (λ (q : Property). Some q.flags) same, ap (λ (q : Property). q.tag) same, e, ap (λ (q : Property). Some q.value) same)
+    go false e h = absurd (none-some _ h)
 
 pub line_is_the_grammar : LineIsTheGrammar
 unfolding read_line
@@ -104,7 +105,7 @@ line_is_the_grammar s p = (
       stand f b₁ t b₂ s₂ (cc) flags blanks₁ tag blanks₂ value,
 )
   where
-    read : read_line s ≡ some p → LineOf p s
+    read : read_line s ≡ Some p → LineOf p s
     read h =
         let (f, s₁, h₁, r₁) = fields_some (field s) _ p h in
         let (t, s₂, h₂, r₂) = fields_some (field s₁) _ p r₁ in
@@ -120,7 +121,7 @@ line_is_the_grammar s p = (
 
     stand :
         (f b₁ t b₂ s₂ : List ℕ) → s ≡ f ++ (b₁ ++ (t ++ (b₂ ++ s₂))) → OctetField p.flags f → some_blanks b₁ →
-        (t ≡ p.tag) × TagField t → some_blanks b₂ → ValueField p.value s₂ → read_line s ≡ some p
+        (t ≡ p.tag) × TagField t → some_blanks b₂ → ValueField p.value s₂ → read_line s ≡ Some p
     stand f b₁ t b₂ s₂ e flags blanks₁ tag blanks₂ value =
         let s₁ = t ++ (b₂ ++ s₂) in
         let clean = tag_blankless tag.1 in

@@ -1,4 +1,5 @@
 -- Output that fits the buffer is written, and output that doesn't fit is refused.
+use Rattle.std.specs.Prelude.{Ok}
 use Prim.Native.Nat.{ℕ, ◌≤◌, ◌<◌}
 use mathlib.Core.Path.{◌≡◌, sym, ap}
 use mathlib.Core.List.{List}
@@ -6,10 +7,9 @@ use lib.ListN.{length}
 use borrow.Author.Tests.{le-leb, lt-leb}
 use Rattle.spec_refusal.specs.declared.Refusal.TheVariants.{NoRoom}
 use Rattle.spec_octets.specs.Buffer.{Put}
-use Rattle.spec_line.specs.declared.LineAnswer.TheVariants.{Length}
 use Rattle.spec_line.specs.Calls.{Output, refused, placed}
 
-pub placed_there : (e b x : List ℕ) (n k : ℕ) → n ≡ length e → n ≤ length b → Put e b x k → placed e b ≡ record { answer = Length n; buffer = x }
+pub placed_there : (e b x : List ℕ) (n k : ℕ) → n ≡ length e → n ≤ length b → Put e b x k → placed e b ≡ record { answer = Ok n; buffer = x }
 unfolding placed
 placed_there e b x n k m h p = rw (p.octets, ← m, le-leb n (length b) h)
 

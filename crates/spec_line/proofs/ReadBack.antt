@@ -1,4 +1,5 @@
 -- The two calls one after the other, whatever the buffers held.
+use Rattle.std.specs.Prelude.{Ok}
 use Prim.Native.Nat.{ℕ, ◌≤◌}
 use mathlib.Core.Path.{◌≡◌, refl, ap}
 use mathlib.Core.List.{List, ◌++◌}
@@ -10,7 +11,6 @@ use Rattle.spec_octets.specs.Octets.{is_letter_or_digit}
 use Rattle.spec_octets.proofs.ListLaws.{all_true}
 use Rattle.spec_record.specs.Property.{wire_property}
 use Rattle.spec_record.proofs.PropertyLaws.{property_is_its_parts}
-use Rattle.spec_line.specs.declared.LineAnswer.TheVariants.{Length}
 use Rattle.spec_line.specs.Written.{line}
 use Rattle.spec_line.specs.Calls.{Output, placed, write_line, parse_line}
 use Rattle.spec_line.specs.Theorems.{small_tag, LinePlaced, DataPlaced, WrittenReadsBack}
@@ -20,7 +20,7 @@ use Rattle.spec_line.proofs.WrittenParts.{line_written}
 
 -- what fits is placed at the front of the buffer
 abbrev pub at_front : List ℕ → List ℕ → Output
-at_front made buffer = record { answer = Length (length made); buffer = made ++ drop (length made) buffer }
+at_front made buffer = record { answer = Ok (length made); buffer = made ++ drop (length made) buffer }
 
 pub placed_fits : (made buffer : List ℕ) → length made ≤ length buffer → placed made buffer ≡ at_front made buffer
 unfolding placed
@@ -47,7 +47,7 @@ data_placed s buffer p short stands fits room =
     (placed_fits (wire_property p) buffer room)
 
 pub written_reads_back : WrittenReadsBack
-written_reads_back p b₁ b₂ has fits room₁ room₂ = rw (written, take-append_seam, read) (refl, ap Length same, take_at w _ _ same)
+written_reads_back p b₁ b₂ has fits room₁ room₂ = rw (written, take-append_seam, read) (refl, ap Ok same, take_at w _ _ same)
   where
     w : List ℕ
     w = wire_property (small_tag p)

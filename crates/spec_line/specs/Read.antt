@@ -1,8 +1,7 @@
 -- Reading a line as CAA data (the requirements' "Read"): the presentation format of RFC 8659 section 4.1.1.
-use Rattle.std.specs.Prelude.{ℕ, Bool, cond, not, ◌&&◌, ◌||◌, eqb, leb, length}
+use Rattle.std.specs.Prelude.{ℕ, Bool, cond, not, ◌&&◌, ◌||◌, eqb, leb, length, Option, None, Some}
 use Prim.Native.Char.{code}
 use mathlib.Core.List.{List, [], ◌∷◌, map, drop_last}
-use Rattle.std.proofs.Math.Option.{Option, none, some}
 use Rattle.spec_limits.specs.Limits.{max_tag_octets}
 use Rattle.spec_octets.specs.Lists.{all, is_empty, ends}
 use Rattle.spec_octets.specs.Octets.{between, is_digit, is_letter_or_digit, is_blank, trim_start}
@@ -43,9 +42,9 @@ written_octet class = do
   cond (eqb x backslash) escape (given (class x) (plain x))
 
 abbrev pub values : Items WrittenOctet → Option (List ℕ)
-values (whole us) = some (map value_of us)
-values (broken k) = none
-values over = none
+values (whole us) = Some (map value_of us)
+values (broken k) = None
+values over = None
 
 -- The value of a sequence of written octets; none if s is not such a sequence.
 unfoldable pub unescaped : (ℕ → Bool) → List ℕ → Option (List ℕ)
@@ -60,28 +59,28 @@ is_bare x = between 33 126 x && not (eqb x quote || eqb x backslash || eqb x (co
 
 -- A value between two quotes, which are its first and last octet; or a bare value, which is not empty.
 unfoldable pub line_value : List ℕ → Option (List ℕ)
-line_value [] = none
+line_value [] = None
 line_value (x ∷ s) =
-    cond (eqb x quote) (cond (ends (eqb quote) s) (unescaped is_in_quotes (drop_last s)) none) (unescaped is_bare (x ∷ s))
+    cond (eqb x quote) (cond (ends (eqb quote) s) (unescaped is_in_quotes (drop_last s)) None) (unescaped is_bare (x ∷ s))
 
 -- A field up to the next white space, which is skipped.
 abbrev pub extend_field : ℕ → Option (List ℕ × List ℕ) → Option (List ℕ × List ℕ)
-extend_field x none = none
-extend_field x (some r) = some (x ∷ r.0, r.1)
+extend_field x None = None
+extend_field x (Some r) = Some (x ∷ r.0, r.1)
 
 abbrev pub field : Reader (List ℕ)
-field [] = none
-field (x ∷ s) = cond (is_blank x) (λ r. some ([], trim_start s)) (extend_field x) (field s)
+field [] = None
+field (x ∷ s) = cond (is_blank x) (λ r. Some ([], trim_start s)) (extend_field x) (field s)
 
 -- 1 to 255 letters and digits.
 unfoldable pub is_line_tag : List ℕ → Bool
 is_line_tag t = not (is_empty t) && leb (length t) max_tag_octets && all is_letter_or_digit t
 
 abbrev pub property_of : Option ℕ → List ℕ → Option (List ℕ) → Option Property
-property_of none t v = none
-property_of (some f) t none = none
-property_of (some f) t (some v) = cond (is_line_tag t) (some (record { flags = f; tag = t; value = v })) none
+property_of None t v = None
+property_of (Some f) t None = None
+property_of (Some f) t (Some v) = cond (is_line_tag t) (Some (record { flags = f; tag = t; value = v })) None
 
 -- Flags, white space, tag in the case of the line, white space, value.
 unfoldable pub read_line : List ℕ → Option Property
-read_line s = if_read none (field s) (λ f s₁. if_read none (field s₁) (λ t s₂. property_of (decimal_octet f) t (line_value s₂)))
+read_line s = if_read None (field s) (λ f s₁. if_read None (field s₁) (λ t s₂. property_of (decimal_octet f) t (line_value s₂)))

@@ -4,8 +4,3 @@
 use spec_refusal::Refusal;
 
 // The length of the output, which is at the start of the caller's buffer; or the refusal.
-#[derive(Clone, Copy)]
-pub enum LineAnswer {
-    Length(usize),
-    Refused(Refusal),
-}

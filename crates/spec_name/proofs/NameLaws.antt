@@ -1,11 +1,12 @@
 -- A name is read exactly where the octets begin with its wire form.
+use Rattle.std.proofs.lemmas.Option.{none-some}
+use Rattle.std.specs.Prelude.{Some}
 use Prim.Native.Nat.{ℕ, zero, suc, ◌≤◌, ◌<◌}
 use native.Mathlib.Nat.{not-suc-le-zero}
 use native.Mathlib.Omega.{arith}
 use mathlib.Core.Path.{◌≡◌, refl, sym, ◌∙◌}
 use mathlib.Core.Bool.{Bool, true, false, cond}
 use mathlib.Core.List.{List, [], ◌∷◌, ◌++◌, append-nil, append_assoc}
-use mathlib.Core.Option.{some, none-ne-some}
 use lib.Dec.{leb, eqb}
 use lib.ListN.{length, length-append}
 use borrow.Author.Tests.{leb-true, le-leb, eqb-true, eqb-false, ne_eqb}
@@ -29,11 +30,11 @@ abbrev Labels : ℕ → List ℕ → Name → List ℕ → Type 0
 Labels room s n rest = (s ≡ wire n ++ rest) × All GoodLabel n × (length n < room)
 
 abbrev LabelsRead : ℕ → Type 0
-LabelsRead room = (s : List ℕ) (n : Name) (rest : List ℕ) → labels room s ≡ some (n, rest) → Labels room s n rest
+LabelsRead room = (s : List ℕ) (n : Name) (rest : List ℕ) → labels room s ≡ Some (n, rest) → Labels room s n rest
 
 labels_read : (room : ℕ) → LabelsRead room
-labels_read zero s n rest h = absurd (none-ne-some _ h)
-labels_read (suc room) [] n rest h = absurd (none-ne-some _ h)
+labels_read zero s n rest h = absurd (none-some _ h)
+labels_read (suc room) [] n rest h = absurd (none-some _ h)
 labels_read (suc room) (x ∷ s) n rest h = go (eqb x 0) refl (leb x max_label_octets) refl (labels_read room) h
   where
     more : Reader Name
@@ -57,15 +58,15 @@ labels_read (suc room) (x ∷ s) n rest h = go (eqb x 0) refl (leb x max_label_o
 
     go :
         (z : Bool) → eqb x 0 ≡ z → (t : Bool) → leb x max_label_octets ≡ t → LabelsRead room →
-        cond z (pure []) (cond t more fault) s ≡ some (n, rest) → Labels (suc room) (x ∷ s) n rest
+        cond z (pure []) (cond t more fault) s ≡ Some (n, rest) → Labels (suc room) (x ∷ s) n rest
     go true e t f ih h = none_left (eqb-true _ _ e) ((pure_some [] n s rest).0 h)
     go false e true f ih h =
         let (l, mid, p, q) = (bind_some (octets x) _ s n rest).0 h in
         let (ls, end, r, w) = (bind_some (labels room) _ mid n rest).0 q in
         one_more_lem (eqb-false _ _ e) (leb-true _ _ f) ((octets_some x s l mid).0 p) (ih mid ls end r) ((pure_some (l ∷ ls) n end rest).0 w)
-    go false e false f ih h = absurd (none-ne-some _ h)
+    go false e false f ih h = absurd (none-some _ h)
 
-labels_stand : (room : ℕ) (n : Name) (rest : List ℕ) → All GoodLabel n → length n < room → labels room (wire n ++ rest) ≡ some (n, rest)
+labels_stand : (room : ℕ) (n : Name) (rest : List ℕ) → All GoodLabel n → length n < room → labels room (wire n ++ rest) ≡ Some (n, rest)
 labels_stand zero n rest g h = absurd (not-suc-le-zero h)
 labels_stand (suc room) [] rest g h = refl
 labels_stand (suc room) (l ∷ n) rest (all_cons g gs) h =
@@ -85,14 +86,14 @@ pub name_is_its_labels : NameIsItsLabels
 unfolding name
 name_is_its_labels s n rest = (read, stand)
   where
-    read : name s ≡ some (n, rest) → (s ≡ wire n ++ rest) × GoodName n
+    read : name s ≡ Some (n, rest) → (s ≡ wire n ++ rest) × GoodName n
     read h =
         let (m, mid, p, q) = (bind_some (labels max_name_octets) _ s n rest).0 h in
         let (fits, e, f) = (given_some (leb (length (wire m)) max_name_octets) m n mid rest).0 q in
         let (u, v, w) = labels_read max_name_octets s n rest (rw (e, f) at p) in
         (u, (v, rw e at (leb-true (length (wire m)) max_name_octets fits)))
 
-    stand : (s ≡ wire n ++ rest) × GoodName n → name s ≡ some (n, rest)
+    stand : (s ≡ wire n ++ rest) × GoodName n → name s ≡ Some (n, rest)
     stand h =
         let room : length n < max_name_octets = omega (arith, fewer_labels n) in
         rw (h.0, labels_stand max_name_octets n rest h.1.0 room, le-leb (length (wire n)) max_name_octets h.1.1)

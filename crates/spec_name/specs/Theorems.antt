@@ -1,6 +1,5 @@
 -- What the definitions of this crate mean. Each statement is proved under its name in proofs/.
-use Rattle.std.specs.Prelude.{ℕ, ◌<◌, ◌≡◌, ◌↔◌, ◌≢◌, true, false, List, [], ◌∷◌, ◌++◌, map, length, drop, get_or}
-use Rattle.std.proofs.Math.Option.{some}
+use Rattle.std.specs.Prelude.{ℕ, ◌<◌, ◌≡◌, ◌↔◌, ◌≢◌, true, false, List, [], ◌∷◌, ◌++◌, map, length, drop, get_or, Some}
 use Rattle.spec_octets.specs.Octets.{text, lowered, equal_ignoring_case}
 use Rattle.spec_name.specs.Names.{Name, wire, name, same_name, ancestors, GoodName}
 use Rattle.spec_name.specs.NameEdges.{name_edges}
@@ -12,7 +11,7 @@ WireExample =
 
 -- A name is read exactly where the octets begin with its wire form, and the name is valid.
 abbrev pub NameIsItsLabels : Type 0
-NameIsItsLabels = (s : List ℕ) (n : Name) (rest : List ℕ) → (name s ≡ some (n, rest)) ↔ ((s ≡ wire n ++ rest) × GoodName n)
+NameIsItsLabels = (s : List ℕ) (n : Name) (rest : List ℕ) → (name s ≡ Some (n, rest)) ↔ ((s ≡ wire n ++ rest) × GoodName n)
 
 -- Two names are equal exactly when their labels in lower case are the same lists; for valid names, exactly when their wire forms are equal
 -- ignoring case. So no name equals a proper prefix or suffix of its labels.

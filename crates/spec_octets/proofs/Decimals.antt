@@ -1,4 +1,6 @@
 -- An octet in decimal is 1 to 3 digits, not above 255.
+use Rattle.std.proofs.lemmas.Option.{none-some, same_Some}
+use Rattle.std.specs.Prelude.{None, Some}
 use Prim.Native.Nat.{ℕ, ◌+◌, ◌-◌, ◌*◌, ◌≤◌}
 use Prim.Native.Char.{code}
 use native.Mathlib.Omega.{arith}
@@ -6,7 +8,6 @@ use mathlib.Core.Path.{◌≡◌, refl}
 use mathlib.Core.Logic.{◌↔◌}
 use mathlib.Core.Bool.{Bool, true, false, cond, ◌&&◌, and-eq-true_iff}
 use mathlib.Core.List.{List, [], ◌∷◌, ◌++◌}
-use mathlib.Core.Option.{none, some, none-ne-some, some-injective}
 use lib.Dec.{leb}
 use lib.ListN.{length}
 use borrow.Author.Tests.{leb-true, le-leb}
@@ -25,9 +26,9 @@ from_last m x (y ∷ a) = from_last (m * 10 + (y - code "0")) x a
 pub last_place : LastPlace
 last_place = (refl, λ s x. value_snoc 0 s x, refl, λ s d. rw (from_last 0 (48 + d) s) (omega arith))
 
-chosen : (t : Bool) (m n : ℕ) → (cond t (some m) none ≡ some n) ↔ ((t ≡ true) × (m ≡ n))
-chosen true m n = (λ e. (refl, some-injective m n e), λ h. rw h.1)
-chosen false m n = (λ e. absurd (none-ne-some n e), λ h. let e = h.0 in cc)
+chosen : (t : Bool) (m n : ℕ) → (cond t (Some m) None ≡ Some n) ↔ ((t ≡ true) × (m ≡ n))
+chosen true m n = (λ e. (refl, same_Some m n e), λ h. rw h.1)
+chosen false m n = (λ e. absurd (none-some n e), λ h. let e = h.0 in cc)
 
 pub decimal_octets : DecimalOctets
 unfolding decimal_octet

@@ -1,9 +1,9 @@
 -- Reading several fields in a row: each begins where the one before it ends.
+use Rattle.std.specs.Prelude.{Some}
 use Prim.Native.Nat.{ℕ, ◌^◌, ◌<◌}
 use mathlib.Core.Path.{◌≡◌, subst, subst₂}
 use mathlib.Core.Bool.{Bool, true}
 use mathlib.Core.List.{List, ◌++◌}
-use mathlib.Core.Option.{some}
 use lib.ListN.{length}
 use Rattle.spec_octets.specs.Octets.{Octets}
 use Rattle.spec_octets.specs.Reader.{Reader, given, ◌>>=◌, octets, number, in_octets}
@@ -30,8 +30,8 @@ module _ {A B : Type 0} (field : Field A) (f : A → Reader B) {s : List ℕ} (o
   octets_behind a mid front = All-rest (field.wire a) mid (subst Octets front o)
 
   pub then_read :
-      {C : Type 0} {b : B} {rest : List ℕ} → (field.read >>= f) s ≡ some (b, rest) →
-      ((a : A) (mid : List ℕ) → Octets mid → s ≡ field.wire a ++ mid → field.Good a → f a mid ≡ some (b, rest) → C) → C
+      {C : Type 0} {b : B} {rest : List ℕ} → (field.read >>= f) s ≡ Some (b, rest) →
+      ((a : A) (mid : List ℕ) → Octets mid → s ≡ field.wire a ++ mid → field.Good a → f a mid ≡ Some (b, rest) → C) → C
   then_read {b} {rest} h next =
       let (a, mid, e, r) = (bind_some field.read f s b rest).0 h in
       let (front, good) = (field.reads s o a mid).0 e in
@@ -39,12 +39,12 @@ module _ {A B : Type 0} (field : Field A) (f : A → Reader B) {s : List ℕ} (o
 
   pub then_stand :
       {b : B} {rest : List ℕ} {a : A} {mid : List ℕ} → s ≡ field.wire a ++ mid → field.Good a →
-      (Octets mid → f a mid ≡ some (b, rest)) → (field.read >>= f) s ≡ some (b, rest)
+      (Octets mid → f a mid ≡ Some (b, rest)) → (field.read >>= f) s ≡ Some (b, rest)
   then_stand {b} {rest} {a} {mid} front good next =
       (bind_some field.read f s b rest).1 (a, mid, (field.reads s o a mid).1 (front, good), next (octets_behind a mid front))
 
 -- the last step: what holds of the value found holds of the value handed out
 pub given_read :
     {A : Type 0} (P : A → List ℕ → Type 0) {t : Bool} {a b : A} {s rest : List ℕ} →
-    given t a s ≡ some (b, rest) → (t ≡ true → P a s) → P b rest
+    given t a s ≡ Some (b, rest) → (t ≡ true → P a s) → P b rest
 given_read P {t} {a} {b} {s} {rest} h k = let (e, p, q) = (given_some t a b s rest).0 h in subst₂ P p q (k e)

@@ -1,10 +1,11 @@
 -- When a sequence of items is read completely, when item k of it is malformed, and when it has too many items.
+use Rattle.std.proofs.lemmas.Option.{none-some}
+use Rattle.std.specs.Prelude.{Option, None, Some}
 use Prim.Native.Nat.{ℕ, zero, suc, ◌+◌, ◌-◌, ◌≤◌, ◌<◌}
 use native.Mathlib.Omega.{arith}
 use mathlib.Core.Path.{◌≡◌, refl, sym, ap, ◌∙◌}
 use mathlib.Core.Logic.{◌↔◌, ◌≢◌}
 use mathlib.Core.List.{List, [], ◌∷◌, ◌++◌, map, foldr, append-nil, append_assoc, append-eq-nil_iff, cons≢nil}
-use mathlib.Core.Option.{Option, none, some, none-ne-some}
 use lib.ListN.{length, length-append}
 use Rattle.spec_octets.specs.Lists.{All, all_nil, all_cons, flatten}
 use Rattle.spec_octets.specs.Octets.{Octets}
@@ -36,7 +37,7 @@ module _ {A : Type 0} (read : Reader A) where
     pub rest : List ℕ
     pub others : List A
     pub room_left : room ≡ suc fewer
-    pub found : read s ≡ some (item, rest)
+    pub found : read s ≡ Some (item, rest)
     pub follows : items read fewer rest ≡ whole others
     pub split : xs ≡ item ∷ others
 
@@ -46,15 +47,15 @@ module _ {A : Type 0} (read : Reader A) where
   one_more_lem (suc room) [] xs n e = absurd (n refl)
   one_more_lem (suc room) (x ∷ s) xs n e = go (read (x ∷ s)) refl e
     where
-      more : (a : A) (rest : List ℕ) → read (x ∷ s) ≡ some (a, rest) → (i : Items A) → items read room rest ≡ i → follow a i ≡ whole xs → OneMore (suc room) (x ∷ s) xs
+      more : (a : A) (rest : List ℕ) → read (x ∷ s) ≡ Some (a, rest) → (i : Items A) → items read room rest ≡ i → follow a i ≡ whole xs → OneMore (suc room) (x ∷ s) xs
       more a rest h (whole ys) f e =
           record { fewer = room; item = a; rest = rest; others = ys; room_left = refl; found = h; follows = f; split = cc }
       more a rest h (broken k) f e = let z : ◌≡◌ {A = ℕ} 0 1 = cc in absurd (omega arith)
       more a rest h over f e = let z : ◌≡◌ {A = ℕ} 0 1 = cc in absurd (omega arith)
 
       go : (r : Option (A × List ℕ)) → read (x ∷ s) ≡ r → before r (λ t. items read room t) ≡ whole xs → OneMore (suc room) (x ∷ s) xs
-      go none h e = let z : ◌≡◌ {A = ℕ} 0 1 = cc in absurd (omega arith)
-      go (some r) h e = more r.0 r.1 h (items read room r.1) refl e
+      go None h e = let z : ◌≡◌ {A = ℕ} 0 1 = cc in absurd (omega arith)
+      go (Some r) h e = more r.0 r.1 h (items read room r.1) refl e
 
 module _ {A : Type 0} where
   follow_whole : (xs : List A) → foldr follow (whole []) xs ≡ whole xs
@@ -94,7 +95,7 @@ module _ {A : Type 0} (wire : A → List ℕ) (Good : A → Type 0) where
   -- the reader reads so the lists that are fit, as what is left of a fit list is again: lists of octets, or all lists
   module _
       (Fit : List ℕ → Type 0) (rests : (a b : List ℕ) → Fit (a ++ b) → Fit b) (read : Reader A)
-      (reads : (s : List ℕ) → Fit s → (a : A) (rest : List ℕ) → (read s ≡ some (a, rest)) ↔ ((s ≡ wire a ++ rest) × Good a)) where
+      (reads : (s : List ℕ) → Fit s → (a : A) (rest : List ℕ) → (read s ≡ Some (a, rest)) ↔ ((s ≡ wire a ++ rest) × Good a)) where
     items_say : (room : ℕ) (s : List ℕ) → Fit s → Says room s (items read room s)
     items_say zero [] o = (refl, all_nil, omega arith)
     items_say zero (x ∷ s) o = ([], x ∷ s, (refl, all_nil), refl, cons≢nil)
@@ -104,21 +105,21 @@ module _ {A : Type 0} (wire : A → List ℕ) (Good : A → Type 0) where
         go :
             (r : Option (A × List ℕ)) → read (x ∷ s) ≡ r → ((t : List ℕ) → Fit t → Says room t (items read room t)) →
             Says (suc room) (x ∷ s) (before r (items read room))
-        go none e say = (
+        go None e say = (
           omega arith,
-          ([], x ∷ s, (refl, all_nil), refl, cons≢nil, λ a more f g. none-ne-some _ (sym e ∙ (reads (x ∷ s) o a more).1 (f, g))),
+          ([], x ∷ s, (refl, all_nil), refl, cons≢nil, λ a more f g. none-some _ (sym e ∙ (reads (x ∷ s) o a more).1 (f, g))),
         )
-        go (some r) e say =
+        go (Some r) e say =
             let g = (reads (x ∷ s) o r.0 r.1).0 e in
             says_more room r.0 (x ∷ s) r.1 g (items read room r.1) (say r.1 (rests (wire r.0) r.1 (rw g.0 at o)))
 
     -- where no good item stands, nothing is read
-    unread : (s : List ℕ) → Fit s → ((a : A) (more : List ℕ) → s ≡ wire a ++ more → Good a → ⊥) → read s ≡ none
+    unread : (s : List ℕ) → Fit s → ((a : A) (more : List ℕ) → s ≡ wire a ++ more → Good a → ⊥) → read s ≡ None
     unread s o bad = go (read s) refl
       where
-        go : (r : Option (A × List ℕ)) → read s ≡ r → read s ≡ none
-        go none e = e
-        go (some r) e = let (f, g) = (reads s o r.0 r.1).0 e in absurd (bad r.0 r.1 f g)
+        go : (r : Option (A × List ℕ)) → read s ≡ r → read s ≡ None
+        go None e = e
+        go (Some r) e = let (f, g) = (reads s o r.0 r.1).0 e in absurd (bad r.0 r.1 f g)
 
     module _ (full : (a : A) → wire a ≢ []) where
       -- good items at the front are read
@@ -164,7 +165,7 @@ module _ {A : Type 0} (wire : A → List ℕ) (Good : A → Type 0) (full : (a :
 
   pub items_whole :
       (read : Reader A) →
-      ((s : List ℕ) (a : A) (rest : List ℕ) → (read s ≡ some (a, rest)) ↔ ((s ≡ wire a ++ rest) × Good a)) →
+      ((s : List ℕ) (a : A) (rest : List ℕ) → (read s ≡ Some (a, rest)) ↔ ((s ≡ wire a ++ rest) × Good a)) →
       (s : List ℕ) (xs : List A) → (items read (length s) s ≡ whole xs) ↔ ((s ≡ flatten (map wire xs)) × All Good xs)
   items_whole read reads s xs =
       let law = items_tell wire Good (λ s. Unit {0}) (λ a b h. tt) read (λ s h. reads s) full (length s) s tt (whole xs) in

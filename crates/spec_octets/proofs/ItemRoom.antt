@@ -1,8 +1,8 @@
 -- The number of items, and the number of a malformed item, are within the maximum, for any octets.
+use Rattle.std.specs.Prelude.{Option, None, Some}
 use Prim.Native.Nat.{ℕ, zero, suc, ◌≤◌, ◌<◌}
 use native.Mathlib.Omega.{arith}
 use mathlib.Core.List.{List, [], ◌∷◌}
-use mathlib.Core.Option.{Option, none, some}
 use lib.ListN.{length}
 use Rattle.spec_octets.specs.Reader.{Reader}
 use Rattle.spec_octets.specs.Items.{Items, whole, broken, over, follow, before, whole_items, items}
@@ -25,8 +25,8 @@ module _ {A : Type 0} where
   items_within read (suc room) (x ∷ s) = go (read (x ∷ s)) (items_within read room)
     where
       go : (o : Option (A × List ℕ)) → ((t : List ℕ) → Within room (items read room t)) → Within (suc room) (before o (items read room))
-      go none ih = omega arith
-      go (some r) ih = within_more room r.0 (items read room r.1) (ih r.1)
+      go None ih = omega arith
+      go (Some r) ih = within_more room r.0 (items read room r.1) (ih r.1)
 
   pub whole_within : (room : ℕ) (i : Items A) → Within room i → length (whole_items i) ≤ room
   whole_within room (whole xs) h = h

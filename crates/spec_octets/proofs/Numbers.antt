@@ -1,10 +1,10 @@
 -- A number of k octets is read exactly where it is written in network byte order.
+use Rattle.std.specs.Prelude.{Some}
 use Prim.Native.Nat.{ℕ, zero, suc, ◌+◌, ◌*◌, ◌/◌, ◌%◌, ◌^◌, ◌<◌}
 use native.Mathlib.Omega.{arith}
 use native.Mathlib.Nat.{pow-suc}
 use mathlib.Core.Path.{◌≡◌, refl, sym, subst, ◌∙◌}
 use mathlib.Core.List.{List, [], ◌∷◌, ◌++◌}
-use mathlib.Core.Option.{some}
 use lib.ListN.{length, take, get_or, length-append}
 use lib.Seq.{take_all, take-suc, length-take-le}
 use Rattle.spec_octets.specs.Lists.{all_nil, all_cons}
@@ -75,14 +75,14 @@ numbers_high_octet_first k s o n rest =
     value : List ℕ → Reader ℕ
     value a = pure (value_from 0 a)
 
-    found : (a mid : List ℕ) → octets k s ≡ some (a, mid) → value a mid ≡ some (n, rest) → (s ≡ in_octets k n ++ rest) × (n < 256 ^ k)
+    found : (a mid : List ℕ) → octets k s ≡ Some (a, mid) → value a mid ≡ Some (n, rest) → (s ≡ in_octets k n ++ rest) × (n < 256 ^ k)
     found a mid taken h =
         let (front, l) = (octets_some k s a mid).0 taken in
         let (v, r) = (pure_some (value_from 0 a) n mid rest).0 h in
         let (w, small) = written k a l (All-front a mid (rw front at o)) in
         (rw (← v, ← r, ← w) front, rw (← v) small)
 
-    stands : s ≡ in_octets k n ++ rest → n < 256 ^ k → number k s ≡ some (n, rest)
+    stands : s ≡ in_octets k n ++ rest → n < 256 ^ k → number k s ≡ Some (n, rest)
     stands e small =
         (bind_some (octets k) value s n rest).1
         (in_octets k n, rest, (octets_some k s _ rest).1 (e, length_in_octets k n), (pure_some _ n rest rest).1 (value_in_octets k n small, refl))

@@ -1,4 +1,6 @@
 -- Octets and numbers read at an offset of a slice: what is read is a part of the slice, and reading continues after it.
+use Rattle.std.proofs.lemmas.Option.{none-some}
+use Rattle.std.specs.Prelude.{Option, Some, None}
 use Prim.Native.Nat.{ℕ, suc, ◌≤◌, ◌+◌, ◌*◌, ◌-◌}
 use native.Mathlib.Numerals.{add-one}
 use native.Mathlib.Omega.{arith}
@@ -6,7 +8,6 @@ use mathlib.Core.Path.{◌≡◌, refl}
 use mathlib.Core.Logic.{◌↔◌}
 use mathlib.Core.Bool.{Bool, true, false, cond}
 use mathlib.Core.List.{List}
-use mathlib.Core.Option.{Option, some, none, none-ne-some}
 use lib.Dec.{leb}
 use lib.ListN.{length, take, drop, get_or, length-drop}
 use lib.Seq.{drop-cons, drop-drop}
@@ -16,27 +17,27 @@ use Rattle.spec_octets.specs.Reader.{Reader, pure, and_then, ◌>>=◌, octets, 
 module _ {B : Type 0} (n : ℕ) (s : List ℕ) (at next : ℕ) (e : next ≡ at + n) {b : B} {rest : List ℕ} where
   pub octets_then :
       (f : List ℕ → Reader B) →
-      ((octets n >>= f) (drop at s) ≡ some (b, rest)) ↔ ((n ≤ length s - at) × (f (take n (drop at s)) (drop next s) ≡ some (b, rest)))
+      ((octets n >>= f) (drop at s) ≡ Some (b, rest)) ↔ ((n ≤ length s - at) × (f (take n (drop at s)) (drop next s) ≡ Some (b, rest)))
   octets_then f =
       rw (e, ← drop-drop n at s, ← length-drop at s)
       (λ h. found (leb n (length (drop at s))) refl h, λ h. rw (le-leb n (length (drop at s)) h.0) h.1)
     where
       found :
           (t : Bool) → leb n (length (drop at s)) ≡ t →
-          and_then (cond {A = Option (List ℕ × List ℕ)} t (some (take n (drop at s), drop n (drop at s))) none) f ≡ some (b, rest) →
-          (n ≤ length (drop at s)) × (f (take n (drop at s)) (drop n (drop at s)) ≡ some (b, rest))
+          and_then (cond {A = Option (List ℕ × List ℕ)} t (Some (take n (drop at s), drop n (drop at s))) None) f ≡ Some (b, rest) →
+          (n ≤ length (drop at s)) × (f (take n (drop at s)) (drop n (drop at s)) ≡ Some (b, rest))
       found true l h = (leb-true n (length (drop at s)) l, h)
-      found false l h = absurd (none-ne-some _ h)
+      found false l h = absurd (none-some _ h)
 
   pub number_then :
       (f : ℕ → Reader B) →
-      ((number n >>= f) (drop at s) ≡ some (b, rest)) ↔ ((n ≤ length s - at) × (f (value_from 0 (take n (drop at s))) (drop next s) ≡ some (b, rest)))
+      ((number n >>= f) (drop at s) ≡ Some (b, rest)) ↔ ((n ≤ length s - at) × (f (value_from 0 (take n (drop at s))) (drop next s) ≡ Some (b, rest)))
   unfolding number
   number_then f = rw (value (octets n (drop at s))) (octets_then (λ a. f (value_from 0 a)))
     where
       value : (o : Option (List ℕ × List ℕ)) → and_then (and_then o (λ a. pure (value_from 0 a))) f ≡ and_then o (λ a. f (value_from 0 a))
-      value none = refl
-      value (some r) = refl
+      value None = refl
+      value (Some r) = refl
 
 -- the value of two octets
 pub two_octets_at :

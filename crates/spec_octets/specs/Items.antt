@@ -1,6 +1,5 @@
 -- A sequence of items without separators: the names of a request, the records of a book.
-use Rattle.std.specs.Prelude.{ℕ, zero, suc, ◌≡◌, ◌≢◌, List, [], ◌∷◌, ◌++◌, map, length}
-use Rattle.std.proofs.Math.Option.{Option, none, some}
+use Rattle.std.specs.Prelude.{ℕ, zero, suc, ◌≡◌, ◌≢◌, List, [], ◌∷◌, ◌++◌, map, length, Option, None, Some}
 use Rattle.spec_octets.specs.Lists.{All, flatten}
 use Rattle.spec_octets.specs.Reader.{Reader}
 
@@ -21,8 +20,8 @@ module _ {A : Type 0} where
   follow a over = over
 
   abbrev pub before : Option (A × List ℕ) → (List ℕ → Items A) → Items A
-  before none rest = broken 0
-  before (some r) rest = follow r.0 (rest r.1)
+  before None rest = broken 0
+  before (Some r) rest = follow r.0 (rest r.1)
 
   -- The items; none if one is malformed or there are too many.
   abbrev pub whole_items : Items A → List A
@@ -32,9 +31,9 @@ module _ {A : Type 0} where
 
   -- The refusal, if any: `bad k` if item k is malformed, `many` if there are too many.
   abbrev pub item_fault : {R : Type 0} → (ℕ → R) → R → Items A → Option R
-  item_fault bad many (whole xs) = none
-  item_fault bad many (broken k) = some (bad k)
-  item_fault bad many over = some many
+  item_fault bad many (whole xs) = None
+  item_fault bad many (broken k) = Some (bad k)
+  item_fault bad many over = Some many
 
 module _ {A : Type 0} (read : Reader A) where
   -- Reads at most `room` items, one after the other, as long as octets are left.

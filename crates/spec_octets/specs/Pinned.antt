@@ -1,9 +1,8 @@
 -- Equations that restate a definition, so that it can't change unnoticed. Each is proved under its name in proofs/.
-use Rattle.std.specs.Prelude.{ℕ, ◌<◌, ◌≤◌, ◌↔◌, ◌⊎◌, List, map, [], ◌∷◌, ◌++◌, ◌≡◌, length, drop}
+use Rattle.std.specs.Prelude.{ℕ, ◌<◌, ◌≤◌, ◌↔◌, ◌⊎◌, List, map, [], ◌∷◌, ◌++◌, ◌≡◌, length, drop, Some}
 use Rattle.spec_octets.specs.Lists.{All}
 use Rattle.spec_octets.specs.Octets.{Octets, lower, lowered, hyphen}
 use Rattle.spec_octets.specs.Pieces.{join}
-use Rattle.std.proofs.Math.Option.{some}
 use Rattle.spec_octets.specs.Reader.{remainder}
 use Rattle.spec_octets.specs.Grammar.{Production, optional}
 use Rattle.spec_octets.specs.Buffer.{filled, filled_length}
@@ -27,7 +26,7 @@ JoinForm =
 
 -- `remainder` reads everything and leaves nothing.
 abbrev pub RemainderWhole : Type 0
-RemainderWhole = (s : List ℕ) → remainder s ≡ some (s, [])
+RemainderWhole = (s : List ℕ) → remainder s ≡ Some (s, [])
 
 -- An optional production matches the empty text, and what the production itself matches.
 abbrev pub OptionalForm : Type 1

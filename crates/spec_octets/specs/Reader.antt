@@ -1,6 +1,5 @@
 -- Readers. A reader takes a value off the front of the octets and returns it with the remaining octets, or it fails.
-use Rattle.std.specs.Prelude.{ℕ, zero, suc, ◌+◌, ◌-◌, ◌*◌, ◌/◌, ◌%◌, Bool, cond, List, [], ◌∷◌, ◌++◌, leb, length, take, drop}
-use Rattle.std.proofs.Math.Option.{Option, none, some}
+use Rattle.std.specs.Prelude.{ℕ, zero, suc, ◌+◌, ◌-◌, ◌*◌, ◌/◌, ◌%◌, Bool, cond, List, [], ◌∷◌, ◌++◌, leb, length, take, drop, Option, None, Some}
 
 infixl 20 ◌>>=◌
 abbrev pub Reader : Type 0 → Type 0
@@ -8,10 +7,10 @@ Reader A = List ℕ → Option (A × List ℕ)
 
 module _ {A : Type 0} where
   abbrev pub pure : A → Reader A
-  pure a s = some (a, s)
+  pure a s = Some (a, s)
 
   abbrev pub fault : Reader A
-  fault s = none
+  fault s = None
 
   -- Returns a if the test passes; fails otherwise.
   abbrev pub given : Bool → A → Reader A
@@ -20,28 +19,28 @@ module _ {A : Type 0} where
 module _ {A B : Type 0} where
   -- Applies f to the value read and the remaining octets; b if the reader failed.
   abbrev pub if_read : B → Option (A × List ℕ) → (A → List ℕ → B) → B
-  if_read b none f = b
-  if_read b (some r) f = f r.0 r.1
+  if_read b None f = b
+  if_read b (Some r) f = f r.0 r.1
 
 module _ {A B : Type 0} where
   abbrev pub and_then : Option (A × List ℕ) → (A → Reader B) → Option (B × List ℕ)
-  and_then o f = if_read none o f
+  and_then o f = if_read None o f
 
   -- Runs p, then f on what p returned. This is what `do` stands for.
   abbrev pub ◌>>=◌ : Reader A → (A → Reader B) → Reader B
   ◌>>=◌ p f s = and_then (p s) f
 
 abbrev pub octet : Reader ℕ
-octet [] = none
-octet (x ∷ s) = some (x, s)
+octet [] = None
+octet (x ∷ s) = Some (x, s)
 
 -- The next n octets.
 abbrev pub octets : ℕ → Reader (List ℕ)
-octets n s = cond (leb n (length s)) (some (take n s, drop n s)) none
+octets n s = cond (leb n (length s)) (Some (take n s, drop n s)) None
 
 -- All remaining octets.
 abbrev pub remainder : Reader (List ℕ)
-remainder s = some (s, [])
+remainder s = Some (s, [])
 
 -- Network byte order (RFC 1035 section 2.3.2): "All numbers have the high octet first".
 abbrev pub value_from : ℕ → List ℕ → ℕ

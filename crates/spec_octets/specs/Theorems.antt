@@ -1,9 +1,8 @@
 -- What the definitions of this crate mean. Each statement is proved under its name in proofs/.
-use Rattle.std.specs.Prelude.{ℕ, ◌+◌, ◌*◌, ◌^◌, ◌≤◌, ◌<◌, ◌≡◌, ◌↔◌, ◌≢◌, ◌⊎◌, Bool, true, false, eqb, length}
+use Rattle.std.specs.Prelude.{ℕ, ◌+◌, ◌*◌, ◌^◌, ◌≤◌, ◌<◌, ◌≡◌, ◌↔◌, ◌≢◌, ◌⊎◌, Bool, true, false, eqb, length, None, Some}
 use Prim.Native.Char.{Char, code}
 use Prim.Native.String.{String}
 use mathlib.Core.List.{List, [], ◌∷◌, ◌++◌, map, Memᴰ}
-use Rattle.std.proofs.Math.Option.{none, some}
 use Rattle.spec_octets.specs.Lists.{any, all, select, is_empty, begins, ends, flatten, All, Selects, Distinct}
 use Rattle.spec_octets.specs.Octets.{Octets, text, is_digit, is_letter_or_digit, is_blank, trim_start, trim_end, is_parameter_octet, lower, lowered, equal_ignoring_case}
 use Rattle.spec_octets.specs.TextEdges.{text_edges}
@@ -102,7 +101,7 @@ PiecesExample = split (code ".") (text "ca1.example.net") ≡ text "ca1" ∷ tex
 abbrev pub NumbersHighOctetFirst : Type 0
 NumbersHighOctetFirst =
     (k : ℕ) (s : List ℕ) → Octets s → (n : ℕ) (rest : List ℕ) →
-    (number k s ≡ some (n, rest)) ↔ ((s ≡ in_octets k n ++ rest) × (n < 256 ^ k))
+    (number k s ≡ Some (n, rest)) ↔ ((s ≡ in_octets k n ++ rest) × (n < 256 ^ k))
 
 -- A number that fits in k octets is written in k octets, and these have its value.
 abbrev pub NumbersWritten : Type 0
@@ -119,7 +118,7 @@ LastPlace =
 abbrev pub DecimalOctets : Type 0
 DecimalOctets =
     (s : List ℕ) (n : ℕ) →
-    (decimal_octet s ≡ some n)
+    (decimal_octet s ≡ Some n)
     ↔ ((1 ≤ length s) × (length s ≤ 3) × All (λ x. is_digit x ≡ true) s × (decimal_from 0 s ≡ n) × (n ≤ 255))
 
 -- `decimal n` is digits with the value n. It has no leading zero, except that 0 itself is written 0.
@@ -138,16 +137,16 @@ ThreeDigits =
 abbrev pub ItemFaults : Type 1
 ItemFaults =
     (A R : Type 0) (bad : ℕ → R) (many : R) (i : Items A) →
-    ((xs : List A) → i ≡ whole xs → (whole_items i ≡ xs) × (item_fault bad many i ≡ none))
-    × ((k : ℕ) → i ≡ broken k → (whole_items i ≡ []) × (item_fault bad many i ≡ some (bad k)))
-    × (i ≡ over → (whole_items i ≡ []) × (item_fault bad many i ≡ some many))
+    ((xs : List A) → i ≡ whole xs → (whole_items i ≡ xs) × (item_fault bad many i ≡ None))
+    × ((k : ℕ) → i ≡ broken k → (whole_items i ≡ []) × (item_fault bad many i ≡ Some (bad k)))
+    × (i ≡ over → (whole_items i ≡ []) × (item_fault bad many i ≡ Some many))
 
 module _ {A : Type 0} (read : Reader A) (wire : A → List ℕ) (Good : A → Type 0) where
   -- The reader returns a exactly where the octets begin with the octets of a, and a is valid.
   abbrev pub Reads : Type 0
   Reads =
       (s : List ℕ) → Octets s → (a : A) (rest : List ℕ) →
-      (read s ≡ some (a, rest)) ↔ ((s ≡ wire a ++ rest) × Good a)
+      (read s ≡ Some (a, rest)) ↔ ((s ≡ wire a ++ rest) × Good a)
 
   abbrev pub ItemsAreRead : Type 0
   ItemsAreRead =

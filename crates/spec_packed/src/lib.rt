@@ -7,6 +7,7 @@ ghost use Rattle.spec_packed.specs.Packed.{packed, packed_refusal};
 use spec_refusal::{Refusal, number_of, place_of};
 
 // Bits 0 to 7 hold the number, and three fields follow: a in bits 8 to 31, b in 32 to 47, c in 48 to 63.
+#[tactic(auto, unfolding(crate::specs::Packed::packed))]
 pub fn pack(number: u64, a: u64, b: u64, c: u64) -> u64
     ensures { result ≡ packed number a b c }
 {
@@ -14,6 +15,7 @@ pub fn pack(number: u64, a: u64, b: u64, c: u64) -> u64
 }
 
 // A refusal: its number, and its place in a.
+#[tactic(auto, unfolding(crate::specs::Packed::packed_refusal))]
 pub fn pack_refusal(r: Refusal) -> u64
     ensures { result ≡ packed_refusal r }
 {

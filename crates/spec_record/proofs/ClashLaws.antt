@@ -1,11 +1,12 @@
 -- The first record that clashes with one before it.
+use Rattle.std.proofs.lemmas.Option.{same_Some, none-some}
+use Rattle.std.specs.Prelude.{Option, None, Some}
 use Prim.Native.Nat.{ℕ, suc, ◌+◌, ◌<◌}
 use native.Mathlib.Omega.{arith}
 use mathlib.Core.Path.{◌≡◌, refl, sym, ap, ◌∙◌}
 use mathlib.Core.Logic.{◌↔◌, ◌⊎◌, inl, inr, ⊎_elim}
 use mathlib.Core.Bool.{Bool, true, false, cond, ◌&&◌, ◌||◌, and-eq-true_iff, false≢true}
 use mathlib.Core.List.{List, [], ◌∷◌, ◌++◌, nil≢cons, cons≢nil, head-eq_of_cons-eq, tail-eq_of_cons-eq}
-use mathlib.Core.Option.{Option, none, some, some-injective, none-ne-some}
 use lib.ListN.{length}
 use Rattle.spec_octets.specs.Lists.{any, Any, any_here, any_there}
 use Rattle.spec_octets.proofs.ListLaws.{or_eq_true, true_or_false}
@@ -116,8 +117,8 @@ module _ (before : List Record) (r : Record) (rs : List Record) where
 
 -- what `clash_from` finds
 abbrev Finds : ℕ → (ℕ → Type 0) → Option ℕ → Type 0
-Finds k H none = (j : ℕ) → H j → ⊥
-Finds k H (some n) = (j : ℕ) × (n ≡ k + j) × H j × ((i : ℕ) → i < j → H i → ⊥)
+Finds k H None = (j : ℕ) → H j → ⊥
+Finds k H (Some n) = (j : ℕ) × (n ≡ k + j) × H j × ((i : ℕ) → i < j → H i → ⊥)
 
 finds : (k : ℕ) (before rs : List Record) → Finds k (Hit before rs) (clash_from k before rs)
 finds k before [] = λ j h. nothing h.0 h.1 h.2 h.3
@@ -130,10 +131,10 @@ finds k before (r ∷ rs) =
   where
     go :
         (t : Bool) → (t ≡ true) ↔ Any (Clash r) before → (o : Option ℕ) → Finds (suc k) (Hit (r ∷ before) rs) o →
-        Finds k (Hit before (r ∷ rs)) (cond t (some k) o)
+        Finds k (Hit before (r ∷ rs)) (cond t (Some k) o)
     go true law o rest = (0, omega arith, ([], r, rs, refl, refl, inr (law.0 refl)), λ i l h. omega arith)
-    go false law none rest = λ j h. ⊎_elim (λ a. false≢true (law.1 a.1)) (λ a. rest a.0 a.2) (hit_parts before r rs j h)
-    go false law (some n) (j, e, hit, lowest) = (
+    go false law None rest = λ j h. ⊎_elim (λ a. false≢true (law.1 a.1)) (λ a. rest a.0 a.2) (hit_parts before r rs j h)
+    go false law (Some n) (j, e, hit, lowest) = (
       suc j,
       omega arith,
       hit_later before r rs j hit,
@@ -147,25 +148,25 @@ hit_is rs k = (
 )
 
 module _ (rs : List Record) where
-  pub clash_none : (clash_from 0 [] rs ≡ none) ↔ ((k : ℕ) → ClashAt rs k → ⊥)
+  pub clash_none : (clash_from 0 [] rs ≡ None) ↔ ((k : ℕ) → ClashAt rs k → ⊥)
   clash_none = (λ e k c. (rw e at (finds 0 [] rs)) k ((hit_is rs k).1 c), λ free. go (clash_from 0 [] rs) (finds 0 [] rs) free)
     where
-      go : (o : Option ℕ) → Finds 0 (Hit [] rs) o → ((k : ℕ) → ClashAt rs k → ⊥) → o ≡ none
-      go none f free = refl
-      go (some n) f free = absurd (free f.0 ((hit_is rs f.0).0 f.2))
+      go : (o : Option ℕ) → Finds 0 (Hit [] rs) o → ((k : ℕ) → ClashAt rs k → ⊥) → o ≡ None
+      go None f free = refl
+      go (Some n) f free = absurd (free f.0 ((hit_is rs f.0).0 f.2))
 
-  pub clash_some : (k : ℕ) → (clash_from 0 [] rs ≡ some k) ↔ (ClashAt rs k × ((j : ℕ) → j < k → ClashAt rs j → ⊥))
+  pub clash_some : (k : ℕ) → (clash_from 0 [] rs ≡ Some k) ↔ (ClashAt rs k × ((j : ℕ) → j < k → ClashAt rs j → ⊥))
   clash_some k = (told (clash_from 0 [] rs) (finds 0 [] rs), λ h. found (clash_from 0 [] rs) (finds 0 [] rs) h.0 h.1)
     where
-      told : (o : Option ℕ) → Finds 0 (Hit [] rs) o → o ≡ some k → ClashAt rs k × ((j : ℕ) → j < k → ClashAt rs j → ⊥)
-      told none f e = absurd (none-ne-some _ e)
-      told (some n) (j, l, h, lowest) e =
-          let same : j ≡ k = omega (arith, some-injective _ _ e) in
+      told : (o : Option ℕ) → Finds 0 (Hit [] rs) o → o ≡ Some k → ClashAt rs k × ((j : ℕ) → j < k → ClashAt rs j → ⊥)
+      told None f e = absurd (none-some _ e)
+      told (Some n) (j, l, h, lowest) e =
+          let same : j ≡ k = omega (arith, same_Some _ _ e) in
           (rw same at ((hit_is rs j).0 h), λ i less c. lowest i (omega arith) ((hit_is rs i).1 c))
 
-      found : (o : Option ℕ) → Finds 0 (Hit [] rs) o → ClashAt rs k → ((j : ℕ) → j < k → ClashAt rs j → ⊥) → o ≡ some k
-      found none f c lowest = absurd (f k ((hit_is rs k).1 c))
-      found (some n) (j, l, h, low) c lowest =
+      found : (o : Option ℕ) → Finds 0 (Hit [] rs) o → ClashAt rs k → ((j : ℕ) → j < k → ClashAt rs j → ⊥) → o ≡ Some k
+      found None f c lowest = absurd (f k ((hit_is rs k).1 c))
+      found (Some n) (j, l, h, low) c lowest =
           let least : j < k → ⊥ = λ less. lowest j less ((hit_is rs j).0 h) in
           let first : k < j → ⊥ = λ less. low k less ((hit_is rs k).1 c) in
-          ap some (omega arith)
+          ap Some (omega arith)

@@ -1,11 +1,11 @@
 -- The first record that clashes, by any test that is right for a record where none before it clashes: for code that goes by record numbers.
+use Rattle.std.specs.Prelude.{Option, None, Some}
 use Prim.Native.Nat.{ℕ, suc}
 use native.Mathlib.Omega.{arith}
 use mathlib.Core.Path.{◌≡◌, refl, sym, ap, ap₂, ◌∙◌}
 use mathlib.Core.Logic.{◌⊎◌, inl, inr, ⊎_elim}
 use mathlib.Core.Bool.{Bool, true, false, cond, ◌&&◌, ◌||◌, false≢true}
 use mathlib.Core.List.{List, [], ◌∷◌, ◌++◌, append_assoc, nil≢cons, head-eq_of_cons-eq, tail-eq_of_cons-eq}
-use mathlib.Core.Option.{Option, none, some}
 use lib.ListN.{length, length-append}
 use Rattle.spec_octets.specs.Lists.{any}
 use Rattle.spec_octets.proofs.SelectTests.{any_behind}
@@ -41,8 +41,8 @@ free_more front r free none-of-them k (before, q, after, e, l, h) = ⊎_elim new
     old (mid, f) = free k (before, q, mid, f, l, h)
 
 -- `find k n` is the first of n numbers from k on that passes the test
-module _ (rs : List Record) (test : ℕ → Bool) (find : ℕ → ℕ → Option ℕ) (at_end : (k : ℕ) → find k 0 ≡ none)
-    (at_next : (k n : ℕ) → find k (suc n) ≡ cond (test k) (some k) (find (suc k) n))
+module _ (rs : List Record) (test : ℕ → Bool) (find : ℕ → ℕ → Option ℕ) (at_end : (k : ℕ) → find k 0 ≡ None)
+    (at_next : (k n : ℕ) → find k (suc n) ≡ cond (test k) (Some k) (find (suc k) n))
     (right : (before : List Record) (r : Record) (after : List Record) → rs ≡ before ++ (r ∷ after) → ClashFree before → test (length before) ≡ clashes r before) where
   from : (rest front before : List Record) (k : ℕ) → rs ≡ front ++ rest → length front ≡ k → ((t : Record → Bool) → any t before ≡ any t front) →
       ClashFree front → clash_from k before rest ≡ find k (length rest)
@@ -60,7 +60,7 @@ module _ (rs : List Record) (test : ℕ → Bool) (find : ℕ → ℕ → Option
           (t : Bool) → clashes r front ≡ t →
           (rs ≡ (front ++ (r ∷ [])) ++ rest → length (front ++ (r ∷ [])) ≡ suc k → ((t : Record → Bool) → any t (r ∷ before) ≡ any t (front ++ (r ∷ []))) →
           ClashFree (front ++ (r ∷ [])) → clash_from (suc k) (r ∷ before) rest ≡ find (suc k) (length rest)) →
-          cond (clashes r before) (some k) (clash_from (suc k) (r ∷ before) rest) ≡ cond (test k) (some k) (find (suc k) (length rest))
+          cond (clashes r before) (Some k) (clash_from (suc k) (r ∷ before) rest) ≡ cond (test k) (Some k) (find (suc k) (length rest))
       go true f later = rw (seen, asked, f)
       go false f later =
           rw (seen, asked, f)

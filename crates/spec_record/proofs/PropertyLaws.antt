@@ -1,4 +1,6 @@
 -- CAA data holds a property exactly when it is its wire form; the critical bit; the known tags in upper and lower case.
+use Rattle.std.proofs.lemmas.Option.{same_Some, none-some}
+use Rattle.std.specs.Prelude.{Option, None, Some}
 use Prim.Native.Nat.{ℕ, ◌≤◌, ◌/◌, ◌%◌}
 use Prim.Native.String.{String}
 use native.Mathlib.Omega.{arith}
@@ -6,7 +8,6 @@ use mathlib.Core.Path.{◌≡◌, refl, sym, ap, ◌∙◌}
 use mathlib.Core.Logic.{◌≢◌}
 use mathlib.Core.Bool.{Bool, true, false, cond, true≢false}
 use mathlib.Core.List.{List, [], ◌∷◌, ◌++◌}
-use mathlib.Core.Option.{Option, none, some, some-injective, none-ne-some}
 use lib.Dec.{leb}
 use lib.ListN.{length}
 use borrow.Author.Tests.{leb-true, le-leb, eqb-true, eq-eqb}
@@ -21,9 +22,9 @@ use Rattle.spec_record.specs.Pinned.{PropertyForm}
 use Rattle.spec_record.specs.Theorems.{PropertyIsItsParts, CriticalBit, KnownTags, UnknownTags}
 
 -- what is left of the data after its property is empty, and `found` leaves it out
-found_some : (o : Option (Property × List ℕ)) (p : Property) → found o ≡ some p → (rest : List ℕ) × (o ≡ some (p, rest))
-found_some none p h = absurd (none-ne-some _ h)
-found_some (some r) p h = (r.1, (pure_some r.0 p r.1 r.1).1 (some-injective _ _ h, refl))
+found_some : (o : Option (Property × List ℕ)) (p : Property) → found o ≡ Some p → (rest : List ℕ) × (o ≡ Some (p, rest))
+found_some None p h = absurd (none-some _ h)
+found_some (Some r) p h = (r.1, (pure_some r.0 p r.1 r.1).1 (same_Some _ _ h, refl))
 
 pub property_form : PropertyForm
 property_form p = refl
@@ -41,7 +42,7 @@ property_is_its_parts d p = (read, stand)
     parts f n t s₁ s₂ s₃ rest first second third last =
         rw (first, second, third.0, ← last.1, third.1) (refl, leb-true 1 n last.0)
 
-    read : property d ≡ some p → Parts
+    read : property d ≡ Some p → Parts
     read h =
         let (rest, r) = found_some (read_property d) p h in
         let (f, s₁, h₁, r₁) = (bind_some octet _ d p rest).0 r in
@@ -50,7 +51,7 @@ property_is_its_parts d p = (read, stand)
         parts f n t s₁ s₂ s₃ rest ((octet_some d f s₁).0 h₁) ((octet_some s₁ n s₂).0 h₂) ((octets_some n s₂ t s₃).0 h₃)
         ((given_some (leb 1 n) _ p [] rest).0 r₃)
 
-    stand : Parts → property d ≡ some p
+    stand : Parts → property d ≡ Some p
     stand h =
         rw (h.0, (octets_some (length p.tag) (p.tag ++ p.value) p.tag p.value).1 (refl, refl), le-leb 1 (length p.tag) h.1)
 

@@ -1,4 +1,5 @@
 -- A resource record is read exactly where the octets begin with its fields in order.
+use Rattle.std.specs.Prelude.{Option, None, Some}
 use Prim.Native.Nat.{ℕ}
 use native.Mathlib.Omega.{arith}
 use mathlib.Core.Path.{◌≡◌, refl, ◌∙◌}
@@ -6,7 +7,6 @@ use mathlib.Core.Logic.Iff
 use mathlib.Core.Logic.{◌↔◌}
 use mathlib.Core.Bool.{Bool, true, false, not, ◌||◌, and-eq-true_iff, false≢true}
 use mathlib.Core.List.{List, ◌++◌, append_assoc}
-use mathlib.Core.Option.{Option, none, some}
 use lib.ListN.{length}
 use Rattle.spec_octets.specs.Reader.{in_octets}
 use Rattle.spec_octets.proofs.ListLaws.{all_true}
@@ -22,16 +22,16 @@ use Rattle.spec_record.proofs.PropertyLaws.{property_is_its_parts}
 use Rattle.spec_record.proofs.AliasLaws.{target_is_its_name}
 use Rattle.spec_record.proofs.KindLaws.{caa_exactly, alias_exactly}
 
-pub caa_data : (d : List ℕ) → is_caa_data (property d) ≡ true → (p : Property) × (property d ≡ some p) × (is_caa_data (some p) ≡ true)
+pub caa_data : (d : List ℕ) → is_caa_data (property d) ≡ true → (p : Property) × (property d ≡ Some p) × (is_caa_data (Some p) ≡ true)
 caa_data d = go (property d)
   where
-    go : (o : Option Property) → is_caa_data o ≡ true → (p : Property) × (o ≡ some p) × (is_caa_data (some p) ≡ true)
-    go none e = absurd (false≢true e)
-    go (some p) e = (p, refl, e)
+    go : (o : Option Property) → is_caa_data o ≡ true → (p : Property) × (o ≡ Some p) × (is_caa_data (Some p) ≡ true)
+    go None e = absurd (false≢true e)
+    go (Some p) e = (p, refl, e)
 
-some_there : {A : Type 0} (o : Option A) → is_some o ≡ true → (a : A) × (o ≡ some a)
-some_there none e = absurd (false≢true e)
-some_there (some a) e = (a, refl)
+some_there : {A : Type 0} (o : Option A) → is_some o ≡ true → (a : A) × (o ≡ Some a)
+some_there None e = absurd (false≢true e)
+some_there (Some a) e = (a, refl)
 
 -- one clause of the data rule: `t` tests type and class, `good` the data
 clause : {T C G : Type 0} (t good : Bool) → (t ≡ true) ↔ (T × C) → (good ≡ true) ↔ G → (not t || good ≡ true) ↔ (T → C → G)
@@ -74,7 +74,7 @@ record_is_its_fields s o r rest = (read, stand)
     Stands : Record → List ℕ → Type 0
     Stands r rest = (s ≡ wire_record r ++ rest) × GoodRecord r
 
-    read : resource_record s ≡ some (r, rest) → Stands r rest
+    read : resource_record s ≡ Some (r, rest) → Stands r rest
     read h =
         then_read name_field _ o h (λ owner s₁ o₁ e₁ g₁ h₁.
         then_read (number_field_lem 2) _ o₁ h₁ (λ type s₂ o₂ e₂ g₂ h₂.
@@ -87,7 +87,7 @@ record_is_its_fields s o r rest = (read, stand)
           (g₁, g₂, g₃, g₄, omega arith, (laid_out type class d).0 t),
         ))))))))
 
-    stand : Stands r rest → resource_record s ≡ some (r, rest)
+    stand : Stands r rest → resource_record s ≡ Some (r, rest)
     stand h =
         let (front, good) = h in
         let (g₁, g₂, g₃, g₄, g₅, g₆) = good in

@@ -1,16 +1,15 @@
 -- Books as octets, each with the refusal that the requirements state, or none.
-use Rattle.std.specs.Prelude.{ℕ, ◌-◌, ◌/◌, ◌%◌, List, [], ◌∷◌, ◌++◌, length, replicate}
-use Rattle.std.proofs.Math.Option.{Option, none, some}
+use Rattle.std.specs.Prelude.{ℕ, ◌-◌, ◌/◌, ◌%◌, List, [], ◌∷◌, ◌++◌, length, replicate, Option, None, Some}
 use Rattle.spec_refusal.specs.declared.Refusal.{Refusal}
 use Rattle.spec_refusal.specs.declared.Refusal.TheVariants.{BookTooLong, BadRecord, TooManyRecords, AliasConflict}
 use Rattle.spec_octets.specs.Lists.{flatten}
 use Rattle.spec_octets.specs.Octets.{text}
 
 abbrev pub bad_record : ℕ → Option Refusal
-bad_record k = some (BadRecord (record { 0 = k }))
+bad_record k = Some (BadRecord (record { 0 = k }))
 
 abbrev pub conflict : ℕ → Option Refusal
-conflict k = some (AliasConflict (record { 0 = k }))
+conflict k = Some (AliasConflict (record { 0 = k }))
 
 -- A record with the owner `a`: the two octets of its type, its class, the data length field, and the data.
 abbrev pub record_octets : ℕ → ℕ → ℕ → ℕ → List ℕ → List ℕ
@@ -74,9 +73,9 @@ of_octets n = (0 ∷ 0 ∷ 1 ∷ 0 ∷ 1 ∷ 0 ∷ 0 ∷ 0 ∷ 0 ∷ (n - 11) / 
 abbrev pub book_edges : List (List ℕ × Option Refusal)
 book_edges =
     -- No record; CAA data of flags, tag length, tag and value; CAA data without a value.
-    ([], none)
-    ∷ (caa_octets (0 ∷ 5 ∷ text "issueca1.example.net"), none)
-    ∷ (caa_octets (255 ∷ 1 ∷ text "t"), none)
+    ([], None)
+    ∷ (caa_octets (0 ∷ 5 ∷ text "issueca1.example.net"), None)
+    ∷ (caa_octets (255 ∷ 1 ∷ text "t"), None)
     -- Fewer than 2 octets, an empty tag, a tag longer than the data.
     ∷ (caa_octets [], bad_record 0)
     ∷ (caa_octets (0 ∷ []), bad_record 0)
@@ -102,23 +101,23 @@ book_edges =
     ∷ (caa_octets (0 ∷ 3 ∷ 116 ∷ 128 ∷ 115 ∷ []), bad_record 0)
     ∷ (caa_octets (0 ∷ 3 ∷ 116 ∷ 255 ∷ 115 ∷ []), bad_record 0)
     -- Letters in upper and lower case, digits; any octets in a value, and the first octet behind the tag.
-    ∷ (caa_octets (128 ∷ 3 ∷ text "T0Z"), none)
-    ∷ (caa_octets (0 ∷ 6 ∷ text "09AZaz"), none)
-    ∷ (caa_octets (0 ∷ 5 ∷ text "issueca_1-\t"), none)
-    ∷ (caa_octets (0 ∷ 1 ∷ text "t_"), none)
+    ∷ (caa_octets (128 ∷ 3 ∷ text "T0Z"), None)
+    ∷ (caa_octets (0 ∷ 6 ∷ text "09AZaz"), None)
+    ∷ (caa_octets (0 ∷ 5 ∷ text "issueca_1-\t"), None)
+    ∷ (caa_octets (0 ∷ 1 ∷ text "t_"), None)
     ∷ (caa_octets (0 ∷ 2 ∷ text "t_"), bad_record 0)
     -- Such a tag of the root; in a record of another class, and of another type, where it is no tag.
     ∷ (root_octets (0 ∷ 4 ∷ text "tb_s"), bad_record 0)
-    ∷ (root_octets (0 ∷ 3 ∷ text "tbs"), none)
-    ∷ (chaos_octets (128 ∷ 4 ∷ text "tb_s"), none)
-    ∷ (address_octets (128 ∷ 4 ∷ text "tb_s"), none)
+    ∷ (root_octets (0 ∷ 3 ∷ text "tbs"), None)
+    ∷ (chaos_octets (128 ∷ 4 ∷ text "tb_s"), None)
+    ∷ (address_octets (128 ∷ 4 ∷ text "tb_s"), None)
     -- Records other than CAA may hold any data, and they count in the record number.
-    ∷ (address_octets [], none)
-    ∷ (chaos_octets (0 ∷ []), none)
+    ∷ (address_octets [], None)
+    ∷ (chaos_octets (0 ∷ []), None)
     ∷ (address_octets [] ++ chaos_octets [] ++ caa_octets (0 ∷ []), bad_record 2)
     -- Owners: the root, any octets, a length octet above 63, a compression pointer, one that is cut off.
-    ∷ (0 ∷ 0 ∷ 1 ∷ 0 ∷ 1 ∷ 0 ∷ 0 ∷ 0 ∷ 0 ∷ 0 ∷ 0 ∷ [], none)
-    ∷ (2 ∷ 255 ∷ 46 ∷ 0 ∷ 0 ∷ 1 ∷ 0 ∷ 1 ∷ 0 ∷ 0 ∷ 0 ∷ 0 ∷ 0 ∷ 0 ∷ [], none)
+    ∷ (0 ∷ 0 ∷ 1 ∷ 0 ∷ 1 ∷ 0 ∷ 0 ∷ 0 ∷ 0 ∷ 0 ∷ 0 ∷ [], None)
+    ∷ (2 ∷ 255 ∷ 46 ∷ 0 ∷ 0 ∷ 1 ∷ 0 ∷ 1 ∷ 0 ∷ 0 ∷ 0 ∷ 0 ∷ 0 ∷ 0 ∷ [], None)
     ∷ (64 ∷ [], bad_record 0)
     ∷ (192 ∷ 12 ∷ 0 ∷ 1 ∷ 0 ∷ 1 ∷ 0 ∷ 0 ∷ 0 ∷ 0 ∷ 0 ∷ 0 ∷ [], bad_record 0)
     ∷ (1 ∷ 97 ∷ [], bad_record 0)
@@ -133,12 +132,12 @@ book_edges =
     ∷ (caa_octets (0 ∷ 1 ∷ text "t") ++ caa_octets (0 ∷ 4 ∷ text "tb_s") ++ (1 ∷ 97 ∷ []), bad_record 1)
     ∷ (caa_octets (0 ∷ 4 ∷ text "tb_s") ++ caa_octets (0 ∷ []), bad_record 0)
     -- Alias data: a name, the root, any octets, a name in upper case; labels of 63 and 64 octets; names of 255 and 256 octets.
-    ∷ (alias_data (1 ∷ 98 ∷ 0 ∷ []), none)
-    ∷ (alias_data (0 ∷ []), none)
-    ∷ (alias_data (3 ∷ 255 ∷ 46 ∷ 0 ∷ 1 ∷ 66 ∷ 0 ∷ []), none)
-    ∷ (alias_data (label_of 63 ++ (0 ∷ [])), none)
+    ∷ (alias_data (1 ∷ 98 ∷ 0 ∷ []), None)
+    ∷ (alias_data (0 ∷ []), None)
+    ∷ (alias_data (3 ∷ 255 ∷ 46 ∷ 0 ∷ 1 ∷ 66 ∷ 0 ∷ []), None)
+    ∷ (alias_data (label_of 63 ++ (0 ∷ [])), None)
     ∷ (alias_data (label_of 64 ++ (0 ∷ [])), bad_record 0)
-    ∷ (alias_data (label_of 63 ++ label_of 63 ++ label_of 63 ++ label_of 61 ++ (0 ∷ [])), none)
+    ∷ (alias_data (label_of 63 ++ label_of 63 ++ label_of 63 ++ label_of 61 ++ (0 ∷ [])), None)
     ∷ (alias_data (label_of 63 ++ label_of 63 ++ label_of 63 ++ label_of 62 ++ (0 ∷ [])), bad_record 0)
     -- Alias data that is empty, cut off, or has an octet behind the name; a compression pointer, alone and behind a label.
     ∷ (alias_data [], bad_record 0)
@@ -149,11 +148,11 @@ book_edges =
     ∷ (alias_data (192 ∷ 12 ∷ []), bad_record 0)
     ∷ (alias_data (1 ∷ 98 ∷ 192 ∷ 12 ∷ []), bad_record 0)
     -- Types 4, 6 and 39 and type 5 of class 3 may hold any data. A type is read from both octets.
-    ∷ (owned_octets a 0 4 1 [], none)
-    ∷ (owned_octets a 0 6 1 [], none)
-    ∷ (owned_octets a 0 39 1 [], none)
-    ∷ (owned_octets a 0 5 3 [], none)
-    ∷ (owned_octets a 1 5 1 [], none)
+    ∷ (owned_octets a 0 4 1 [], None)
+    ∷ (owned_octets a 0 6 1 [], None)
+    ∷ (owned_octets a 0 39 1 [], None)
+    ∷ (owned_octets a 0 5 3 [], None)
+    ∷ (owned_octets a 1 5 1 [], None)
     -- The first fault is reported, whether of an alias or of a CAA record.
     ∷ (alias_of a ++ address_octets [] ++ alias_data [] ++ caa_octets [], bad_record 2)
     -- Conflicts: CAA record and alias, in both orders; two aliases, with the same target or not. Two CAA records are none.
@@ -161,25 +160,25 @@ book_edges =
     ∷ (alias_of a ++ caa_of a, conflict 1)
     ∷ (alias_of a ++ alias_of a, conflict 1)
     ∷ (alias_of a ++ alias_data (1 ∷ 98 ∷ 0 ∷ []), conflict 1)
-    ∷ (caa_of a ++ caa_of a, none)
+    ∷ (caa_of a ++ caa_of a, None)
     -- Owners that differ in letter case are one owner, and so is the root. Any other owner is another one.
     ∷ (alias_of a ++ caa_of capital_a, conflict 1)
     ∷ (alias_of root ++ caa_of root, conflict 1)
     ∷ (alias_of root ++ alias_of root, conflict 1)
-    ∷ (alias_of a ++ caa_of b, none)
-    ∷ (alias_of a ++ alias_of b, none)
-    ∷ (alias_of a ++ caa_of below ++ caa_of root, none)
-    ∷ (caa_of a ++ alias_of below ++ alias_of root, none)
+    ∷ (alias_of a ++ caa_of b, None)
+    ∷ (alias_of a ++ alias_of b, None)
+    ∷ (alias_of a ++ caa_of below ++ caa_of root, None)
+    ∷ (caa_of a ++ alias_of below ++ alias_of root, None)
     -- An alias whose target has a CAA record or is its own owner.
-    ∷ (alias_data b ++ caa_of b, none)
-    ∷ (alias_data a, none)
+    ∷ (alias_data b ++ caa_of b, None)
+    ∷ (alias_data a, None)
     -- Records of other types, and of other classes, beside an alias and beside a CAA record.
-    ∷ (alias_of a ++ address_octets [], none)
-    ∷ (address_octets [] ++ alias_of a, none)
-    ∷ (caa_of a ++ owned_octets a 0 5 3 b ++ owned_octets a 0 5 3 b, none)
-    ∷ (alias_of a ++ owned_octets a 0 5 3 b, none)
-    ∷ (alias_of a ++ chaos_octets (0 ∷ 1 ∷ text "t"), none)
-    ∷ (alias_of a ++ owned_octets a 0 39 1 b, none)
+    ∷ (alias_of a ++ address_octets [], None)
+    ∷ (address_octets [] ++ alias_of a, None)
+    ∷ (caa_of a ++ owned_octets a 0 5 3 b ++ owned_octets a 0 5 3 b, None)
+    ∷ (alias_of a ++ owned_octets a 0 5 3 b, None)
+    ∷ (alias_of a ++ chaos_octets (0 ∷ 1 ∷ text "t"), None)
+    ∷ (alias_of a ++ owned_octets a 0 39 1 b, None)
     -- The number of the later record, the lowest such. All records count.
     ∷ (caa_of a ++ caa_of a ++ alias_of a, conflict 2)
     ∷ (address_octets [] ++ alias_of a ++ alias_of b ++ caa_of a, conflict 3)
@@ -189,21 +188,21 @@ book_edges =
     ∷ (caa_of a ++ alias_of a ++ (1 ∷ 97 ∷ []), bad_record 2)
     ∷ (caa_of a ++ alias_of a ++ alias_data [], bad_record 2)
     ∷ (caa_of a ++ alias_of a ++ caa_octets [], bad_record 2)
-    ∷ (caa_of a ++ alias_of a ++ records 1023, some TooManyRecords)
+    ∷ (caa_of a ++ alias_of a ++ records 1023, Some TooManyRecords)
     ∷ (caa_of a ++ records 1022 ++ alias_of a, conflict 1023)
-    ∷ (caa_of a ++ alias_of a ++ of_octets 49121, some BookTooLong)
+    ∷ (caa_of a ++ alias_of a ++ of_octets 49121, Some BookTooLong)
     ∷ (caa_of a ++ alias_of a ++ of_octets 49120, conflict 1)
     -- 1,024 records, and any octets after them. A malformed 1,024th record. 256 and 257 records are within the limit.
-    ∷ (records 1024, none)
-    ∷ (records 1025, some TooManyRecords)
-    ∷ (records 1024 ++ (64 ∷ []), some TooManyRecords)
+    ∷ (records 1024, None)
+    ∷ (records 1025, Some TooManyRecords)
+    ∷ (records 1024 ++ (64 ∷ []), Some TooManyRecords)
     ∷ (records 1023 ++ (64 ∷ []), bad_record 1023)
-    ∷ (records 256, none)
-    ∷ (records 257, none)
+    ∷ (records 256, None)
+    ∷ (records 257, None)
     -- 49,152 octets, and one more: one record of the root that fills the book. 32,768 and 32,769 octets are within the limit.
-    ∷ (of_octets 49152, none)
-    ∷ (of_octets 49153, some BookTooLong)
+    ∷ (of_octets 49152, None)
+    ∷ (of_octets 49153, Some BookTooLong)
     ∷ (replicate 49152 255, bad_record 0)
-    ∷ (of_octets 32768, none)
-    ∷ (of_octets 32769, none)
+    ∷ (of_octets 32768, None)
+    ∷ (of_octets 32769, None)
     ∷ []

@@ -1,12 +1,11 @@
 -- Records of one kind, such as CAA records or aliases: those that a test of type and class accepts, each with what a reader makes of its data.
-use Rattle.std.specs.Prelude.{ℕ, suc, ◌≡◌, Bool, cond, List, [], ◌∷◌, ◌++◌}
-use Rattle.std.proofs.Math.Option.{Option, none, some}
+use Rattle.std.specs.Prelude.{ℕ, suc, ◌≡◌, Bool, cond, List, [], ◌∷◌, ◌++◌, Option, None, Some}
 use Rattle.spec_name.specs.Names.{Name}
 use Rattle.spec_record.specs.Records.{Record}
 
 abbrev pub kept : {A B : Type 0} → (A → B) → Option A → List B
-kept made none = []
-kept made (some a) = made a ∷ []
+kept made None = []
+kept made (Some a) = made a ∷ []
 
 -- "Records are numbered from 0 over the whole book". Records of other kinds are dropped after numbering. The first record has the number k.
 abbrev pub of_kind_from : {A B : Type 0} → (ℕ → ℕ → Bool) → (List ℕ → Option A) → (ℕ → Name → A → B) → ℕ → List Record → List B

@@ -1,6 +1,5 @@
 -- CAA data (RFC 8659 section 4.1): one property, with its flags, tag and value.
-use Rattle.std.specs.Prelude.{ℕ, ◌/◌, ◌%◌, Bool, cond, List, ◌∷◌, ◌++◌, leb, eqb, length}
-use Rattle.std.proofs.Math.Option.{Option, none, some}
+use Rattle.std.specs.Prelude.{ℕ, ◌/◌, ◌%◌, Bool, cond, List, ◌∷◌, ◌++◌, leb, eqb, length, Option, None, Some}
 use Rattle.spec_octets.specs.Octets.{text, equal_ignoring_case}
 use Rattle.spec_octets.specs.Reader.{Reader, given, ◌>>=◌, octet, octets, remainder}
 use Rattle.spec_record.specs.declared.PropertyTag.{PropertyTag}
@@ -26,8 +25,8 @@ read_property = do
 
 -- The property in CAA data; none if the data is malformed.
 abbrev pub found : Option (Property × List ℕ) → Option Property
-found none = none
-found (some r) = some r.0
+found None = None
+found (Some r) = Some r.0
 
 unfoldable pub property : List ℕ → Option Property
 property d = found (read_property d)

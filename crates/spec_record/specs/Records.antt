@@ -1,6 +1,5 @@
 -- Resource records (RFC 1035 section 3.2.1) without compression, and the records to decide by (the requirements' "book").
-use Rattle.std.specs.Prelude.{ℕ, suc, ◌≤◌, ◌<◌, ◌^◌, Bool, true, false, cond, not, ◌&&◌, ◌||◌, List, [], ◌∷◌, ◌++◌, eqb, ltb, length, ◌≡◌}
-use Rattle.std.proofs.Math.Option.{Option, none, some}
+use Rattle.std.specs.Prelude.{ℕ, suc, ◌≤◌, ◌<◌, ◌^◌, Bool, true, false, cond, not, ◌&&◌, ◌||◌, List, [], ◌∷◌, ◌++◌, eqb, ltb, length, ◌≡◌, Option, None, Some}
 use Rattle.spec_limits.specs.Limits.{max_book_octets, max_records}
 use Rattle.spec_refusal.specs.declared.Refusal.{Refusal}
 use Rattle.spec_refusal.specs.declared.Refusal.TheVariants.{BookTooLong, BadRecord, TooManyRecords, AliasConflict}
@@ -34,23 +33,23 @@ is_alias type class = eqb type 5 && eqb class 1
 
 -- The name that was read, if nothing is left after it.
 abbrev pub filling : Option (Name × List ℕ) → Option Name
-filling none = none
-filling (some (n, [])) = some n
-filling (some (n, x ∷ s)) = none
+filling None = None
+filling (Some (n, [])) = Some n
+filling (Some (n, x ∷ s)) = None
 
 -- The name that an alias stands for: one name that fills the data.
 unfoldable pub target : List ℕ → Option Name
 target d = filling (name d)
 
 abbrev pub is_some : {A : Type 0} → Option A → Bool
-is_some none = false
-is_some (some a) = true
+is_some None = false
+is_some (Some a) = true
 
 -- Whether CAA data is well formed: it holds a property, and its tag has no other octets than letters and digits. RFC 8659 section 4.1: "Tags
 -- MUST NOT contain any other characters"
 abbrev pub is_caa_data : Option Property → Bool
-is_caa_data none = false
-is_caa_data (some p) = all is_letter_or_digit p.tag
+is_caa_data None = false
+is_caa_data (Some p) = all is_letter_or_digit p.tag
 
 -- Whether data is well formed for its type and class, with a clause for each type that is checked. Other data may hold anything.
 unfoldable pub is_laid_out : ℕ → ℕ → List ℕ → Bool
@@ -78,7 +77,7 @@ abbrev pub record_refusal : Items Record → Option Refusal
 record_refusal i = item_fault (λ k. BadRecord (record { 0 = k })) TooManyRecords i
 
 unfoldable pub layout_refusal : List ℕ → Option Refusal
-layout_refusal b = cond (ltb max_book_octets (length b)) (some BookTooLong) (record_refusal (record_items b))
+layout_refusal b = cond (ltb max_book_octets (length b)) (Some BookTooLong) (record_refusal (record_items b))
 
 -- The records between which there can be a conflict: CAA records and aliases.
 abbrev pub counts : Record → Bool
@@ -93,21 +92,21 @@ clashes r before = counts r && any (λ p. counts p && clash r p) before
 
 -- The number of the first record that clashes with one before it. The records rs are numbered from k, and `before` are those before them.
 abbrev pub clash_from : ℕ → List Record → List Record → Option ℕ
-clash_from k before [] = none
-clash_from k before (r ∷ rs) = cond (clashes r before) (some k) (clash_from (suc k) (r ∷ before) rs)
+clash_from k before [] = None
+clash_from k before (r ∷ rs) = cond (clashes r before) (Some k) (clash_from (suc k) (r ∷ before) rs)
 
 -- Row 12: "the later record's number, the lowest such"
 abbrev pub conflict_at : Option ℕ → Option Refusal
-conflict_at none = none
-conflict_at (some k) = some (AliasConflict (record { 0 = k }))
+conflict_at None = None
+conflict_at (Some k) = Some (AliasConflict (record { 0 = k }))
 
 unfoldable pub conflict_refusal : List Record → Option Refusal
 conflict_refusal rs = conflict_at (clash_from 0 [] rs)
 
 -- The first of two checks, each a refusal or none.
 abbrev pub or_refusal : Option Refusal → Option Refusal → Option Refusal
-or_refusal none second = second
-or_refusal (some r) second = some r
+or_refusal None second = second
+or_refusal (Some r) second = Some r
 
 -- The refusal of a book; none if it is accepted. Row 12 is "found after 6 and 7".
 unfoldable pub book_refusal : List ℕ → Option Refusal

@@ -1,6 +1,5 @@
 -- What the definitions of this crate mean. Each statement is proved under its name in proofs/.
-use Rattle.std.specs.Prelude.{ℕ, ◌≤◌, ◌<◌, ◌≡◌, ◌↔◌, ◌≢◌, ◌⊎◌, Bool, true, List, [], ◌∷◌, ◌++◌, map, length}
-use Rattle.std.proofs.Math.Option.{Option, none, some}
+use Rattle.std.specs.Prelude.{ℕ, ◌≤◌, ◌<◌, ◌≡◌, ◌↔◌, ◌≢◌, ◌⊎◌, Bool, true, List, [], ◌∷◌, ◌++◌, map, length, Option, None, Some}
 use Rattle.spec_limits.specs.Limits.{max_book_octets, max_records}
 use Rattle.spec_refusal.specs.Refusal.{number}
 use Rattle.spec_refusal.specs.declared.Refusal.{Refusal}
@@ -18,7 +17,7 @@ use Rattle.spec_record.specs.Records.{Record, wire_record, is_caa, is_alias, tar
 
 -- Data holds a property exactly when it is the wire form of that property and the tag is not empty.
 abbrev pub PropertyIsItsParts : Type 0
-PropertyIsItsParts = (d : List ℕ) (p : Property) → (property d ≡ some p) ↔ ((d ≡ wire_property p) × (1 ≤ length p.tag))
+PropertyIsItsParts = (d : List ℕ) (p : Property) → (property d ≡ Some p) ↔ ((d ≡ wire_property p) × (1 ≤ length p.tag))
 
 -- A property is critical exactly when its flags are 128 to 255.
 abbrev pub CriticalBit : Type 0
@@ -38,7 +37,7 @@ UnknownTags =
 
 -- Data holds the target of an alias exactly when it is the wire form of that name, without any other octet, and the name is valid.
 abbrev pub TargetIsItsName : Type 0
-TargetIsItsName = (d : List ℕ) (t : Name) → (target d ≡ some t) ↔ ((d ≡ wire t) × GoodName t)
+TargetIsItsName = (d : List ℕ) (t : Name) → (target d ≡ Some t) ↔ ((d ≡ wire t) × GoodName t)
 
 -- A record octet by octet: owner; type 257, class 1, time to live 3600, data length 22; flags 128, tag length 5, tag and value.
 abbrev pub RecordExample : Type 0
@@ -61,7 +60,7 @@ RecordIsItsFields = Reads resource_record wire_record GoodRecord
 abbrev pub KindRecords : Type 1
 KindRecords =
     (A B : Type 0) (type class : ℕ) (is_of : ℕ → ℕ → Bool) (read : List ℕ → Option A) (Holds : List ℕ → A → Type 0) (made : ℕ → Name → A → B) →
-    ((t c : ℕ) → (is_of t c ≡ true) ↔ ((t ≡ type) × (c ≡ class))) → ((d : List ℕ) (a : A) → (read d ≡ some a) ↔ Holds d a) →
+    ((t c : ℕ) → (is_of t c ≡ true) ↔ ((t ≡ type) × (c ≡ class))) → ((d : List ℕ) (a : A) → (read d ≡ Some a) ↔ Holds d a) →
     (k : ℕ) (rs : List Record) → All (λ r. r.type ≡ type → r.class ≡ class → (a : A) × Holds r.rdata a) rs →
     OfKind type class Holds made k rs (of_kind_from is_of read made k rs)
 
@@ -106,7 +105,7 @@ ClashAt rs k =
 abbrev pub BookIsItsRecords : Type 0
 BookIsItsRecords =
     (b : List ℕ) → Octets b → (rs : List Record) →
-    ((book_refusal b ≡ none) × (records b ≡ rs))
+    ((book_refusal b ≡ None) × (records b ≡ rs))
     ↔ ((b ≡ flatten (map wire_record rs)) × All GoodRecord rs × (length rs ≤ max_records) × (length b ≤ max_book_octets)
     × ((k : ℕ) → ClashAt rs k → ⊥))
 
@@ -136,11 +135,11 @@ BookRow b r =
 abbrev pub BookRefusals : Type 0
 BookRefusals =
     (b : List ℕ) → Octets b →
-    ((book_refusal b ≡ some BookTooLong) ↔ Row5 b)
-    × ((k : ℕ) → (book_refusal b ≡ some (BadRecord (record { 0 = k }))) ↔ ((length b ≤ max_book_octets) × Row6 b k))
-    × ((book_refusal b ≡ some TooManyRecords) ↔ ((length b ≤ max_book_octets) × Row7 b))
-    × ((k : ℕ) → (book_refusal b ≡ some (AliasConflict (record { 0 = k }))) ↔ ((length b ≤ max_book_octets) × Row12 b k))
-    × ((r : Refusal) → book_refusal b ≡ some r → ((5 ≤ number r) × (number r ≤ 7)) ⊎ (number r ≡ 12))
+    ((book_refusal b ≡ Some BookTooLong) ↔ Row5 b)
+    × ((k : ℕ) → (book_refusal b ≡ Some (BadRecord (record { 0 = k }))) ↔ ((length b ≤ max_book_octets) × Row6 b k))
+    × ((book_refusal b ≡ Some TooManyRecords) ↔ ((length b ≤ max_book_octets) × Row7 b))
+    × ((k : ℕ) → (book_refusal b ≡ Some (AliasConflict (record { 0 = k }))) ↔ ((length b ≤ max_book_octets) × Row12 b k))
+    × ((r : Refusal) → book_refusal b ≡ Some r → ((5 ≤ number r) × (number r ≤ 7)) ⊎ (number r ≡ 12))
 
 -- The table BookEdges.antt.
 abbrev pub BookEdges : Type 0

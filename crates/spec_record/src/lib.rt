@@ -1,9 +1,8 @@
 // Resource records and CAA data: definitions and theorems.
-
-// The property tags that RFC 8659 defines; any other tag is unknown.
 #![tactic(auto)]
 
-#[derive(Clone, Copy)]
+// The property tags that RFC 8659 defines; any other tag is unknown.
+#[derive(Clone, Copy, PartialEq, Eq)]
 pub enum PropertyTag {
     Issue,
     IssueWild,

@@ -1,9 +1,7 @@
 -- The result of a check: refused with the refusal that applies to the input, accepted if there is none.
-use Rattle.std.proofs.Math.Option.{Option, none, some}
+use Rattle.std.specs.Prelude.{Option, None, Some, Result, Ok, Err}
 use Rattle.spec_refusal.specs.declared.Refusal.{Refusal}
-use Rattle.spec_refusal.specs.declared.Check.{Check}
-use Rattle.spec_refusal.specs.declared.Check.TheVariants.{Accepted, Refused}
 
-abbrev pub checked : Option Refusal → Check
-checked none = Accepted
-checked (some r) = Refused r
+abbrev pub checked : Option Refusal → Result Unit Refusal
+checked None = Ok tt
+checked (Some r) = Err r

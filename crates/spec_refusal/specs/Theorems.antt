@@ -1,12 +1,10 @@
 -- What the definitions of this crate mean. Each statement is proved under its name in proofs/.
-use Rattle.std.specs.Prelude.{ℕ, ◌≡◌, ◌↔◌, cond, List, [], ◌∷◌, ◌++◌, map, ltb, length}
-use Rattle.std.proofs.Math.Option.{Option, none, some}
+use Rattle.std.specs.Prelude.{ℕ, ◌≡◌, ◌↔◌, cond, List, [], ◌∷◌, ◌++◌, map, ltb, length, Option, None, Some, Ok, Err}
 use Rattle.spec_limits.specs.Limits.{max_names, max_records}
 use Rattle.spec_refusal.specs.declared.NameNo.{NameNo}
 use Rattle.spec_refusal.specs.declared.RecordNo.{RecordNo}
 use Rattle.spec_refusal.specs.declared.Refusal.{Refusal}
 use Rattle.spec_refusal.specs.declared.Refusal.TheVariants.{RequestTooLong, BadName, TooManyNames, BadIssuer, BookTooLong, BadRecord, TooManyRecords, NoRoom, BadLine, LineTooLong, BadData, AliasConflict, SessionEnded, BadAccountOrMethod}
-use Rattle.spec_refusal.specs.declared.Check.TheVariants.{Accepted, Refused}
 use Rattle.spec_refusal.specs.Refusal.{number, place}
 use Rattle.spec_refusal.specs.Order.{order, stands_at}
 use Rattle.spec_refusal.specs.Checks.{checked}
@@ -43,4 +41,4 @@ OrderPrinted =
 -- An input is accepted exactly when no refusal applies, and refused with the one that does.
 abbrev pub CheckedExactly : Type 0
 CheckedExactly =
-    (o : Option Refusal) → ((checked o ≡ Accepted) ↔ (o ≡ none)) × ((r : Refusal) → (checked o ≡ Refused r) ↔ (o ≡ some r))
+    (o : Option Refusal) → ((checked o ≡ (Ok tt)) ↔ (o ≡ None)) × ((r : Refusal) → (checked o ≡ Err r) ↔ (o ≡ Some r))

@@ -38,14 +38,8 @@ pub enum Refusal {
     BadAccountOrMethod,
 }
 
-// The result of checking an input.
-#[derive(Clone, Copy)]
-pub enum Check {
-    Accepted,
-    Refused(Refusal),
-}
-
 // The number of a refusal in the table.
+#[tactic(auto, unfolding(crate::specs::Refusal::number))]
 pub fn number_of(r: Refusal) -> u64
     ensures { result ≡ number r }
 {
@@ -68,23 +62,19 @@ pub fn number_of(r: Refusal) -> u64
 }
 
 // The place of a refusal: the number of a name or record, the octets needed, or 0.
+#[tactic(auto, unfolding(crate::specs::Refusal::place, spec_limits::specs::Limits::max_names, spec_limits::specs::Limits::max_records))]
 pub fn place_of(r: Refusal) -> usize
     ensures { result ≡ place r }
 {
     match r {
-        Refusal::RequestTooLong => 0,
         Refusal::BadName(k) => k.0,
-        Refusal::TooManyNames => MAX_NAMES,
-        Refusal::BadIssuer => 0,
-        Refusal::BookTooLong => 0,
-        Refusal::BadRecord(k) => k.0,
-        Refusal::TooManyRecords => MAX_RECORDS,
+        Refusal::BadRecord(k) | Refusal::AliasConflict(k) => k.0,
         Refusal::NoRoom(n) => n,
-        Refusal::BadLine => 0,
-        Refusal::LineTooLong => 0,
-        Refusal::BadData => 0,
-        Refusal::AliasConflict(k) => k.0,
-        Refusal::SessionEnded => 0,
-        Refusal::BadAccountOrMethod => 0,
+        Refusal::TooManyNames => MAX_NAMES,
+        Refusal::TooManyRecords => MAX_RECORDS,
+        Refusal::BadIssuer => 0,
+        Refusal::RequestTooLong | Refusal::BookTooLong => 0,
+        Refusal::BadLine | Refusal::LineTooLong | Refusal::BadData => 0,
+        Refusal::SessionEnded | Refusal::BadAccountOrMethod => 0,
     }
 }

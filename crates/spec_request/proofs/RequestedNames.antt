@@ -1,4 +1,5 @@
 -- Valid requested names: the forms X and *.X, and when such a name is read.
+use Rattle.std.specs.Prelude.{Some}
 use Prim.Native.Nat.{ℕ}
 use native.Mathlib.Omega.{arith}
 use mathlib.Core.Path.{◌≡◌, refl}
@@ -6,7 +7,6 @@ use mathlib.Core.Logic.Iff
 use mathlib.Core.Logic.{◌↔◌, ◌≢◌, ◌⊎◌, inl, inr}
 use mathlib.Core.Bool.{Bool, true, false, cond, not, false≢true, and-eq-true_iff}
 use mathlib.Core.List.{List, [], ◌∷◌, ◌++◌, cons≢nil}
-use mathlib.Core.Option.{some}
 use lib.ListN.{length-append}
 use Rattle.spec_octets.specs.Lists.{All, all, is_empty}
 use Rattle.spec_octets.specs.Octets.{text, is_upper, is_lower, is_digit, is_letter_or_digit}
@@ -78,10 +78,10 @@ requested_name_is_its_labels s o n rest = (read, stand)
     Stands : Name → List ℕ → Type 0
     Stands n rest = (s ≡ wire n ++ rest) × GoodRequested n
 
-    read : requested_name s ≡ some (n, rest) → Stands n rest
+    read : requested_name s ≡ Some (n, rest) → Stands n rest
     read h = then_read name_field _ o h (λ m mid o₁ front good h₁. given_read Stands h₁ (λ t. (front, (good, (requestable m).0 t))))
 
-    stand : Stands n rest → requested_name s ≡ some (n, rest)
+    stand : Stands n rest → requested_name s ≡ Some (n, rest)
     stand h =
         let (front, good) = h in
         then_stand name_field _ o front good.0 (λ o₁. (given_some _ n n rest rest).1 ((requestable n).1 good.1, refl, refl))

@@ -1,10 +1,10 @@
 -- A request is accepted with its names, or refused by one row of the table.
+use Rattle.std.specs.Prelude.{None, Some}
 use Prim.Native.Nat.{ℕ, ◌≤◌}
 use native.Mathlib.Omega.{arith}
 use mathlib.Core.Path.{◌≡◌, refl, ap, sym, ◌∙◌}
 use mathlib.Core.Logic.{◌↔◌, ◌⊎◌, inl, inr}
 use mathlib.Core.List.{List, [], ◌∷◌, map, cons≢nil}
-use mathlib.Core.Option.{none, some}
 use lib.ListN.{length}
 use Rattle.spec_limits.specs.Limits.{max_request_octets, max_names}
 use Rattle.spec_refusal.specs.Refusal.{number, place}
@@ -92,7 +92,7 @@ request_is_its_names s o ns = rw (asked_refusal s, asked_names s) (
   λ h. law.1 ((h.0, h.1, h.2, h.3), h.4),
 )
   where
-    law : ((refusal_of rows max_request_octets s (asked s) ≡ none) × (whole_items (asked s) ≡ ns)) ↔ (Names s ns × (length s ≤ max_request_octets))
+    law : ((refusal_of rows max_request_octets s (asked s) ≡ None) × (whole_items (asked s) ≡ ns)) ↔ (Names s ns × (length s ≤ max_request_octets))
     law = acceptance rows max_request_octets s (asked s) whole_items (λ ns. refl) (asked_whole s o) ns
 
 pub request_refusals : RequestRefusals
@@ -102,6 +102,6 @@ request_refusals s o =
 
 -- no other refusal is given
 pub request_faults :
-    (s : List ℕ) (r : Refusal) → request_refusal s ≡ some r →
+    (s : List ℕ) (r : Refusal) → request_refusal s ≡ Some r →
     (r ≡ RequestTooLong) ⊎ ((k : ℕ) × (r ≡ BadName (record { 0 = k }))) ⊎ (r ≡ TooManyNames)
 request_faults s r e = one_of_three rows max_request_octets s (asked s) r (sym (asked_refusal s) ∙ e)

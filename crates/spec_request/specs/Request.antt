@@ -1,6 +1,5 @@
 -- A request: the names to be certified, in wire form (RFC 1035 section 3.1), one after the other.
-use Rattle.std.specs.Prelude.{ℕ, Bool, false, cond, not, ◌&&◌, List, [], ◌∷◌, ltb, length, ◌≡◌, ◌≢◌, ◌⊎◌}
-use Rattle.std.proofs.Math.Option.{Option, some}
+use Rattle.std.specs.Prelude.{ℕ, Bool, false, cond, not, ◌&&◌, List, [], ◌∷◌, ltb, length, ◌≡◌, ◌≢◌, ◌⊎◌, Option, Some}
 use Rattle.spec_limits.specs.Limits.{max_request_octets, max_names}
 use Rattle.spec_refusal.specs.declared.Refusal.{Refusal}
 use Rattle.spec_refusal.specs.declared.Refusal.TheVariants.{RequestTooLong, BadName, TooManyNames}
@@ -46,8 +45,8 @@ name_refusal i = item_fault (λ k. BadName (record { 0 = k })) TooManyNames i
 
 unfoldable pub request_refusal : List ℕ → Option Refusal
 request_refusal s =
-    cond (ltb max_request_octets (length s)) (some RequestTooLong)
-    (cond (is_empty s) (some (BadName (record { 0 = 0 }))) (name_refusal (name_items s)))
+    cond (ltb max_request_octets (length s)) (Some RequestTooLong)
+    (cond (is_empty s) (Some (BadName (record { 0 = 0 }))) (name_refusal (name_items s)))
 
 -- A valid requested name: X or *.X, where X has one or more labels, each of 1 to 63 letters, digits and inner hyphens.
 abbrev pub GoodRequested : Name → Type 0

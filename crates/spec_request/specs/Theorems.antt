@@ -1,6 +1,5 @@
 -- What the definitions of this crate mean. Each statement is proved under its name in proofs/.
-use Rattle.std.specs.Prelude.{ℕ, ◌≤◌, ◌<◌, ◌≡◌, ◌↔◌, ◌≢◌, ◌⊎◌, true, false, List, [], ◌∷◌, map, length}
-use Rattle.std.proofs.Math.Option.{none, some}
+use Rattle.std.specs.Prelude.{ℕ, ◌≤◌, ◌<◌, ◌≡◌, ◌↔◌, ◌≢◌, ◌⊎◌, true, false, List, [], ◌∷◌, map, length, None, Some}
 use Rattle.spec_limits.specs.Limits.{max_request_octets, max_names}
 use Rattle.spec_refusal.specs.Refusal.{number}
 use Rattle.spec_refusal.specs.declared.Refusal.{Refusal}
@@ -28,7 +27,7 @@ RequestedNameIsItsLabels = Reads requested_name wire GoodRequested
 abbrev pub RequestIsItsNames : Type 0
 RequestIsItsNames =
     (s : List ℕ) → Octets s → (ns : List Name) →
-    ((request_refusal s ≡ none) × (requested_names s ≡ ns))
+    ((request_refusal s ≡ None) × (requested_names s ≡ ns))
     ↔ ((s ≡ flatten (map wire ns)) × All GoodRequested ns × (1 ≤ length ns) × (length ns ≤ max_names) × (length s ≤ max_request_octets))
 
 -- The rows of the requirements' table, each with its condition and its place, stated without the reader.
@@ -50,10 +49,10 @@ RequestRow s r =
 abbrev pub RequestRefusals : Type 0
 RequestRefusals =
     (s : List ℕ) → Octets s →
-    ((request_refusal s ≡ some RequestTooLong) ↔ Row1 s)
-    × ((k : ℕ) → (request_refusal s ≡ some (BadName (record { 0 = k }))) ↔ ((length s ≤ max_request_octets) × Row2 s k))
-    × ((request_refusal s ≡ some TooManyNames) ↔ ((length s ≤ max_request_octets) × Row3 s))
-    × ((r : Refusal) → request_refusal s ≡ some r → number r ≤ 3)
+    ((request_refusal s ≡ Some RequestTooLong) ↔ Row1 s)
+    × ((k : ℕ) → (request_refusal s ≡ Some (BadName (record { 0 = k }))) ↔ ((length s ≤ max_request_octets) × Row2 s k))
+    × ((request_refusal s ≡ Some TooManyNames) ↔ ((length s ≤ max_request_octets) × Row3 s))
+    × ((r : Refusal) → request_refusal s ≡ Some r → number r ≤ 3)
 
 -- The table RequestEdges.antt.
 abbrev pub RequestEdges : Type 0

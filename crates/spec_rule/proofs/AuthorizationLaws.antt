@@ -1,11 +1,12 @@
 -- What each answer about one requested name means: unrestricted, forbidden by a record, or granted by the governing records.
+use Rattle.std.proofs.lemmas.Option.{none-some, same_Some}
+use Rattle.std.specs.Prelude.{Option, None, Some}
 use Prim.Native.Nat.{ℕ}
 use mathlib.Core.Path.{◌≡◌, refl, sym, ap, ◌∙◌}
 use mathlib.Core.Logic.{◌↔◌, inl, inr, ⊎_elim}
 use mathlib.Core.Bool.{Bool, true, false, false≢true, and-eq-true_iff}
 use mathlib.Core.List.Memᴰ
 use mathlib.Core.List.{List, [], ◌∷◌, cons≢nil, Memᴰ}
-use mathlib.Core.Option.{Option, none, some, none-ne-some, some-injective}
 use Rattle.spec_octets.specs.Lists.{any, select, All, all_nil, all_cons, Any, any_here, any_there, Selects}
 use Rattle.spec_octets.specs.Octets.{same, lowered}
 use Rattle.spec_octets.proofs.ListLaws.{All-imp, any_true}
@@ -83,10 +84,10 @@ any_same d ns = (
 )
 
 module _ (who : Applicant) where
-  pub grantee_exactly : (r : CaaRecord) (d : List ℕ) → (grantee who r ≡ some d) ↔ Grants who d r
+  pub grantee_exactly : (r : CaaRecord) (d : List ℕ) → (grantee who r ≡ Some d) ↔ Grants who d r
   unfolding grantee
   grantee_exactly r d = (
-    λ h. ⊎_elim (λ t. holds t (issue_value v) refl (rw t at h)) (λ t. absurd (none-ne-some d (rw t at h))) (ListLaws.true_or_false (admits who (parameters_in v))),
+    λ h. ⊎_elim (λ t. holds t (issue_value v) refl (rw t at h)) (λ t. absurd (none-some d (rw t at h))) (ListLaws.true_or_false (admits who (parameters_in v))),
     λ (n, ps, g, w, l, a). let (name, parameters) = (grammar n ps).1 g in rw (name, parameters, (admits_exactly who ps).1 a, (issuer_is_its_labels n).1 w, l),
   )
     where
@@ -96,13 +97,13 @@ module _ (who : Applicant) where
       grammar : (n : List ℕ) (ps : List Parameter) → ((issue_value v ≡ named n) × (parameters_in v ≡ ps)) ↔ value_of n ps v
       grammar = parameters_by_the_grammar v
 
-      holds : admits who (parameters_in v) ≡ true → (i : IssueValue) → issue_value v ≡ i → grantee_of_value i ≡ some d → Grants who d r
-      holds t malformed e h = absurd (none-ne-some d h)
-      holds t nameless e h = absurd (none-ne-some d h)
+      holds : admits who (parameters_in v) ≡ true → (i : IssueValue) → issue_value v ≡ i → grantee_of_value i ≡ Some d → Grants who d r
+      holds t malformed e h = absurd (none-some d h)
+      holds t nameless e h = absurd (none-some d h)
       holds t (named n) e h =
           ⊎_elim
-          (λ w. (n, parameters_in v, (grammar n (parameters_in v)).0 (e, refl), (issuer_is_its_labels n).0 w, some-injective (lowered n) d (rw w at h), (admits_exactly who (parameters_in v)).0 t))
-          (λ w. absurd (none-ne-some d (rw w at h)))
+          (λ w. (n, parameters_in v, (grammar n (parameters_in v)).0 (e, refl), (issuer_is_its_labels n).0 w, same_Some (lowered n) d (rw w at h), (admits_exactly who (parameters_in v)).0 t))
+          (λ w. absurd (none-some d (rw w at h)))
           (ListLaws.true_or_false (is_issuer n))
 
   listed_granted : (gs : List CaaRecord) (d : List ℕ) → Memᴰ d (grantees who gs) → Any (Grants who d) gs
@@ -112,16 +113,16 @@ module _ (who : Applicant) where
       go :
           (o : Option (List ℕ)) → grantee who g ≡ o → Memᴰ d (cons_some o (grantees who gs)) →
           (Memᴰ d (grantees who gs) → Any (Grants who d) gs) → Any (Grants who d) (g ∷ gs)
-      go none e m rest = any_there (rest m)
-      go (some n) e m rest = ⊎_elim (λ k. any_here ((grantee_exactly g d).0 (rw k e))) (λ l. any_there (rest l)) (Memᴰ.cases_cons m)
+      go None e m rest = any_there (rest m)
+      go (Some n) e m rest = ⊎_elim (λ k. any_here ((grantee_exactly g d).0 (rw k e))) (λ l. any_there (rest l)) (Memᴰ.cases_cons m)
 
   granted_listed : (d : List ℕ) {gs : List CaaRecord} → Any (Grants who d) gs → Memᴰ d (grantees who gs)
   granted_listed d (any_here {x = g} h) = rw ((grantee_exactly g d).1 h) (Memᴰ.head refl)
   granted_listed d (any_there {x = g} h) = past (grantee who g) (granted_listed d h)
     where
       past : {ns : List (List ℕ)} (o : Option (List ℕ)) → Memᴰ d ns → Memᴰ d (cons_some o ns)
-      past none m = m
-      past (some n) m = Memᴰ.tail m
+      past None m = m
+      past (Some n) m = Memᴰ.tail m
 
   -- the issuers granted are those to whom some governing record grants
   pub grantees_exactly : (gs : List CaaRecord) (d : List ℕ) → Memᴰ d (grantees who gs) ↔ Any (Grants who d) gs

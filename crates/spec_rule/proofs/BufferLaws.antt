@@ -1,10 +1,11 @@
 -- The caller's buffer after an accepted call: the list, if it fits, and the list can be read back.
+use Rattle.std.proofs.lemmas.Option.{none-some}
+use Rattle.std.specs.Prelude.{None}
 use Prim.Native.Nat.{ℕ, ◌≤◌}
 use native.Mathlib.Omega.{arith}
 use mathlib.Core.Path.{◌≡◌, refl, sym, ap}
 use mathlib.Core.Logic.{◌↔◌, ⊎_elim}
 use mathlib.Core.List.{List, [], ◌∷◌, ◌++◌}
-use mathlib.Core.Option.{none, none-ne-some}
 use lib.Dec.{leb}
 use lib.ListN.{length, length-append}
 use borrow.Author.Tests.{leb-true, le-leb}
@@ -30,9 +31,9 @@ entries_length [] = refl
 entries_length (n ∷ ns) = omega (arith, length-append n (entries ns), entries_length ns)
 
 -- "room is enough when the buffer has that many"
-pub room_exactly : (ns : List (List ℕ)) (buffer : List ℕ) → (room_refusal (listed ns) buffer ≡ none) ↔ (total ns ≤ length buffer)
+pub room_exactly : (ns : List (List ℕ)) (buffer : List ℕ) → (room_refusal (listed ns) buffer ≡ None) ↔ (total ns ≤ length buffer)
 room_exactly ns buffer = rw (← entries_length ns) (
-  λ e. ⊎_elim (leb-true _ _) (λ k. absurd (none-ne-some _ (sym (rw k at e)))) (true_or_false (leb (length (entries ns)) (length buffer))),
+  λ e. ⊎_elim (leb-true _ _) (λ k. absurd (none-some _ (sym (rw k at e)))) (true_or_false (leb (length (entries ns)) (length buffer))),
   λ h. rw (le-leb (length (entries ns)) (length buffer) h) refl,
 )
 

@@ -1,10 +1,10 @@
 -- The answer to an accepted request and book: the list in every buffer that is long enough, and how long that is.
+use Rattle.std.specs.Prelude.{None}
 use Prim.Native.Nat.{ℕ, ◌≤◌, ◌<◌}
 use native.Mathlib.Omega.{arith}
 use mathlib.Core.Path.{◌≡◌, refl, sym, ap, ◌∙◌}
 use mathlib.Core.Logic.{◌≢◌, ◌⊎◌, inl, inr, ⊎_elim, ⊎_map}
 use mathlib.Core.List.{List, [], ◌∷◌}
-use mathlib.Core.Option.{none}
 use lib.Dec.{leb}
 use lib.ListN.{length}
 use borrow.Author.Tests.{leb-true, leb-false, le-leb, lt-leb}
@@ -30,7 +30,7 @@ answered buffer i = unless_refused (first_refusal (room_refusal i buffer ∷ [])
 
 accepted :
     (request : List ℕ) (who : Applicant) (book buffer : List ℕ) →
-    request_refusal request ≡ none → applicant_refusal who ≡ none → book_refusal book ≡ none →
+    request_refusal request ≡ None → applicant_refusal who ≡ None → book_refusal book ≡ None →
     list_issuers request who book buffer ≡ answered buffer (issuers (authorizations request who book))
 unfolding list_issuers
 accepted request who book buffer r a b = rw (r, a, b) refl

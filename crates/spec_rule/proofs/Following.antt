@@ -1,10 +1,11 @@
 -- Where following aliases ends, and when it does not.
+use Rattle.std.proofs.lemmas.Option.{none-some, same_Some}
+use Rattle.std.specs.Prelude.{None, Some}
 use Prim.Native.Nat.{ℕ, zero, suc, ◌≤◌}
 use native.Mathlib.Omega.{arith}
 use mathlib.Core.Path.{◌≡◌, refl, sym, ap, ◌∙◌}
 use mathlib.Core.Logic.{◌↔◌, ◌⊎◌, inl, inr, ⊎_elim}
 use mathlib.Core.List.{List, [], ◌∷◌, nil≢cons, cons≢nil, head-eq_of_cons-eq}
-use mathlib.Core.Option.{none, some, none-ne-some, some-injective}
 use Rattle.spec_octets.specs.Lists.{All, First, Selects}
 use Rattle.spec_octets.proofs.SelectLaws.{selected, selects_none, selects_first, first_selects}
 use Rattle.spec_name.specs.Names.{Name}
@@ -47,26 +48,26 @@ module _ (al : List Alias) where
   abbrev Ends : ℕ → Name → Name → Type 0
   Ends n x y = (k : ℕ) × (k ≤ n) × Leads al k x y × NoAlias y
 
-  ends_here : (n : ℕ) (x y : Name) → aliases_of al x ≡ [] → (some x ≡ some y) ↔ Ends n x y
+  ends_here : (n : ℕ) (x y : Name) → aliases_of al x ≡ [] → (Some x ≡ Some y) ↔ Ends n x y
   ends_here n x y e = (
-    λ h. let i = some-injective x y h in (0, omega arith, rw (← i) arrived, rw (← i) (no_alias x e)),
-    λ (k, h, l, m). ⊎_elim (λ (z, i). ap some i) (λ (j, a, z, f, t). absurd (has_alias x e f)) (step l),
+    λ h. let i = same_Some x y h in (0, omega arith, rw (← i) arrived, rw (← i) (no_alias x e)),
+    λ (k, h, l, m). ⊎_elim (λ (z, i). ap Some i) (λ (j, a, z, f, t). absurd (has_alias x e f)) (step l),
   )
 
-  pub followed_ends : (n : ℕ) (x y : Name) → (followed n al x ≡ some y) ↔ Ends n x y
+  pub followed_ends : (n : ℕ) (x y : Name) → (followed n al x ≡ Some y) ↔ Ends n x y
   followed_ends zero x y = go (aliases_of al x) refl
     where
-      go : (bs : List Alias) → aliases_of al x ≡ bs → (through bs (λ t. none) x ≡ some y) ↔ Ends zero x y
+      go : (bs : List Alias) → aliases_of al x ≡ bs → (through bs (λ t. None) x ≡ Some y) ↔ Ends zero x y
       go [] e = ends_here zero x y e
       go (a ∷ bs) e = (
-        λ h. absurd (none-ne-some y h),
+        λ h. absurd (none-some y h),
         λ (k, h, l, m). ⊎_elim (λ (z, i). absurd (has_none x e (rw (← i) at m))) (λ (j, b, z, f, t). absurd (omega arith)) (step l),
       )
   followed_ends (suc n) x y = go (aliases_of al x) refl (λ t. followed_ends n t y)
     where
       go :
-          (bs : List Alias) → aliases_of al x ≡ bs → ((t : Name) → (followed n al t ≡ some y) ↔ Ends n t y) →
-          (through bs (followed n al) x ≡ some y) ↔ Ends (suc n) x y
+          (bs : List Alias) → aliases_of al x ≡ bs → ((t : Name) → (followed n al t ≡ Some y) ↔ Ends n t y) →
+          (through bs (followed n al) x ≡ Some y) ↔ Ends (suc n) x y
       go [] e later = ends_here (suc n) x y e
       go (a ∷ bs) e later = (
         λ h. let (k, less, l, m) = (later a.target).0 h in (suc k, omega arith, onward (first_alias x e) l, m),
@@ -80,23 +81,23 @@ module _ (al : List Alias) where
   abbrev LeadsOn : ℕ → Name → Type 0
   LeadsOn n x = (y : Name) × Leads al (suc n) x y
 
-  ends_there : (n : ℕ) (x : Name) → aliases_of al x ≡ [] → (some x ≡ none) ↔ LeadsOn n x
+  ends_there : (n : ℕ) (x : Name) → aliases_of al x ≡ [] → (Some x ≡ None) ↔ LeadsOn n x
   ends_there n x e = (
-    λ h. absurd (none-ne-some x (sym h)),
+    λ h. absurd (none-some x (sym h)),
     λ (y, l). ⊎_elim (λ (z, i). absurd (omega arith)) (λ (j, a, z, f, t). absurd (has_alias x e f)) (step l),
   )
 
-  pub followed_endless : (n : ℕ) (x : Name) → (followed n al x ≡ none) ↔ LeadsOn n x
+  pub followed_endless : (n : ℕ) (x : Name) → (followed n al x ≡ None) ↔ LeadsOn n x
   followed_endless zero x = go (aliases_of al x) refl
     where
-      go : (bs : List Alias) → aliases_of al x ≡ bs → (through bs (λ t. none) x ≡ none) ↔ LeadsOn zero x
+      go : (bs : List Alias) → aliases_of al x ≡ bs → (through bs (λ t. None) x ≡ None) ↔ LeadsOn zero x
       go [] e = ends_there zero x e
       go (a ∷ bs) e = (λ h. (a.target, onward (first_alias x e) arrived), λ l. refl)
   followed_endless (suc n) x = go (aliases_of al x) refl (followed_endless n)
     where
       go :
-          (bs : List Alias) → aliases_of al x ≡ bs → ((t : Name) → (followed n al t ≡ none) ↔ LeadsOn n t) →
-          (through bs (followed n al) x ≡ none) ↔ LeadsOn (suc n) x
+          (bs : List Alias) → aliases_of al x ≡ bs → ((t : Name) → (followed n al t ≡ None) ↔ LeadsOn n t) →
+          (through bs (followed n al) x ≡ None) ↔ LeadsOn (suc n) x
       go [] e later = ends_there (suc n) x e
       go (a ∷ bs) e later = (
         λ h. let (y, l) = (later a.target).0 h in (y, onward (first_alias x e) l),

@@ -1,11 +1,12 @@
 -- The grantees of records: well-formed names in lower case, in the order of the records that first grant them.
+use Rattle.std.proofs.lemmas.Option.{none-some, same_Some}
+use Rattle.std.specs.Prelude.{Option, None, Some}
 use Prim.Native.Nat.{ℕ}
 use mathlib.Core.Path.{◌≡◌, refl, sym, ap, ◌∙◌}
 use mathlib.Core.Logic.Iff
 use mathlib.Core.Logic.{◌↔◌}
 use mathlib.Core.Bool.{Bool, true, false, cond, ◌||◌, false≢true}
 use mathlib.Core.List.{List, [], ◌∷◌}
-use mathlib.Core.Option.{Option, none, some, none-ne-some, some-injective}
 use Rattle.spec_octets.specs.Lists.{any, All, all_nil, all_cons}
 use Rattle.spec_octets.specs.Octets.{same, lowered}
 use Rattle.spec_octets.proofs.Texts.{same_equal}
@@ -34,12 +35,12 @@ module _ (who : Applicant) where
   grantees_small (g ∷ gs) = go (grantee who g) refl (grantees_small gs)
     where
       go : (o : Option (List ℕ)) → grantee who g ≡ o → All SmallName (grantees who gs) → All SmallName (cons_some o (grantees who gs))
-      go none e h = h
-      go (some n) e h = all_cons (granted_small n g ((grantee_exactly who g n).0 e)) h
+      go None e h = h
+      go (Some n) e h = all_cons (granted_small n g ((grantee_exactly who g n).0 e)) h
 
-  is_grantee_lem : (d : List ℕ) (o : Option (List ℕ)) → (is_grantee d o ≡ true) ↔ (o ≡ some d)
-  is_grantee_lem d none = (λ e. absurd (false≢true e), λ e. absurd (none-ne-some d e))
-  is_grantee_lem d (some n) = (λ e. ap some (sym ((same_equal d n).0 e)), λ e. (same_equal d n).1 (sym (some-injective n d e)))
+  is_grantee_lem : (d : List ℕ) (o : Option (List ℕ)) → (is_grantee d o ≡ true) ↔ (o ≡ Some d)
+  is_grantee_lem d None = (λ e. absurd (false≢true e), λ e. absurd (none-some d e))
+  is_grantee_lem d (Some n) = (λ e. ap Some (sym ((same_equal d n).0 e)), λ e. (same_equal d n).1 (sym (same_Some n d e)))
 
   abbrev grants_to : List ℕ → CaaRecord → Bool
   grants_to d r = is_grantee d (grantee who r)
@@ -48,8 +49,8 @@ module _ (who : Applicant) where
   grants_to_lem d r = Iff.trans (is_grantee_lem d (grantee who r)) (grantee_exactly who r d)
 
   pub one_more_lem : (d : List ℕ) (o : Option (List ℕ)) (ns : List (List ℕ)) → any (same d) (cons_some o ns) ≡ is_grantee d o || any (same d) ns
-  one_more_lem d none ns = refl
-  one_more_lem d (some n) ns = refl
+  one_more_lem d None ns = refl
+  one_more_lem d (Some n) ns = refl
 
   module _ (a b : List ℕ) where
     any_grantees : (gs : List CaaRecord) → any (same b) (grantees who gs) ≡ any (grants_to b) gs
@@ -64,8 +65,8 @@ module _ (who : Applicant) where
             (o : Option (List ℕ)) → first_before (same a) (same b) (grantees who gs) ≡ first_before (grants_to a) (grants_to b) gs →
             first_before (same a) (same b) (cons_some o (grantees who gs))
             ≡ cond (is_grantee b o) false (cond (is_grantee a o) (any (grants_to b) gs) (first_before (grants_to a) (grants_to b) gs))
-        go none rest = rest
-        go (some n) rest = rw (rest, any_grantees gs)
+        go None rest = rest
+        go (Some n) rest = rw (rest, any_grantees gs)
 
     pub granted_before : (gs : List CaaRecord) → (first_before (same a) (same b) (grantees who gs) ≡ true) ↔ GrantedBefore who gs a b
     granted_before gs = rw (first_before_grantees gs) (first_before_exactly (grants_to a) (grants_to b) (grants_to_lem a) (grants_to_lem b) gs)

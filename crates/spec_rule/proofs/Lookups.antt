@@ -1,4 +1,6 @@
 -- Which records the search uses, and what one lookup finds.
+use Rattle.std.proofs.lemmas.Option.{none-some, same_Some}
+use Rattle.std.specs.Prelude.{Option, None, Some}
 use Prim.Native.Nat.{ℕ, suc}
 use native.Mathlib.Omega.{arith}
 use mathlib.Core.Path.{◌≡◌, refl, sym, ap, ◌∙◌}
@@ -6,12 +8,11 @@ use mathlib.Core.Logic.Iff
 use mathlib.Core.Logic.{◌↔◌, ◌≢◌, ◌⊎◌, inl, inr}
 use mathlib.Core.Bool.{true, false, true≢false}
 use mathlib.Core.List.{List, [], ◌∷◌, cons≢nil}
-use mathlib.Core.Option.{Option, none, some, none-ne-some, some-injective}
 use Rattle.spec_limits.specs.Limits.{max_aliases}
 use Rattle.spec_octets.specs.Lists.{All, all_nil, all_cons, First, Selects}
 use Rattle.spec_octets.proofs.ListLaws.{true_or_false, All-imp}
 use Rattle.spec_octets.proofs.SelectLaws.{selects_none, selected, selects_exactly}
-use Rattle.spec_name.specs.Names.{Name, same_name, wire, GoodName}
+use Rattle.spec_name.specs.Names.{Name, wire, GoodName}
 use Rattle.spec_name.proofs.WholeNames.{whole_names}
 use Rattle.spec_record.specs.Records.{Record, is_caa, is_alias, target, GoodRecord}
 use Rattle.spec_record.proofs.PropertyLaws.{property_is_its_parts}
@@ -79,24 +80,24 @@ module _ (rs : List CaaRecord) (y : Name) where
 
 module _ (book : Book) (x : Name) where
   -- following ends at y: what stands there decides
-  module _ (y : Name) (e : followed max_aliases book.aliases x ≡ some y) where
+  module _ (y : Name) (e : followed max_aliases book.aliases x ≡ Some y) where
     ends : EndsAt book.aliases x y
     ends = (followed_ends book.aliases max_aliases x y).0 e
 
     only_end : (z : Name) → EndsAt book.aliases x z → z ≡ y
-    only_end z h = some-injective z y (sym ((followed_ends book.aliases max_aliases x z).1 h) ∙ e)
+    only_end z h = same_Some z y (sym ((followed_ends book.aliases max_aliases x z).1 h) ∙ e)
 
     at_end_lookup : lookup book x ≡ as_lookup (caa_at book.caa y)
     unfolding lookup
     at_end_lookup = rw e
 
-  not_endless : (y : Name) → followed max_aliases book.aliases x ≡ some y → ((z : Name) × Leads book.aliases (suc max_aliases) x z) → ⊥
-  not_endless y e h = none-ne-some y (sym ((followed_endless book.aliases max_aliases x).1 h) ∙ e)
+  not_endless : (y : Name) → followed max_aliases book.aliases x ≡ Some y → ((z : Name) × Leads book.aliases (suc max_aliases) x z) → ⊥
+  not_endless y e h = none-some y (sym ((followed_endless book.aliases max_aliases x).1 h) ∙ e)
 
   -- following does not end: the first alias is reported
-  module _ (e : followed max_aliases book.aliases x ≡ none) where
+  module _ (e : followed max_aliases book.aliases x ≡ None) where
     never_ends : (z : Name) → EndsAt book.aliases x z → ⊥
-    never_ends z h = none-ne-some z (sym e ∙ (followed_ends book.aliases max_aliases x z).1 h)
+    never_ends z h = none-some z (sym e ∙ (followed_ends book.aliases max_aliases x z).1 h)
 
     endless_lookup : (a : Alias) × (bs : List Alias) × (aliases_of book.aliases x ≡ a ∷ bs) × (lookup book x ≡ endless a.number)
     unfolding lookup
@@ -117,7 +118,7 @@ a_lookup book x = go (followed max_aliases book.aliases x) refl
         × ((rs : List CaaRecord) → (lookup book x ≡ found rs) ↔ ((y : Name) × EndsAt book.aliases x y × Selects (OwnedBy y) book.caa rs × (rs ≢ [])))
         × ((r : ℕ) → (lookup book x ≡ endless r)
         ↔ ((y : Name) × Leads book.aliases (suc max_aliases) x y × ((a : Alias) × First (AliasOf x) book.aliases a × (a.number ≡ r))))
-    go (some y) e = (
+    go (Some y) e = (
       (λ h. (y, ends book x y e, (at_empty book.caa y).0 (sym is ∙ h)), λ (z, end, h). is ∙ (at_empty book.caa y).1 (rw (only_end book x y e z end) at h)),
       λ rs. (
         λ h. let (selects, some-set) = (at_found book.caa y rs).0 (sym is ∙ h) in (y, ends book x y e, selects, some-set),
@@ -128,7 +129,7 @@ a_lookup book x = go (followed max_aliases book.aliases x) refl
       where
         is : lookup book x ≡ as_lookup (caa_at book.caa y)
         is = at_end_lookup book x y e
-    go none e =
+    go None e =
         let (a, bs, i, is) = endless_lookup book x e in (
           (λ h. absurd (empty≢endless (sym h ∙ is)), λ (z, end, h). absurd (never_ends book x e z end)),
           λ rs. (λ h. absurd (found≢endless (sym h ∙ is)), λ (z, end, h, some-set). absurd (never_ends book x e z end)),
@@ -145,7 +146,7 @@ lookup_without_aliases book x e = (
   λ r h. at_never_endless book.caa x r (sym is ∙ h),
 )
   where
-    none_followed : followed max_aliases book.aliases x ≡ some x
+    none_followed : followed max_aliases book.aliases x ≡ Some x
     none_followed = (followed_ends book.aliases max_aliases x x).1 (0, omega arith, arrived, rw e all_nil)
 
     is : lookup book x ≡ as_lookup (caa_at book.caa x)

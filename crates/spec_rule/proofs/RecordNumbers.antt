@@ -1,10 +1,10 @@
 -- The numbers of CAA records and aliases are below the limit on records, for any octets.
+use Rattle.std.specs.Prelude.{Option, None, Some}
 use Prim.Native.Nat.{ℕ, suc, ◌+◌, ◌≤◌, ◌<◌}
 use native.Mathlib.Omega.{arith}
 use mathlib.Core.Path.{◌≡◌, refl}
 use mathlib.Core.Bool.{Bool, true, false, cond}
 use mathlib.Core.List.{List, [], ◌∷◌}
-use mathlib.Core.Option.{Option, none, some}
 use lib.ListN.{length}
 use Rattle.spec_limits.specs.Limits.{max_records}
 use Rattle.spec_octets.specs.Lists.{All, all_nil, all_cons}
@@ -25,8 +25,8 @@ module _ {A B : Type 0} (is_of : ℕ → ℕ → Bool) (read : List ℕ → Opti
   kind_numbered k (r ∷ rs) h = All-join (one (is_of r.type r.class) (read r.rdata)) (kind_numbered (suc k) rs (omega arith))
     where
       one : (t : Bool) (o : Option A) → All (λ b. number_of b < m) (cond t (kept (made k r.owner) o) [])
-      one true none = all_nil
-      one true (some a) = all_cons {x = made k r.owner a} (rw (numbered k r.owner a) (omega arith)) all_nil
+      one true None = all_nil
+      one true (Some a) = all_cons {x = made k r.owner a} (rw (numbered k r.owner a) (omega arith)) all_nil
       one false o = all_nil
 
 abbrev pub Numbered : ℕ → Book → Type 0

@@ -1,4 +1,6 @@
 -- When each call refuses: the rows of each input, put together in the order of checks.
+use Rattle.std.proofs.lemmas.Option.{none-some}
+use Rattle.std.specs.Prelude.{Option, None, Some}
 use Prim.Native.Nat.{ℕ, ◌<◌}
 use native.Mathlib.Omega.{arith}
 use mathlib.Core.Path.{◌≡◌, refl}
@@ -6,7 +8,6 @@ use mathlib.Core.Logic.Iff
 use mathlib.Core.Logic.{◌↔◌, ◌≢◌}
 use mathlib.Core.Bool.{Bool, true, false, cond}
 use mathlib.Core.List.{List, [], ◌∷◌}
-use mathlib.Core.Option.{Option, none, some, none-ne-some}
 use lib.Dec.{leb}
 use lib.ListN.{length}
 use borrow.Author.Tests.{leb-true, leb-false}
@@ -54,9 +55,9 @@ unfolding number checked_at
 book_keeps b o = let law = book_refusals b o in four_rows law.0 law.1 law.2 law.3 (book_faults b) refl (λ k. refl) refl (λ k. refl) refl
 
 -- a judgement is refused by a check, as no verdict is a refusal
-judge_refused : (c : Option Refusal) (j : Judgement) (r : Refusal) → j ≢ Refused r → (refused_or c j ≡ Refused r) ↔ (c ≡ some r)
-judge_refused none j r n = (λ e. absurd (n e), λ e. absurd (none-ne-some r e))
-judge_refused (some q) j r n = (λ e. cc, λ e. cc)
+judge_refused : (c : Option Refusal) (j : Judgement) (r : Refusal) → j ≢ Refused r → (refused_or c j ≡ Refused r) ↔ (c ≡ Some r)
+judge_refused None j r n = (λ e. absurd (n e), λ e. absurd (none-some r e))
+judge_refused (Some q) j r n = (λ e. cc, λ e. cc)
 
 -- the numbers of the rows of each call
 abbrev pub judge_numbers : List ℕ
@@ -84,21 +85,21 @@ abbrev TooSmall : Issuers → List ℕ → ℕ → Type 0
 TooSmall out buffer n = (ns : List (List ℕ)) × (out ≡ listed ns) × (length (entries ns) ≡ n) × (length buffer < n)
 
 abbrev NoRooms : Issuers → List ℕ → Option Refusal → Type 0
-NoRooms out buffer c = ((n : ℕ) → (c ≡ some (NoRoom n)) ↔ TooSmall out buffer n) × ((r : Refusal) → c ≡ some r → (n : ℕ) × (r ≡ NoRoom n))
+NoRooms out buffer c = ((n : ℕ) → (c ≡ Some (NoRoom n)) ↔ TooSmall out buffer n) × ((r : Refusal) → c ≡ Some r → (n : ℕ) × (r ≡ NoRoom n))
 
 room_refusals : (out : Issuers) (buffer : List ℕ) → NoRooms out buffer (room_refusal out buffer)
-room_refusals anyone buffer = (λ n. (λ e. absurd (none-ne-some _ e), λ (ns, e, l, h). cc), λ r e. absurd (none-ne-some r e))
+room_refusals anyone buffer = (λ n. (λ e. absurd (none-some _ e), λ (ns, e, l, h). cc), λ r e. absurd (none-some r e))
 room_refusals (listed ns) buffer = go (leb (length (entries ns)) (length buffer)) refl
   where
     go :
         (t : Bool) → leb (length (entries ns)) (length buffer) ≡ t →
-        NoRooms (listed ns) buffer (cond t none (some (NoRoom (length (entries ns)))))
+        NoRooms (listed ns) buffer (cond t None (Some (NoRoom (length (entries ns)))))
     go true e = (
       λ n. (
-        λ f. absurd (none-ne-some _ f),
+        λ f. absurd (none-some _ f),
         λ (ms, s, l, h). let k : length (entries ns) ≡ n = cc in absurd (omega (arith, leb-true)),
       ),
-      λ r f. absurd (none-ne-some r f),
+      λ r f. absurd (none-some r f),
     )
     go false e = (
       λ n. (λ f. let k : length (entries ns) ≡ n = cc in (ns, refl, k, omega (arith, leb-false)), λ (ms, s, l, h). cc),
@@ -121,10 +122,10 @@ list_keeps request who book buffer o p =
 -- a listing is refused by a check, and leaves the buffer as it was
 list_refused :
     (c : Option Refusal) (out : Issuers) (buffer : List ℕ) (r : Refusal) → let l = unless_refused c (written out buffer) buffer in
-    ((l.answer ≡ ListRefused r) ↔ (c ≡ some r)) × (l.answer ≡ ListRefused r → l.buffer ≡ buffer)
-list_refused none anyone buffer r = ((λ e. cc, λ e. cc), λ e. refl)
-list_refused none (listed ns) buffer r = ((λ e. cc, λ e. cc), λ e. cc)
-list_refused (some q) out buffer r = ((λ e. cc, λ e. cc), λ e. refl)
+    ((l.answer ≡ ListRefused r) ↔ (c ≡ Some r)) × (l.answer ≡ ListRefused r → l.buffer ≡ buffer)
+list_refused None anyone buffer r = ((λ e. cc, λ e. cc), λ e. refl)
+list_refused None (listed ns) buffer r = ((λ e. cc, λ e. cc), λ e. cc)
+list_refused (Some q) out buffer r = ((λ e. cc, λ e. cc), λ e. refl)
 
 pub list_refusals : ListRefusals
 unfolding list_issuers

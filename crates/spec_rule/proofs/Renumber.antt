@@ -1,9 +1,9 @@
 -- With other record numbers only the numbers in the answer change.
+use Rattle.std.specs.Prelude.{Option, None, Some}
 use Prim.Native.Nat.{ℕ, zero, suc}
 use mathlib.Core.Path.{◌≡◌, refl, ap, fun_ext}
 use mathlib.Core.Bool.{Bool, true, false, cond}
 use mathlib.Core.List.{List, [], ◌∷◌, map, map-map}
-use mathlib.Core.Option.{Option, none, some}
 use Rattle.spec_limits.specs.Limits.{max_aliases}
 use Rattle.spec_octets.specs.Lists.{all, select}
 use Rattle.spec_octets.proofs.SelectLaws.{select_map}
@@ -50,15 +50,15 @@ module _ (f : ℕ → ℕ) (who : Applicant) where
   same_through (a ∷ bs) follow x = refl
 
   same_followed : (n : ℕ) (al : List Alias) (x : Name) → followed n (other_aliases al) x ≡ followed n al x
-  same_followed zero al x = rw (same_aliases al x) (same_through (aliases_of al x) (λ t. none) x)
+  same_followed zero al x = rw (same_aliases al x) (same_through (aliases_of al x) (λ t. None) x)
   same_followed (suc n) al x = rw (same_aliases al x, fun_ext (same_followed n al)) (same_through (aliases_of al x) (followed n al) x)
 
   looked_up_lem :
       (rs : List CaaRecord) (bs : List Alias) (o : Option Name) →
       looked_up (others rs) (other_aliases bs) o ≡ other_lookup (looked_up rs bs o)
-  looked_up_lem rs bs (some y) = rw (same_select (λ r. same_name r.owner y) (λ r. refl) rs) (as_lookup_lem (caa_at rs y))
-  looked_up_lem rs [] none = refl
-  looked_up_lem rs (a ∷ bs) none = refl
+  looked_up_lem rs bs (Some y) = rw (same_select (λ r. same_name r.owner y) (λ r. refl) rs) (as_lookup_lem (caa_at rs y))
+  looked_up_lem rs [] None = refl
+  looked_up_lem rs (a ∷ bs) None = refl
 
   same_lookup : (book : Book) (x : Name) → lookup (renumbered_book f book) x ≡ other_lookup (lookup book x)
   unfolding lookup

@@ -1,11 +1,11 @@
 -- A buffer as long as the book is always enough: each listed name comes from its own record, which is at least as long as its entry.
+use Rattle.std.specs.Prelude.{Option, None, Some}
 use Prim.Native.Nat.{ℕ, ◌+◌, ◌≤◌}
 use native.Mathlib.Omega.{arith}
 use mathlib.Core.Path.{◌≡◌, refl, ap}
 use mathlib.Core.Logic.Iff
 use mathlib.Core.Bool.{Bool, not, true≢false}
 use mathlib.Core.List.{List, [], ◌∷◌, map}
-use mathlib.Core.Option.{Option, none, some}
 use lib.ListN.{length, drop, length-append, length-map}
 use Rattle.spec_octets.specs.Lists.{all, select, flatten, Selects, selects_nil, selects_take, selects_pass}
 use Rattle.spec_octets.specs.Octets.{same, lower}
@@ -69,8 +69,8 @@ grantees_less who (g ∷ gs) = go (grantee who g) refl (grantees_less who gs)
     go :
         (o : Option (List ℕ)) → grantee who g ≡ o → sum name_size (grantees who gs) ≤ sum value_size gs →
         sum name_size (cons_some o (grantees who gs)) ≤ value_size g + sum value_size gs
-    go none e h = omega arith
-    go (some d) e h = omega (arith, grantee_less who g d ((grantee_exactly who g d).0 e))
+    go None e h = omega arith
+    go (Some d) e h = omega (arith, grantee_less who g d ((grantee_exactly who g d).0 e))
 
 -- all that a name grants comes from records of the book, each once
 module _ (who : Applicant) (book : Book) where

@@ -1,6 +1,5 @@
 -- Aliases (CNAME records), and where following them ends. RFC 1034 section 3.6.2; RFC 8659 section 3 asks for it in each lookup.
-use Rattle.std.specs.Prelude.{ℕ, zero, suc, List, [], ◌∷◌}
-use Rattle.std.proofs.Math.Option.{Option, none, some}
+use Rattle.std.specs.Prelude.{ℕ, zero, suc, List, [], ◌∷◌, Option, None, Some}
 use Rattle.spec_octets.specs.Lists.{select}
 use Rattle.spec_name.specs.Names.{Name, same_name}
 use Rattle.spec_record.specs.Records.{Record, is_alias, target}
@@ -27,10 +26,10 @@ aliases_of al x = select (λ a. same_name a.owner x) al
 
 -- Follow the first of these aliases of x. Without one, x is the end.
 abbrev pub through : List Alias → (Name → Option Name) → Name → Option Name
-through [] follow x = some x
+through [] follow x = Some x
 through (a ∷ al) follow x = follow a.target
 
 -- Where following at most n aliases from x ends; none if one more would have to be followed.
 abbrev pub followed : ℕ → List Alias → Name → Option Name
-followed zero al x = through (aliases_of al x) (λ t. none) x
+followed zero al x = through (aliases_of al x) (λ t. None) x
 followed (suc n) al x = through (aliases_of al x) (followed n al) x

@@ -1,6 +1,5 @@
 -- Who may issue for one requested name: steps 2 to 4 of the requirements' "rule of issue" (RFC 8659 sections 4.1 to 4.3).
-use Rattle.std.specs.Prelude.{ℕ, Bool, true, false, cond, ◌&&◌, List, [], ◌∷◌}
-use Rattle.std.proofs.Math.Option.{Option, none, some}
+use Rattle.std.specs.Prelude.{ℕ, Bool, true, false, cond, ◌&&◌, List, [], ◌∷◌, Option, None, Some}
 use Rattle.spec_octets.specs.Lists.{any, select}
 use Rattle.spec_octets.specs.Octets.{same, lowered}
 use Rattle.spec_name.specs.Names.{Name}
@@ -69,22 +68,22 @@ governing wildcard rs = cond wildcard (or_else (select is_issue_wild rs) (select
 -- The issuer that a governing record grants: the name in its value, in lower case. A value that doesn't match the grammar, has no name, or
 -- has one over the limits of issuer domain names grants nobody.
 abbrev pub grantee_of_value : IssueValue → Option (List ℕ)
-grantee_of_value malformed = none
-grantee_of_value nameless = none
-grantee_of_value (named n) = cond (is_issuer n) (some (lowered n)) none
+grantee_of_value malformed = None
+grantee_of_value nameless = None
+grantee_of_value (named n) = cond (is_issuer n) (Some (lowered n)) None
 
 -- A record whose parameters don't admit the applicant (RFC 8657) grants nobody. It still governs.
 unfoldable pub grantee : Applicant → CaaRecord → Option (List ℕ)
-grantee who r = cond (admits who (parameters_in r.property.value)) (grantee_of_value (issue_value r.property.value)) none
+grantee who r = cond (admits who (parameters_in r.property.value)) (grantee_of_value (issue_value r.property.value)) None
 
 -- There is a grantee, and it is d.
 abbrev pub is_grantee : List ℕ → Option (List ℕ) → Bool
-is_grantee d none = false
-is_grantee d (some n) = same d n
+is_grantee d None = false
+is_grantee d (Some n) = same d n
 
 abbrev pub cons_some : Option (List ℕ) → List (List ℕ) → List (List ℕ)
-cons_some none ns = ns
-cons_some (some n) ns = n ∷ ns
+cons_some None ns = ns
+cons_some (Some n) ns = n ∷ ns
 
 abbrev pub grantees : Applicant → List CaaRecord → List (List ℕ)
 grantees who [] = []

@@ -1,6 +1,5 @@
 -- The two calls: from any octets to one answer, and to the contents of the caller's buffer afterwards.
-use Rattle.std.specs.Prelude.{ℕ, cond, List, [], ◌∷◌, ◌++◌, map, leb, length, drop}
-use Rattle.std.proofs.Math.Option.{Option, none, some}
+use Rattle.std.specs.Prelude.{ℕ, cond, List, [], ◌∷◌, ◌++◌, map, leb, length, drop, Option, None, Some}
 use Rattle.spec_refusal.specs.declared.Refusal.{Refusal}
 use Rattle.spec_refusal.specs.declared.Refusal.TheVariants.{NoRoom}
 use Rattle.spec_refusal.specs.Refusal.{number, place}
@@ -27,17 +26,17 @@ decisions request who book = map (decision who (as_book (records book))) (reques
 
 -- Checks in their order, each a refusal or none: the first refusal is the answer.
 abbrev pub first_refusal : List (Option Refusal) → Option Refusal
-first_refusal [] = none
-first_refusal (none ∷ checks) = first_refusal checks
-first_refusal (some r ∷ checks) = some r
+first_refusal [] = None
+first_refusal (None ∷ checks) = first_refusal checks
+first_refusal (Some r ∷ checks) = Some r
 
 -- May this issuer issue?
 abbrev pub judge_checks : List ℕ → List ℕ → Applicant → List ℕ → List (Option Refusal)
 judge_checks request issuer who book = request_refusal request ∷ issuer_refusal issuer ∷ applicant_refusal who ∷ book_refusal book ∷ []
 
 abbrev pub refused_or : Option Refusal → Judgement → Judgement
-refused_or none j = j
-refused_or (some r) j = Refused r
+refused_or None j = j
+refused_or (Some r) j = Refused r
 
 unfoldable pub judge : List ℕ → List ℕ → Applicant → List ℕ → Judgement
 judge request issuer who book =
@@ -49,8 +48,8 @@ pub record Listing : Type 0 where
   pub buffer : List ℕ
 
 abbrev pub room_refusal : Issuers → List ℕ → Option Refusal
-room_refusal anyone buffer = none
-room_refusal (listed ns) buffer = cond (leb (length (entries ns)) (length buffer)) none (some (NoRoom (length (entries ns))))
+room_refusal anyone buffer = None
+room_refusal (listed ns) buffer = cond (leb (length (entries ns)) (length buffer)) None (Some (NoRoom (length (entries ns))))
 
 abbrev pub list_checks : List ℕ → Applicant → List ℕ → List ℕ → List (Option Refusal)
 list_checks request who book buffer =
@@ -67,8 +66,8 @@ written (listed ns) buffer =
     record { answer = Listed (length ns) (length (entries ns)); buffer = entries ns ++ drop (length (entries ns)) buffer }
 
 abbrev pub unless_refused : Option Refusal → Listing → List ℕ → Listing
-unless_refused none l buffer = l
-unless_refused (some r) l buffer = record { answer = ListRefused r; buffer = buffer }
+unless_refused None l buffer = l
+unless_refused (Some r) l buffer = record { answer = ListRefused r; buffer = buffer }
 
 unfoldable pub list_issuers : List ℕ → Applicant → List ℕ → List ℕ → Listing
 list_issuers request who book buffer =

@@ -1,9 +1,8 @@
 -- Edge cases of the rule in one table, both sides of each edge: the rows that the requirements mark P, and rows for the other sentences of
 -- the rule. One theorem covers the table; it is proved by computing.
-use Rattle.std.specs.Prelude.{ℕ, zero, suc, ◌≡◌, List, [], ◌∷◌, ◌++◌, map, replicate}
+use Rattle.std.specs.Prelude.{ℕ, zero, suc, ◌≡◌, List, [], ◌∷◌, ◌++◌, map, replicate, Option, None, Some}
 use Prim.Native.Char.{code}
 use Prim.Native.String.{String}
-use Rattle.std.proofs.Math.Option.{Option, none, some}
 use Rattle.spec_octets.specs.Octets.{text}
 use Rattle.spec_octets.specs.Pieces.{split}
 use Rattle.spec_octets.specs.Decimal.{decimal_octet}
@@ -286,8 +285,8 @@ edges =
     (record { owner = dotted "www.example.com"; type = 39; class = 1; ttl = 3600; rdata = wire (dotted "web.example.org") }
     ∷ caa "web.example.org" 0 "issue" "ca2.example.org" ∷ issuing "ca1.example.net") "www.example.com" (granted 2 (ca1 ∷ []))
     -- Flags as text: at most 255.
-    ∷ flags_edge "255" (some 255)
-    ∷ flags_edge "256" none
+    ∷ flags_edge "255" (Some 255)
+    ∷ flags_edge "256" None
     ∷ []
 
 abbrev pub EdgesAgree : Type 0

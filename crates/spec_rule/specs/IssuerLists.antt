@@ -1,5 +1,5 @@
 -- The issuers that may issue for every name of a request (the requirements' "who may issue"), and how a buffer lists them.
-use Rattle.std.specs.Prelude.{ℕ, Bool, not, List, [], ◌∷◌, map, length}
+use Rattle.std.specs.Prelude.{ℕ, not, List, [], ◌∷◌, map, length}
 use Rattle.spec_octets.specs.Lists.{all, select, flatten}
 use Rattle.spec_octets.specs.Octets.{same}
 use Rattle.spec_octets.specs.Reader.{Reader, ◌>>=◌, octet, octets}

@@ -1,6 +1,5 @@
 -- RFC 8659 section 3: the Relevant RRset of a name (the requirements' "relevant set").
-use Rattle.std.specs.Prelude.{ℕ, suc, List, [], ◌∷◌, map}
-use Rattle.std.proofs.Math.Option.{Option, none, some}
+use Rattle.std.specs.Prelude.{ℕ, suc, List, [], ◌∷◌, map, Option, None, Some}
 use Rattle.spec_limits.specs.Limits.{max_aliases}
 use Rattle.spec_octets.specs.Lists.{select}
 use Rattle.spec_name.specs.Names.{Name, same_name, ancestors}
@@ -49,9 +48,9 @@ caa_at rs x = select (λ r. same_name r.owner x) rs
 
 -- The CAA records of the name at which following ends. Without an end, the first of these aliases, those of the name looked up, is reported.
 abbrev pub looked_up : List CaaRecord → List Alias → Option Name → Lookup
-looked_up rs al (some y) = as_lookup (caa_at rs y)
-looked_up rs [] none = empty
-looked_up rs (a ∷ al) none = endless a.number
+looked_up rs al (Some y) = as_lookup (caa_at rs y)
+looked_up rs [] None = empty
+looked_up rs (a ∷ al) None = endless a.number
 
 -- RFC 8659 section 3, CAA(X), with aliases followed. The end of the aliases may be any name, the root too.
 unfoldable pub lookup : Book → Name → Lookup

@@ -1,7 +1,6 @@
 -- What the definitions of this crate mean. Each statement is proved under its name in proofs/.
-use Rattle.std.specs.Prelude.{ℕ, suc, ◌+◌, ◌≤◌, ◌<◌, ◌≡◌, ◌↔◌, ◌≢◌, ◌⊎◌, length, take, drop}
+use Rattle.std.specs.Prelude.{ℕ, suc, ◌+◌, ◌≤◌, ◌<◌, ◌≡◌, ◌↔◌, ◌≢◌, ◌⊎◌, length, take, drop, None}
 use mathlib.Core.List.{List, [], ◌∷◌, ◌++◌, map, Memᴰ}
-use Rattle.std.proofs.Math.Option.{none}
 use Rattle.spec_refusal.specs.declared.Refusal.{Refusal}
 use Rattle.spec_refusal.specs.declared.Refusal.TheVariants.{NoRoom}
 use Rattle.spec_refusal.specs.Order.{rank}
@@ -26,7 +25,7 @@ use Rattle.spec_rule.specs.RelevantSet.{CaaRecord, Book, Lookup, empty, found, e
 use Rattle.spec_rule.specs.Authorizations.{Authorization, unrestricted, forbidden, granted, unresolved, authorization}
 use Rattle.spec_rule.specs.Verdicts.{denial, decision, verdict}
 use Rattle.spec_rule.specs.IssuerLists.{Issuers, anyone, listed, issuers, entries, read_entry}
-use Rattle.spec_rule.specs.Calls.{authorizations, judge, Listing, list_issuers, AnswerCode, judgement_code}
+use Rattle.spec_rule.specs.Calls.{authorizations, judge, Listing, list_issuers, judgement_code}
 use Rattle.spec_rule.specs.Meaning.{CaaRecordsOf, AliasesOf, OwnedBy, AliasOf, Leads, EndsAt, NearestAt, UnknownCriticalRecord, Relevant, Unrestricted, PermittedTo, ForbiddenBy, GovernedFrom, GoverningRecords, UnresolvedFrom, DecidedAt, LowestNot, Before, GrantedBefore}
 
 -- The CAA records are those of type 257 and class 1, numbered from 0 over all records.
@@ -113,7 +112,7 @@ VerdictNumbers =
 abbrev pub JudgeAccepted : Type 0
 JudgeAccepted =
     (request issuer : List ℕ) (who : Applicant) (book : List ℕ) →
-    request_refusal request ≡ none → issuer_refusal issuer ≡ none → applicant_refusal who ≡ none → book_refusal book ≡ none →
+    request_refusal request ≡ None → issuer_refusal issuer ≡ None → applicant_refusal who ≡ None → book_refusal book ≡ None →
     VerdictOn who (as_book (records book)) (requested_names request) issuer (judge request issuer who book)
 
 -- The output needs n octets, and the buffer has fewer.
@@ -165,7 +164,7 @@ pub record PermittedIssuersAre (request : List ℕ) (who : Applicant) (book : Li
 abbrev pub PermittedIssuersExactly : Type 0
 PermittedIssuersExactly =
     (request : List ℕ) (who : Applicant) (book : List ℕ) →
-    request_refusal request ≡ none → applicant_refusal who ≡ none → book_refusal book ≡ none →
+    request_refusal request ≡ None → applicant_refusal who ≡ None → book_refusal book ≡ None →
     PermittedIssuersAre request who book (issuers (authorizations request who book))
 
 -- The octets of a list: the lengths of its names, and one more for each.
@@ -177,7 +176,7 @@ total (n ∷ ns) = length n + 1 + total ns
 abbrev pub ListInTheBuffer : Type 0
 ListInTheBuffer =
     (request : List ℕ) (who : Applicant) (book buffer : List ℕ) →
-    request_refusal request ≡ none → applicant_refusal who ≡ none → book_refusal book ≡ none →
+    request_refusal request ≡ None → applicant_refusal who ≡ None → book_refusal book ≡ None →
     (issuers (authorizations request who book) ≡ anyone →
     list_issuers request who book buffer ≡ record { answer = Anyone; buffer = buffer })
     × ((ns : List (List ℕ)) → issuers (authorizations request who book) ≡ listed ns → total ns ≤ length buffer →
@@ -188,7 +187,7 @@ ListInTheBuffer =
 abbrev pub UnknownCriticalListsNobody : Type 0
 UnknownCriticalListsNobody =
     (request : List ℕ) (who : Applicant) (book buffer : List ℕ) →
-    request_refusal request ≡ none → applicant_refusal who ≡ none → book_refusal book ≡ none →
+    request_refusal request ≡ None → applicant_refusal who ≡ None → book_refusal book ≡ None →
     Any
     (λ n. (rs : List CaaRecord) × Relevant (as_book (records book)) n rs × Any UnknownCriticalRecord rs)
     (requested_names request) →
@@ -198,14 +197,14 @@ UnknownCriticalListsNobody =
 abbrev pub UnresolvedListsNobody : Type 0
 UnresolvedListsNobody =
     (request : List ℕ) (who : Applicant) (book buffer : List ℕ) →
-    request_refusal request ≡ none → applicant_refusal who ≡ none → book_refusal book ≡ none →
+    request_refusal request ≡ None → applicant_refusal who ≡ None → book_refusal book ≡ None →
     Any (λ n. (r : ℕ) × UnresolvedFrom (as_book (records book)) n r) (requested_names request) →
     list_issuers request who book buffer ≡ record { answer = Listed 0 0; buffer = buffer }
 
 -- The list never needs more octets than the book has.
 abbrev pub RoomOfTheBook : Type 0
 RoomOfTheBook =
-    (request : List ℕ) (who : Applicant) (book : List ℕ) → Octets book → book_refusal book ≡ none → (ns : List (List ℕ)) →
+    (request : List ℕ) (who : Applicant) (book : List ℕ) → Octets book → book_refusal book ≡ None → (ns : List (List ℕ)) →
     issuers (authorizations request who book) ≡ listed ns → total ns ≤ length book
 
 -- The names of a list can be read back from its octets.
@@ -245,7 +244,7 @@ pub record ListingTells (request : List ℕ) (who : Applicant) (book buffer : Li
 abbrev pub CallListsThePermitted : Type 0
 CallListsThePermitted =
     (request : List ℕ) (who : Applicant) (book buffer : List ℕ) →
-    request_refusal request ≡ none → applicant_refusal who ≡ none → book_refusal book ≡ none →
+    request_refusal request ≡ None → applicant_refusal who ≡ None → book_refusal book ≡ None →
     ((n : ℕ) → (list_issuers request who book buffer).answer ≢ ListRefused (NoRoom n)) →
     ListingTells request who book buffer (list_issuers request who book buffer)
 
@@ -253,14 +252,14 @@ CallListsThePermitted =
 abbrev pub BookLengthIsRoom : Type 0
 BookLengthIsRoom =
     (request : List ℕ) (who : Applicant) (book buffer : List ℕ) → Octets book →
-    request_refusal request ≡ none → applicant_refusal who ≡ none → book_refusal book ≡ none →
+    request_refusal request ≡ None → applicant_refusal who ≡ None → book_refusal book ≡ None →
     length book ≤ length buffer → (r : Refusal) → (list_issuers request who book buffer).answer ≢ ListRefused r
 
 -- A buffer is long enough exactly when it has the octets of the list, as answered for any other buffer; for anyone every buffer is.
 abbrev pub RoomNeeded : Type 0
 RoomNeeded =
     (request : List ℕ) (who : Applicant) (book buffer other : List ℕ) →
-    request_refusal request ≡ none → applicant_refusal who ≡ none → book_refusal book ≡ none →
+    request_refusal request ≡ None → applicant_refusal who ≡ None → book_refusal book ≡ None →
     ((list_issuers request who book other).answer ≡ Anyone → (list_issuers request who book buffer).answer ≡ Anyone)
     × ((count octets : ℕ) → (list_issuers request who book other).answer ≡ Listed count octets →
     (octets ≤ length buffer → (list_issuers request who book buffer).answer ≡ Listed count octets)

@@ -1,10 +1,10 @@
 -- The name asked for is at the end of the kept name.
+use Rattle.std.proofs.lemmas.Option.{same_Some, none-some}
 use Prim.Native.Nat.{ℕ, zero, suc, ◌+◌, ◌-◌}
 use native.Mathlib.Omega.{arith}
 use mathlib.Core.Path.{◌≡◌, refl, ap, sym, ◌∙◌}
 use mathlib.Core.Bool.{Bool, true, false, cond}
 use mathlib.Core.List.{List, [], ◌∷◌, ◌++◌, append_assoc}
-use mathlib.Core.Option.{some-injective}
 use lib.ListN.{length, take, drop, length-append}
 use lib.Seq.{drop_at, take-length}
 use Rattle.spec_name.specs.Names.{Name, wire}
@@ -46,9 +46,9 @@ at_the_end u n = without_asterisk n (drop u (base n)) (labels_off_lem u (base n)
 pub asked_octets : AskedOctets
 unfolding state kept_name
 asked_octets s y o e =
-    let t = not_ended s (λ z. mathlib.Core.Option.none-ne-some y (sym z ∙ e)) in
+    let t = not_ended s (λ z. none-some y (sym z ∙ e)) in
     let l = live s t in
-    let same = some-injective _ _ (sym e ∙ asks s l.name t l.kept) in
+    let same = same_Some _ _ (sym e ∙ asks s l.name t l.kept) in
     let (whole, good) = (one_name_read (held s.name) o l.name).0 l.kept in
     let (p, f) = at_the_end s.up l.name in
     placed p (whole ∙ f ∙ ap (λ z. p ++ wire z) (sym same))

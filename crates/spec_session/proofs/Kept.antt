@@ -1,10 +1,11 @@
 -- Which sessions keep the rules, and what such a session asks for.
+use Rattle.std.proofs.lemmas.Option.{same_Some, none-some}
+use Rattle.std.specs.Prelude.{Option, None, Some}
 use Prim.Native.Nat.{ℕ, ◌<◌}
 use mathlib.Core.Path.{◌≡◌, refl, ap, sym, ◌∙◌}
 use mathlib.Core.Logic.{◌↔◌}
 use mathlib.Core.Bool.{Bool, true, false, ◌&&◌, false≢true, and-eq-true_iff}
 use mathlib.Core.List.{List, [], ◌∷◌, append-nil, cons≢nil}
-use mathlib.Core.Option.{Option, none, some, some-injective, none-ne-some}
 use lib.Dec.{eqb}
 use lib.ListN.{length}
 use borrow.Author.Tests.{ltb-true, lt-ltb}
@@ -24,23 +25,23 @@ use Rattle.spec_session.specs.Meaning.{KeptWell}
 use Rattle.spec_session.specs.Theorems.{BrokenIsEnded, KeptExactly}
 
 -- a name that fills the octets
-pub filling_some : (o : Option (Name × List ℕ)) (n : Name) → (filling o ≡ some n) ↔ (o ≡ some (n, []))
-filling_some none n = (λ e. absurd (none-ne-some _ e), λ e. absurd (none-ne-some _ e))
-filling_some (some (m, [])) n = (λ e. (pure_some m n [] []).1 (some-injective _ _ e, refl), λ e. ap some ((pure_some m n [] []).0 e).0)
-filling_some (some (m, x ∷ s)) n = (λ e. absurd (none-ne-some _ e), λ e. absurd (cons≢nil ((pure_some m n (x ∷ s) []).0 e).1))
+pub filling_some : (o : Option (Name × List ℕ)) (n : Name) → (filling o ≡ Some n) ↔ (o ≡ Some (n, []))
+filling_some None n = (λ e. absurd (none-some _ e), λ e. absurd (none-some _ e))
+filling_some (Some (m, [])) n = (λ e. (pure_some m n [] []).1 (same_Some _ _ e, refl), λ e. ap Some ((pure_some m n [] []).0 e).0)
+filling_some (Some (m, x ∷ s)) n = (λ e. absurd (none-some _ e), λ e. absurd (cons≢nil ((pure_some m n (x ∷ s) []).0 e).1))
 
-pub one_name_read : (s : List ℕ) → Octets s → (n : Name) → (filling (requested_name s) ≡ some n) ↔ ((s ≡ wire n) × GoodRequested n)
+pub one_name_read : (s : List ℕ) → Octets s → (n : Name) → (filling (requested_name s) ≡ Some n) ↔ ((s ≡ wire n) × GoodRequested n)
 one_name_read s o n = (
   λ e. let (whole, good) = (requested_name_is_its_labels s o n []).0 ((filling_some (requested_name s) n).0 e) in (whole ∙ append-nil (wire n), good),
   λ h. (filling_some (requested_name s) n).1 ((requested_name_is_its_labels s o n []).1 (h.0 ∙ sym (append-nil (wire n)), h.1)),
 )
 
 -- a name is kept, and more labels than are taken off
-pub reached : (o : Option Name) (u : ℕ) → (reaches o u ≡ true) ↔ ((n : Name) × (o ≡ some n) × (u < length (base n)))
-reached none u = (λ e. absurd (false≢true e), λ (n, e, h). absurd (none-ne-some n e))
-reached (some n) u = (
+pub reached : (o : Option Name) (u : ℕ) → (reaches o u ≡ true) ↔ ((n : Name) × (o ≡ Some n) × (u < length (base n)))
+reached None u = (λ e. absurd (false≢true e), λ (n, e, h). absurd (none-some n e))
+reached (Some n) u = (
   λ e. (n, refl, ltb-true u (length (base n)) e),
-  λ (m, e, h). let same = some-injective n m e in rw same (lt-ltb u (length (base m)) h),
+  λ (m, e, h). let same = same_Some n m e in rw same (lt-ltb u (length (base m)) h),
 )
 
 -- the three tests of a session that keeps the rules

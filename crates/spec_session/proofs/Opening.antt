@@ -1,4 +1,6 @@
 -- Opening a session: when it is refused, and what a session that is opened asks for.
+use Rattle.std.proofs.lemmas.Option.{none-some, same_Some}
+use Rattle.std.specs.Prelude.{Option, None, Some}
 use Prim.Native.Nat.{ℕ, ◌≤◌, ◌<◌}
 use native.Mathlib.Omega.{arith}
 use mathlib.Core.Path.{◌≡◌, refl, ap, sym, ◌∙◌}
@@ -7,7 +9,6 @@ use mathlib.Core.Logic.{◌↔◌, ◌≢◌, ◌⊎◌, inl, inr}
 use mathlib.Core.Bool.{Bool, true, false, cond, not, false≢true, and-eq-true_iff}
 use mathlib.Core.List.Memᴰ
 use mathlib.Core.List.{List, [], ◌∷◌, ◌++◌, append-nil, cons≢nil}
-use mathlib.Core.Option.{Option, none, some, none-ne-some, some-injective}
 use lib.Dec.{ltb}
 use lib.ListN.{length}
 use borrow.Author.Tests.{leb-true, ltb-true, ltb-false, le-ltb}
@@ -43,39 +44,39 @@ use Rattle.spec_session.proofs.StepLaws.{asks, asking_stands_nothing, state_no_r
 abbrev bad_name : ℕ → Refusal
 bad_name k = BadName (record { 0 = k })
 
-one_place : {j k : ℕ} → some (bad_name j) ≡ some (bad_name k) → k ≡ j
+one_place : {j k : ℕ} → Some (bad_name j) ≡ Some (bad_name k) → k ≡ j
 unfolding place
-one_place {j} {k} e = sym (ap place (some-injective (bad_name j) (bad_name k) e))
+one_place {j} {k} e = sym (ap place (same_Some (bad_name j) (bad_name k) e))
 
 module _ (s : List ℕ) (o : Octets s) where
   -- row 2, by what is read at the front
-  second_row : (k : ℕ) → (rest_refusal (requested_name s) ≡ some (bad_name k)) ↔ OneName2 s k
+  second_row : (k : ℕ) → (rest_refusal (requested_name s) ≡ Some (bad_name k)) ↔ OneName2 s k
   second_row k = go (requested_name s) refl
     where
-      at_front : (n : Name) (rest : List ℕ) → (requested_name s ≡ some (n, rest)) ↔ ((s ≡ wire n ++ rest) × GoodRequested n)
+      at_front : (n : Name) (rest : List ℕ) → (requested_name s ≡ Some (n, rest)) ↔ ((s ≡ wire n ++ rest) × GoodRequested n)
       at_front n rest = requested_name_is_its_labels s o n rest
 
-      go : (r : Option (Name × List ℕ)) → requested_name s ≡ r → (rest_refusal r ≡ some (bad_name k)) ↔ OneName2 s k
-      go none e = (λ h. inl (one_place h, λ n rest f g. none-ne-some _ (sym e ∙ (at_front n rest).1 (f, g))), back)
+      go : (r : Option (Name × List ℕ)) → requested_name s ≡ r → (rest_refusal r ≡ Some (bad_name k)) ↔ OneName2 s k
+      go None e = (λ h. inl (one_place h, λ n rest f g. none-some _ (sym e ∙ (at_front n rest).1 (f, g))), back)
         where
-          back : OneName2 s k → rest_refusal none ≡ some (bad_name k)
-          back (inl (z, nothing)) = ap (λ i. some (bad_name i)) (sym z)
-          back (inr (z, (n, rest, f, g, more))) = absurd (none-ne-some _ (sym e ∙ (at_front n rest).1 (f, g)))
-      go (some (n, [])) e = (λ h. absurd (none-ne-some _ h), back)
+          back : OneName2 s k → rest_refusal None ≡ Some (bad_name k)
+          back (inl (z, nothing)) = ap (λ i. Some (bad_name i)) (sym z)
+          back (inr (z, (n, rest, f, g, more))) = absurd (none-some _ (sym e ∙ (at_front n rest).1 (f, g)))
+      go (Some (n, [])) e = (λ h. absurd (none-some _ h), back)
         where
-          back : OneName2 s k → rest_refusal (some (n, [])) ≡ some (bad_name k)
+          back : OneName2 s k → rest_refusal (Some (n, [])) ≡ Some (bad_name k)
           back (inl (z, nothing)) = let (f, g) = (at_front n []).0 e in absurd (nothing n [] f g)
           back (inr (z, (m, rest, f, g, more))) = absurd (more (sym ((pure_some n m [] rest).0 (sym e ∙ (at_front m rest).1 (f, g))).1))
-      go (some (n, x ∷ rest)) e = (λ h. let (f, g) = (at_front n (x ∷ rest)).0 e in inr (one_place h, (n, x ∷ rest, f, g, cons≢nil)), back)
+      go (Some (n, x ∷ rest)) e = (λ h. let (f, g) = (at_front n (x ∷ rest)).0 e in inr (one_place h, (n, x ∷ rest, f, g, cons≢nil)), back)
         where
-          back : OneName2 s k → rest_refusal (some (n, x ∷ rest)) ≡ some (bad_name k)
+          back : OneName2 s k → rest_refusal (Some (n, x ∷ rest)) ≡ Some (bad_name k)
           back (inl (z, nothing)) = let (f, g) = (at_front n (x ∷ rest)).0 e in absurd (nothing n (x ∷ rest) f g)
-          back (inr h) = ap (λ i. some (bad_name i)) (sym h.0)
+          back (inr h) = ap (λ i. Some (bad_name i)) (sym h.0)
 
-  only_2 : (c : Option (Name × List ℕ)) (r : Refusal) → rest_refusal c ≡ some r → (k : ℕ) × (r ≡ bad_name k)
-  only_2 none r e = (0, sym (some-injective _ _ e))
-  only_2 (some (n, [])) r e = absurd (none-ne-some r e)
-  only_2 (some (n, x ∷ rest)) r e = (1, sym (some-injective _ _ e))
+  only_2 : (c : Option (Name × List ℕ)) (r : Refusal) → rest_refusal c ≡ Some r → (k : ℕ) × (r ≡ bad_name k)
+  only_2 None r e = (0, sym (same_Some _ _ e))
+  only_2 (Some (n, [])) r e = absurd (none-some r e)
+  only_2 (Some (n, x ∷ rest)) r e = (1, sym (same_Some _ _ e))
 
   abbrev Later : Refusal → Type 0
   Later r = (k : ℕ) × (r ≡ bad_name k) × OneName2 s k
@@ -96,7 +97,7 @@ module _ (s : List ℕ) (o : Octets s) where
     where
       over :
           (t : Bool) → ltb max_request_octets (length s) ≡ t →
-          (cond t (some RequestTooLong) (rest_refusal (requested_name s)) ≡ some RequestTooLong) ↔ (max_request_octets < length s)
+          (cond t (Some RequestTooLong) (rest_refusal (requested_name s)) ≡ Some RequestTooLong) ↔ (max_request_octets < length s)
       over true e = (λ h. ltb-true _ _ e, λ h. refl)
       over false e = (
         λ h. let (k, f) = only_2 (requested_name s) RequestTooLong h in absurd (not_row_1 (sym f)),
@@ -104,11 +105,11 @@ module _ (s : List ℕ) (o : Octets s) where
       )
 
       faults :
-          (t : Bool) (r : Refusal) → cond t (some RequestTooLong) (rest_refusal (requested_name s)) ≡ some r → (r ≡ RequestTooLong) ⊎ Later r
-      faults true r e = inl (sym (some-injective _ _ e))
-      faults false r e = let (k, f) = only_2 (requested_name s) r e in inr (k, f, (second_row k).0 (e ∙ ap some f))
+          (t : Bool) (r : Refusal) → cond t (Some RequestTooLong) (rest_refusal (requested_name s)) ≡ Some r → (r ≡ RequestTooLong) ⊎ Later r
+      faults true r e = inl (sym (same_Some _ _ e))
+      faults false r e = let (k, f) = only_2 (requested_name s) r e in inr (k, f, (second_row k).0 (e ∙ ap Some f))
 
-      fits : (r : Refusal) → Later r → length s ≤ max_request_octets → cond (ltb max_request_octets (length s)) (some RequestTooLong) (rest_refusal (requested_name s)) ≡ some r
+      fits : (r : Refusal) → Later r → length s ≤ max_request_octets → cond (ltb max_request_octets (length s)) (Some RequestTooLong) (rest_refusal (requested_name s)) ≡ Some r
       fits r (k, e, h) few = rw (le-ltb max_request_octets (length s) few, e) ((second_row k).1 h)
 
 pub open_keeps :
@@ -118,9 +119,9 @@ unfolding checked_at
 open_keeps request issuer who o = in_front (one_name_keeps request o) (in_front (issuer_keeps issuer) (applicant_keeps who) refl) refl
 
 -- an opening is refused by a check, as no state is a refusal
-open_refused : (c : Option Refusal) (t : Session) (r : Refusal) → ((opened_or c t).answer ≡ Judged (Refused r)) ↔ (c ≡ some r)
-open_refused none t r = (λ e. absurd (false≢true (sym (state_no_refusal t) ∙ ap is_refusal e)), λ e. absurd (none-ne-some r e))
-open_refused (some q) t r = (λ e. cc, λ e. cc)
+open_refused : (c : Option Refusal) (t : Session) (r : Refusal) → ((opened_or c t).answer ≡ Judged (Refused r)) ↔ (c ≡ Some r)
+open_refused None t r = (λ e. absurd (false≢true (sym (state_no_refusal t) ∙ ap is_refusal e)), λ e. absurd (none-some r e))
+open_refused (Some q) t r = (λ e. cc, λ e. cc)
 
 pub open_refusals : OpenRefusals
 unfolding opened
@@ -148,7 +149,7 @@ unfolding max_name_octets max_request_octets
 names_within = leb-true 255 16384 refl
 
 -- a name that is read has a label to ask for
-labels_left : (s : List ℕ) (n : Name) (rest : List ℕ) → requested_name s ≡ some (n, rest) → 0 < length (base n)
+labels_left : (s : List ℕ) (n : Name) (rest : List ℕ) → requested_name s ≡ Some (n, rest) → 0 < length (base n)
 unfolding requested_name is_requestable
 labels_left s n rest e =
     let (m, mid, f, h) = (bind_some name (λ m. given (is_requestable m) m) s n rest).0 e in
@@ -191,11 +192,11 @@ module _ {request issuer : List ℕ} {who : Applicant} {n : Name} (g : GoodOpeni
   unfolding session_of kept_applicant
   start_applicant = rw (account_held, method_held)
 
-  pub start_kept : kept_name start ≡ some n
+  pub start_kept : kept_name start ≡ Some n
   unfolding kept_name
   start_kept = rw start_name ((one_name_read request g.are_octets n).1 (g.one_name, g.valid))
 
-  front_read : requested_name request ≡ some (n, [])
+  front_read : requested_name request ≡ Some (n, [])
   front_read = (requested_name_is_its_labels request g.are_octets n []).1 (g.one_name ∙ sym (append-nil (wire n)), g.valid)
 
   some_label : 0 < length (base n)

@@ -1,4 +1,6 @@
 -- What holds of a session from a good opening on, whatever answers come.
+use Rattle.std.proofs.lemmas.Option.{none-some, same_Some}
+use Rattle.std.specs.Prelude.{Option, None, Some}
 use Prim.Native.Nat.{ℕ, zero, suc, ◌+◌, ◌≤◌, ◌<◌}
 use native.Mathlib.Omega.{arith}
 use native.Mathlib.Nat.{le_of_suc-le-suc, not-suc-le-zero}
@@ -6,7 +8,6 @@ use mathlib.Core.Path.{◌≡◌, refl, ap, sym, ◌∙◌}
 use mathlib.Core.Logic.{◌≢◌, ◌⊎◌, inl, inr, ⊎_elim}
 use mathlib.Core.Bool.{Bool, true, false, cond}
 use mathlib.Core.List.{List, [], ◌∷◌, ◌++◌, map}
-use mathlib.Core.Option.{Option, none, some, none-ne-some, some-injective}
 use lib.ListN.{length, take, drop, get_or}
 use borrow.Author.Tests.{lt-ltb}
 use Rattle.spec_limits.specs.Limits.{max_records}
@@ -91,7 +92,7 @@ looked_below b x (endless r) e =
 -- a verdict on one name is read back from what is kept of it
 told_back :
     (wildcard : Bool) (l : Lookup) (u : ℕ) → Below l → (j : Judgement) → NumberedBy wildcard l u j →
-    verdict_of (judgement_code j).number (get_or (judgement_code j).values 1 0) u ≡ some (Judged j)
+    verdict_of (judgement_code j).number (get_or (judgement_code j).values 1 0) u ≡ Some (Judged j)
 unfolding judgement_code verdict_of
 told_back wildcard l u h j (inl e) = rw e refl
 told_back wildcard l u h j (inr (inl (rs, c, f, (before, after, split, p, ns), e))) =
@@ -104,41 +105,41 @@ told_back wildcard l u h j (inr (inr (inr (r, f, e)))) =
     let few : r < max_records = rw f at h in
     rw (e, lt-ltb r max_records few) refl
 
-stands : {o : Option SessionAnswer} {v : SessionAnswer} → o ≡ some v → o ≢ none
-stands {o} {v} e z = none-ne-some v (sym z ∙ e)
+stands : {o : Option SessionAnswer} {v : SessionAnswer} → o ≡ Some v → o ≢ None
+stands {o} {v} e z = none-some v (sym z ∙ e)
 
 -- a session after k accepted answers: it asks for the next name, or has a verdict
 abbrev Place : Name → ℕ → Session → Type 0
 Place n k t =
-    ((standing t ≡ none) × (asked t ≡ some (drop k (base n))) × (k < length (base n)))
-    ⊎ ((standing t ≢ none) × (asked t ≡ none) × (k ≤ length (base n)))
+    ((standing t ≡ None) × (asked t ≡ Some (drop k (base n))) × (k < length (base n)))
+    ⊎ ((standing t ≢ None) × (asked t ≡ None) × (k ≤ length (base n)))
 
 module _ (issuer : List ℕ) (who : Applicant) (n : Name) where
   abbrev On : Session → List (Option Name × Answer) → Session → Type 0
   On = Trail issuer who n
 
-  pub phase_asks : {s : Session} → OnCourse issuer who n s → standing s ≡ none
+  pub phase_asks : {s : Session} → OnCourse issuer who n s → standing s ≡ None
   phase_asks {s} c = asking_stands_nothing s (live s c.takes).in_phase
 
   pub concluded_stands :
       {s : Session} → OnCourse issuer who n s → (b : List ℕ) →
       standing (concluded s n (looked issuer who n s b))
-      ≡ some (Judged (verdict issuer (decided_from who (is_wildcard n) s.up (looked issuer who n s b) ∷ [])))
+      ≡ Some (Judged (verdict issuer (decided_from who (is_wildcard n) s.up (looked issuer who n s b) ∷ [])))
   concluded_stands {s} c b =
       let l = looked issuer who n s b in
       closed_stands _ _ s (live s c.takes).keeps
       ∙ rw (c.of_issuer, c.of_applicant)
       (told_back (is_wildcard n) l s.up (looked_below b (next issuer who n s) l refl) _ (numbered issuer who (is_wildcard n) s.up l))
 
-  failed_stands : {s : Session} → OnCourse issuer who n s → standing (closed_with 23 0 s) ≡ some LookupFailed
+  failed_stands : {s : Session} → OnCourse issuer who n s → standing (closed_with 23 0 s) ≡ Some LookupFailed
   unfolding verdict_of
   failed_stands {s} c = closed_stands 23 0 s (live s c.takes).keeps
 
   names_in_turn : {s t : Session} {ts : List (Option Name × Answer)} → On s ts t →
-      map (λ p. p.0) ts ≡ map some (take (length ts) (ancestors (next issuer who n s)))
+      map (λ p. p.0) ts ≡ map Some (take (length ts) (ancestors (next issuer who n s)))
   names_in_turn (stays c) = refl
   names_in_turn (climbs {s} {t} {b} {ts} c e h more) =
-      rw (first_ancestor s.up (base n) (below issuer who n c)) (ap (◌∷◌ (some (next issuer who n s))) (names_in_turn more))
+      rw (first_ancestor s.up (base n) (below issuer who n c)) (ap (◌∷◌ (Some (next issuer who n s))) (names_in_turn more))
   names_in_turn (decides {s} c why) = rw (first_ancestor s.up (base n) (below issuer who n c)) refl
   names_in_turn (fails {s} c) = rw (first_ancestor s.up (base n) (below issuer who n c)) refl
 
@@ -160,19 +161,19 @@ module _ (issuer : List ℕ) (who : Applicant) (n : Name) where
   abbrev Decided : Session → List (Option Name × Answer) → Judgement → Type 0
   Decided s ts j =
       (front : List (Option Name × Answer)) × (y : Name) × (b : List ℕ) × (u : ℕ) × (u ≡ s.up + length front)
-      × (ts ≡ front ++ ((some y, book b) ∷ []))
+      × (ts ≡ front ++ ((Some y, book b) ∷ []))
       × (j ≡ verdict issuer (decided_from who (is_wildcard n) u (lookup (as_book (records b)) y) ∷ []))
 
-  by_the_last : {s t : Session} {ts : List (Option Name × Answer)} → On s ts t → (j : Judgement) → standing t ≡ some (Judged j) → Decided s ts j
-  by_the_last (stays c) j e = absurd (none-ne-some _ (sym (phase_asks c) ∙ e))
+  by_the_last : {s t : Session} {ts : List (Option Name × Answer)} → On s ts t → (j : Judgement) → standing t ≡ Some (Judged j) → Decided s ts j
+  by_the_last (stays c) j e = absurd (none-some _ (sym (phase_asks c) ∙ e))
   by_the_last (climbs {s} {t} {b} {ts} c f h more) j e =
       let (front, y, a, u, k, split, is) = by_the_last more j e in
-      ((some (next issuer who n s), book b) ∷ front, y, a, u, omega arith, ap (◌∷◌ (some (next issuer who n s), book b)) split, is)
+      ((Some (next issuer who n s), book b) ∷ front, y, a, u, omega arith, ap (◌∷◌ (Some (next issuer who n s), book b)) split, is)
   by_the_last (decides {s} {b} c why) j e =
-      let same = some-injective _ _ (sym e ∙ concluded_stands c b) in
+      let same = same_Some _ _ (sym e ∙ concluded_stands c b) in
       ([], next issuer who n s, b, s.up, omega arith, refl, cc)
   by_the_last (fails c) j e =
-      let same = some-injective _ _ (sym e ∙ failed_stands c) in
+      let same = same_Some _ _ (sym e ∙ failed_stands c) in
       let z : ◌≡◌ {A = ℕ} 0 1 = cc in absurd (omega arith)
 
 -- from a good opening on
@@ -198,8 +199,8 @@ unfolding session_of
 asked_in_turn request issuer who n g given = (
   names_in_turn issuer who n (from_start g given),
   λ y e. ⊎_elim
-      (λ h. some-injective _ _ (sym e ∙ h.1))
-      (λ h. absurd (none-ne-some y (sym h.1 ∙ e)))
+      (λ h. same_Some _ _ (sym e ∙ h.1))
+      (λ h. absurd (none-some y (sym h.1 ∙ e)))
       (placed g given),
 )
 
@@ -217,10 +218,10 @@ own_numbers request issuer who n g given j e =
   where
     told :
         (front : List (Option Name × Answer)) (y : Name) (b : List ℕ) (u : ℕ) → u ≡ length front →
-        accepted_of request issuer who given ≡ front ++ ((some y, book b) ∷ []) →
+        accepted_of request issuer who given ≡ front ++ ((Some y, book b) ∷ []) →
         j ≡ verdict issuer (decided_from who (is_wildcard n) u (lookup (as_book (records b)) y) ∷ []) →
         (front : List (Option Name × Answer)) × (y : Name) × (b : List ℕ)
-        × (accepted_of request issuer who given ≡ front ++ ((some y, book b) ∷ []))
+        × (accepted_of request issuer who given ≡ front ++ ((Some y, book b) ∷ []))
         × (j ≡ verdict issuer (decided_from who (is_wildcard n) (length front) (lookup (as_book (records b)) y) ∷ []))
         × NumberedBy (is_wildcard n) (lookup (as_book (records b)) y) (length front) j
     told front y b u k split is =

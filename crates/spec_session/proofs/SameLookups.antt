@@ -1,8 +1,9 @@
 -- Two books that have the same for a name: the same lookup, but for numbers and owners.
+use Rattle.std.proofs.lemmas.Option.{none-some}
+use Rattle.std.specs.Prelude.{Option, None, Some}
 use Prim.Native.Nat.{ℕ, zero, suc}
 use mathlib.Core.Path.{◌≡◌, refl, ap, sym, ◌∙◌, fun_ext}
 use mathlib.Core.List.{List, [], ◌∷◌, map, nil≢cons, cons≢nil, head-eq_of_cons-eq, tail-eq_of_cons-eq}
-use mathlib.Core.Option.{Option, none, some, none-ne-some}
 use Rattle.spec_limits.specs.Limits.{max_aliases}
 use Rattle.spec_octets.specs.Lists.{select}
 use Rattle.spec_octets.specs.Octets.{lowered}
@@ -21,8 +22,8 @@ pub data Alike : Lookup → Lookup → Type 0 where
 
 -- following ends at the same name, ignoring case, or at none
 data SameEnd : Option Name → Option Name → Type 0 where
-  neither : SameEnd none none
-  each : {u v : Name} → map lowered u ≡ map lowered v → SameEnd (some u) (some v)
+  neither : SameEnd None None
+  each : {u v : Name} → map lowered u ≡ map lowered v → SameEnd (Some u) (Some v)
 
 module _ (al bl : List Alias) where
   followed_alike :
@@ -32,7 +33,7 @@ module _ (al bl : List Alias) where
     where
       go :
           (ps qs : List Alias) → map (map lowered) (onward ps (targets zero al)) ≡ map (map lowered) (onward qs (targets zero bl)) →
-          SameEnd (through ps (λ t. none) x) (through qs (λ t. none) y)
+          SameEnd (through ps (λ t. None) x) (through qs (λ t. None) y)
       go [] [] h = each e
       go [] (b ∷ qs) h = absurd (nil≢cons h)
       go (a ∷ ps) [] h = absurd (cons≢nil h)
@@ -50,7 +51,7 @@ module _ (al bl : List Alias) where
       go (a ∷ ps) (b ∷ qs) h later = later a.target b.target (head-eq_of_cons-eq h) (tail-eq_of_cons-eq h)
 
 -- without an alias, a name is its own end
-no_alias_ends : (n : ℕ) (al : List Alias) (x : Name) → aliases_of al x ≡ [] → followed n al x ≡ some x
+no_alias_ends : (n : ℕ) (al : List Alias) (x : Name) → aliases_of al x ≡ [] → followed n al x ≡ Some x
 no_alias_ends zero al x e = rw e refl
 no_alias_ends (suc n) al x e = rw e refl
 
@@ -79,17 +80,17 @@ same_lookups whole part x (chain, sets) = go
     go :
         (o p : Option Name) → followed max_aliases part.aliases x ≡ o → followed max_aliases whole.aliases x ≡ p → SameEnd o p →
         Alike (looked_up part.caa (aliases_of part.aliases x) o) (looked_up whole.caa (aliases_of whole.aliases x) p)
-    go none (some v) e f h = elim h [ ]
-    go (some u) none e f h = elim h [ ]
-    go (some u) (some v) e f (each h) = as_lookups
+    go None (Some v) e f h = elim h [ ]
+    go (Some u) None e f h = elim h [ ]
+    go (Some u) (Some v) e f (each h) = as_lookups
         (caa_at part.caa u)
         (caa_at whole.caa v)
         (ap properties_of (same_owner part.caa u v h) ∙ sets v ((followed_ends whole.aliases max_aliases x v).0 f))
-    go none none e f neither = first_aliases (aliases_of part.aliases x) (aliases_of whole.aliases x) refl refl
+    go None None e f neither = first_aliases (aliases_of part.aliases x) (aliases_of whole.aliases x) refl refl
       where
         first_aliases :
             (ps qs : List Alias) → aliases_of part.aliases x ≡ ps → aliases_of whole.aliases x ≡ qs →
-            Alike (looked_up part.caa ps none) (looked_up whole.caa qs none)
-        first_aliases [] qs i j = absurd (none-ne-some x (sym e ∙ no_alias_ends max_aliases part.aliases x i))
-        first_aliases (a ∷ ps) [] i j = absurd (none-ne-some x (sym f ∙ no_alias_ends max_aliases whole.aliases x j))
+            Alike (looked_up part.caa ps None) (looked_up whole.caa qs None)
+        first_aliases [] qs i j = absurd (none-some x (sym e ∙ no_alias_ends max_aliases part.aliases x i))
+        first_aliases (a ∷ ps) [] i j = absurd (none-some x (sym f ∙ no_alias_ends max_aliases whole.aliases x j))
         first_aliases (a ∷ ps) (b ∷ qs) i j = both_endless

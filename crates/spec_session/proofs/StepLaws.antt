@@ -1,11 +1,12 @@
 -- What one answer does to a session: refusals, and the session that stays or ends.
+use Rattle.std.proofs.lemmas.Option.{none-some, same_Some}
+use Rattle.std.specs.Prelude.{Option, None, Some}
 use Prim.Native.Nat.{ℕ, ◌<◌}
 use mathlib.Core.Path.{◌≡◌, refl, ap, sym, ◌∙◌}
 use mathlib.Core.Logic.Iff
 use mathlib.Core.Logic.{◌↔◌, ◌≢◌, ⊎_elim}
 use mathlib.Core.Bool.{Bool, true, false, cond, ◌&&◌, true≢false, false≢true, and-eq-true_iff}
 use mathlib.Core.List.{List, [], ◌∷◌}
-use mathlib.Core.Option.{Option, none, some, none-ne-some, some-injective}
 use lib.Dec.{eqb, ltb}
 use lib.ListN.{length, drop}
 use Rattle.spec_limits.specs.Limits.{max_records}
@@ -31,7 +32,7 @@ use Rattle.spec_session.proofs.Kept.{reached, kept_tests}
 -- a session that takes answers has a name, and asks for it or for a name above it
 pub record Live (s : Session) : Type 0 where
   pub name : Name
-  pub kept : kept_name s ≡ some name
+  pub kept : kept_name s ≡ Some name
   pub below : s.up < length (base name)
   pub in_phase : s.phase ≡ asking
   pub keeps : is_kept s ≡ true
@@ -43,18 +44,18 @@ live s e =
     let (n, f, up) = (reached (kept_name s) s.up).0 ((kept_tests s).0 keeps).0 in
     record { name = n; kept = f; below = up; in_phase = borrow.Author.Tests.eqb-true _ _ phase; keeps = keeps }
 
-pub asks : (s : Session) (n : Name) → is_asking s ≡ true → kept_name s ≡ some n → asked s ≡ some (drop s.up (base n))
+pub asks : (s : Session) (n : Name) → is_asking s ≡ true → kept_name s ≡ Some n → asked s ≡ Some (drop s.up (base n))
 unfolding asked
 asks s n e f = rw (e, f)
 
-pub asks_nothing : (s : Session) → is_asking s ≡ false → asked s ≡ none
+pub asks_nothing : (s : Session) → is_asking s ≡ false → asked s ≡ None
 unfolding asked
 asks_nothing s e = rw e
 
-pub ended : (s : Session) → asked s ≡ none → is_asking s ≡ false
-ended s e = not_passed (is_asking s) (λ t. let l = live s t in none-ne-some _ (sym e ∙ asks s l.name t l.kept))
+pub ended : (s : Session) → asked s ≡ None → is_asking s ≡ false
+ended s e = not_passed (is_asking s) (λ t. let l = live s t in none-some _ (sym e ∙ asks s l.name t l.kept))
 
-pub not_ended : (s : Session) → asked s ≢ none → is_asking s ≡ true
+pub not_ended : (s : Session) → asked s ≢ None → is_asking s ≡ true
 not_ended s h = ⊎_elim (λ t. t) (λ f. absurd (h (asks_nothing s f))) (true_or_false (is_asking s))
 
 pub ended_refuses : EndedRefuses
@@ -71,7 +72,7 @@ pub closed_keeps : (v r : ℕ) (s : Session) → is_kept (closed_with v r s) ≡
 unfolding is_kept kept_name kept_applicant
 closed_keeps v r s = refl
 
-pub closed_asks_nothing : (v r : ℕ) (s : Session) → asked (closed_with v r s) ≡ none
+pub closed_asks_nothing : (v r : ℕ) (s : Session) → asked (closed_with v r s) ≡ None
 unfolding asked is_asking asking decided
 closed_asks_nothing v r s = refl
 
@@ -80,7 +81,7 @@ unfolding standing decided
 closed_stands v r s e = rw (closed_keeps v r s, e)
 
 -- while a name is asked for, nothing stands
-pub asking_stands_nothing : (s : Session) → s.phase ≡ asking → standing s ≡ none
+pub asking_stands_nothing : (s : Session) → s.phase ≡ asking → standing s ≡ None
 unfolding standing asking decided
 asking_stands_nothing s e = rw e
 
@@ -93,17 +94,17 @@ failed_ends s h =
 
 -- no state is a refusal
 abbrev NoRefusal : Option SessionAnswer → Type 0
-NoRefusal o = (a : SessionAnswer) → o ≡ some a → is_refusal a ≡ false
+NoRefusal o = (a : SessionAnswer) → o ≡ Some a → is_refusal a ≡ false
 
-no_refusal : (b : SessionAnswer) → is_refusal b ≡ false → NoRefusal (some b)
-no_refusal b h a e = ap is_refusal (sym (some-injective b a e)) ∙ h
+no_refusal : (b : SessionAnswer) → is_refusal b ≡ false → NoRefusal (Some b)
+no_refusal b h a e = ap is_refusal (sym (same_Some b a e)) ∙ h
 
 neither_refusal : (t : Bool) (o p : Option SessionAnswer) → NoRefusal o → NoRefusal p → NoRefusal (cond t o p)
 neither_refusal true o p h k = h
 neither_refusal false o p h k = k
 
 record_no_refusal : (r : ℕ) (b : SessionAnswer) → is_refusal b ≡ false → NoRefusal (of_record r b)
-record_no_refusal r b h = neither_refusal (ltb r max_records) _ _ (no_refusal b h) (λ a e. absurd (none-ne-some a e))
+record_no_refusal r b h = neither_refusal (ltb r max_records) _ _ (no_refusal b h) (λ a e. absurd (none-some a e))
 
 verdict_no_refusal : (v r u : ℕ) → NoRefusal (verdict_of v r u)
 unfolding verdict_of
@@ -112,24 +113,24 @@ verdict_no_refusal v r u =
     (neither_refusal (eqb v 20) _ _ (record_no_refusal r _ refl)
     (neither_refusal (eqb v 21) _ _ (record_no_refusal r _ refl)
     (neither_refusal (eqb v 22) _ _ (record_no_refusal r _ refl)
-    (neither_refusal (eqb v 23) _ _ (no_refusal _ refl) (λ a e. absurd (none-ne-some a e))))))
+    (neither_refusal (eqb v 23) _ _ (no_refusal _ refl) (λ a e. absurd (none-some a e))))))
 
-pub standing_no_refusal : (s : Session) (a : SessionAnswer) → standing s ≡ some a → is_refusal a ≡ false
+pub standing_no_refusal : (s : Session) (a : SessionAnswer) → standing s ≡ Some a → is_refusal a ≡ false
 unfolding standing
 standing_no_refusal s a e = go (eqb s.phase decided && is_kept s) e
   where
-    go : (t : Bool) → cond t (verdict_of s.verdict s.rr s.up) none ≡ some a → is_refusal a ≡ false
+    go : (t : Bool) → cond t (verdict_of s.verdict s.rr s.up) None ≡ Some a → is_refusal a ≡ false
     go true e = verdict_no_refusal s.verdict s.rr s.up a e
-    go false e = absurd (none-ne-some a e)
+    go false e = absurd (none-some a e)
 
 pub state_no_refusal : (s : Session) → is_refusal (state s) ≡ false
 unfolding state
 state_no_refusal s = go (asked s) (standing s) refl
   where
     go : (o : Option Name) (v : Option SessionAnswer) → standing s ≡ v → is_refusal (state_from (length (held s.name)) o v) ≡ false
-    go (some y) v e = refl
-    go none (some a) e = standing_no_refusal s a e
-    go none none e = refl
+    go (Some y) v e = refl
+    go None (Some a) e = standing_no_refusal s a e
+    go None None e = refl
 
 pub state_tells : StateTells
 unfolding state
@@ -139,21 +140,21 @@ state_tells s = (
   λ e f. rw (e, f) refl,
 )
   where
-    no_name : (v : SessionAnswer) → standing s ≡ some v → asked s ≡ none
-    no_name v e = asks_nothing s (not_passed (is_asking s) (λ t. none-ne-some v (sym (asking_stands_nothing s (live s t).in_phase) ∙ e)))
+    no_name : (v : SessionAnswer) → standing s ≡ Some v → asked s ≡ None
+    no_name v e = asks_nothing s (not_passed (is_asking s) (λ t. none-some v (sym (asking_stands_nothing s (live s t).in_phase) ∙ e)))
 
 pub answered_by_state : AnsweredByState
 unfolding answered failed
 answered_by_state s (book b) = go (first_refusal (answer_checks s b))
   where
     go : (c : Option Refusal) → is_refusal (answered_or c s b).answer ≡ false → (answered_or c s b).answer ≡ state (answered_or c s b).session
-    go none h = refl
-    go (some r) h = absurd (true≢false h)
+    go None h = refl
+    go (Some r) h = absurd (true≢false h)
 answered_by_state s lookup_failed = go (ended_refusal s)
   where
     go : (c : Option Refusal) → is_refusal (failed_or c s).answer ≡ false → (failed_or c s).answer ≡ state (failed_or c s).session
-    go none h = refl
-    go (some r) h = absurd (true≢false h)
+    go None h = refl
+    go (Some r) h = absurd (true≢false h)
 
 -- what is no refusal
 not_refused : {a : SessionAnswer} {r : Refusal} → is_refusal a ≡ false → a ≢ Judged (Refused r)
@@ -164,27 +165,27 @@ ended_keeps : (s : Session) → Keeps (ended_refusal s ∷ []) (EndedRow s) (14 
 unfolding ended_refusal number
 ended_keeps s = one_row (⊎_elim while_asking when_ended (true_or_false (is_asking s))) (λ r. only (is_asking s) r) refl
   where
-    while_asking : is_asking s ≡ true → (cond (is_asking s) none (some SessionEnded) ≡ some SessionEnded) ↔ (asked s ≡ none)
-    while_asking e = (λ h. absurd (none-ne-some _ (ap (λ t. cond t none (some SessionEnded)) (sym e) ∙ h)), λ h. absurd (true≢false (sym e ∙ ended s h)))
+    while_asking : is_asking s ≡ true → (cond (is_asking s) None (Some SessionEnded) ≡ Some SessionEnded) ↔ (asked s ≡ None)
+    while_asking e = (λ h. absurd (none-some _ (ap (λ t. cond t None (Some SessionEnded)) (sym e) ∙ h)), λ h. absurd (true≢false (sym e ∙ ended s h)))
 
-    when_ended : is_asking s ≡ false → (cond (is_asking s) none (some SessionEnded) ≡ some SessionEnded) ↔ (asked s ≡ none)
-    when_ended e = (λ h. asks_nothing s e, λ h. ap (λ t. cond t none (some SessionEnded)) e)
+    when_ended : is_asking s ≡ false → (cond (is_asking s) None (Some SessionEnded) ≡ Some SessionEnded) ↔ (asked s ≡ None)
+    when_ended e = (λ h. asks_nothing s e, λ h. ap (λ t. cond t None (Some SessionEnded)) e)
 
-    only : (t : Bool) (r : Refusal) → cond t none (some SessionEnded) ≡ some r → r ≡ SessionEnded
-    only true r h = absurd (none-ne-some r h)
-    only false r h = sym (some-injective _ _ h)
+    only : (t : Bool) (r : Refusal) → cond t None (Some SessionEnded) ≡ Some r → r ≡ SessionEnded
+    only true r h = absurd (none-some r h)
+    only false r h = sym (same_Some _ _ h)
 
 one_check : (c : Option Refusal) → first_refusal (c ∷ []) ≡ c
-one_check none = refl
-one_check (some r) = refl
+one_check None = refl
+one_check (Some r) = refl
 
-answer_refused : (c : Option Refusal) (s : Session) (b : List ℕ) (r : Refusal) → ((answered_or c s b).answer ≡ Judged (Refused r)) ↔ (c ≡ some r)
-answer_refused none s b r = (λ e. absurd (not_refused (state_no_refusal _) e), λ e. absurd (none-ne-some r e))
-answer_refused (some q) s b r = (λ e. cc, λ e. cc)
+answer_refused : (c : Option Refusal) (s : Session) (b : List ℕ) (r : Refusal) → ((answered_or c s b).answer ≡ Judged (Refused r)) ↔ (c ≡ Some r)
+answer_refused None s b r = (λ e. absurd (not_refused (state_no_refusal _) e), λ e. absurd (none-some r e))
+answer_refused (Some q) s b r = (λ e. cc, λ e. cc)
 
-failure_refused : (c : Option Refusal) (s : Session) (r : Refusal) → ((failed_or c s).answer ≡ Judged (Refused r)) ↔ (c ≡ some r)
-failure_refused none s r = (λ e. absurd (not_refused (state_no_refusal _) e), λ e. absurd (none-ne-some r e))
-failure_refused (some q) s r = (λ e. cc, λ e. cc)
+failure_refused : (c : Option Refusal) (s : Session) (r : Refusal) → ((failed_or c s).answer ≡ Judged (Refused r)) ↔ (c ≡ Some r)
+failure_refused None s r = (λ e. absurd (not_refused (state_no_refusal _) e), λ e. absurd (none-some r e))
+failure_refused (Some q) s r = (λ e. cc, λ e. cc)
 
 pub answer_refusals : AnswerRefusals
 unfolding answered failed checked_at
@@ -196,10 +197,10 @@ unfolding answered failed
 refused_answer s (book b) r = go (first_refusal (answer_checks s b))
   where
     go : (c : Option Refusal) → (answered_or c s b).answer ≡ Judged (Refused r) → (answered_or c s b).session ≡ s
-    go none e = absurd (not_refused (state_no_refusal _) e)
-    go (some q) e = refl
+    go None e = absurd (not_refused (state_no_refusal _) e)
+    go (Some q) e = refl
 refused_answer s lookup_failed r = go (ended_refusal s)
   where
     go : (c : Option Refusal) → (failed_or c s).answer ≡ Judged (Refused r) → (failed_or c s).session ≡ s
-    go none e = absurd (not_refused (state_no_refusal _) e)
-    go (some q) e = refl
+    go None e = absurd (not_refused (state_no_refusal _) e)
+    go (Some q) e = refl

@@ -1,11 +1,12 @@
 -- A session on its way: which answers are accepted, and where it ends.
+use Rattle.std.proofs.lemmas.Option.{none-some, same_Some}
+use Rattle.std.specs.Prelude.{Option, None, Some}
 use Prim.Native.Nat.{ℕ, suc, ◌<◌}
 use native.Mathlib.Omega.{arith}
 use mathlib.Core.Path.{◌≡◌, refl, ap, sym, ◌∙◌}
 use mathlib.Core.Logic.{◌≢◌, ◌⊎◌, inl, inr}
 use mathlib.Core.Bool.{Bool, true, false, cond, ◌&&◌, true≢false, and-eq-true_iff}
 use mathlib.Core.List.{List, [], ◌∷◌}
-use mathlib.Core.Option.{Option, none, some, none-ne-some, some-injective}
 use lib.Dec.{eqb, ltb}
 use lib.ListN.{length, drop}
 use borrow.Author.Tests.{ltb-true, ltb-false, lt-ltb}
@@ -40,14 +41,14 @@ module _ (issuer : List ℕ) (who : Applicant) (n : Name) where
   -- a session that asks for n or for a name above it
   pub record OnCourse (s : Session) : Type 0 where
     pub takes : is_asking s ≡ true
-    pub of_name : kept_name s ≡ some n
+    pub of_name : kept_name s ≡ Some n
     pub of_issuer : held s.issuer ≡ issuer
     pub of_applicant : kept_applicant s ≡ who
 
   pub below : {s : Session} → OnCourse s → s.up < length (base n)
   below {s} c =
       let l = live s c.takes in
-      let same = some-injective l.name n (sym l.kept ∙ c.of_name) in
+      let same = same_Some l.name n (sym l.kept ∙ c.of_name) in
       rw (← same) l.below
 
   -- the name that it asks for
@@ -57,7 +58,7 @@ module _ (issuer : List ℕ) (who : Applicant) (n : Name) where
   abbrev pub looked : Session → List ℕ → Lookup
   looked s b = lookup (as_book (records b)) (next s)
 
-  pub asks_next : {s : Session} → OnCourse s → asked s ≡ some (next s)
+  pub asks_next : {s : Session} → OnCourse s → asked s ≡ Some (next s)
   asks_next {s} c = asks s n c.takes c.of_name
 
   one_up_asks : {s : Session} → OnCourse s → suc s.up < length (base n) → is_asking (one_up s) ≡ true
@@ -68,7 +69,7 @@ module _ (issuer : List ℕ) (who : Applicant) (n : Name) where
       let (old, well) = (and-eq-true_iff (reaches (kept_name s) s.up) (is_issuer (held s.issuer))).0 both in
       all_hold phase (up_reaches c.of_name) well good
     where
-      up_reaches : kept_name s ≡ some n → reaches (kept_name s) (suc s.up) ≡ true
+      up_reaches : kept_name s ≡ Some n → reaches (kept_name s) (suc s.up) ≡ true
       up_reaches e = rw e (lt-ltb (suc s.up) (length (base n)) h)
 
       all_hold : {p q r t : Bool} → p ≡ true → q ≡ true → r ≡ true → t ≡ true → p && (q && r && t) ≡ true
@@ -82,14 +83,14 @@ module _ (issuer : List ℕ) (who : Applicant) (n : Name) where
   pub data Trail : Session → List (Option Name × Answer) → Session → Type 0 where
     stays : {s : Session} → OnCourse s → Trail s [] s
     climbs : {s t : Session} {b : List ℕ} {ts : List (Option Name × Answer)} →
-        OnCourse s → looked s b ≡ empty → suc s.up < length (base n) → Trail (one_up s) ts t → Trail s ((some (next s), book b) ∷ ts) t
+        OnCourse s → looked s b ≡ empty → suc s.up < length (base n) → Trail (one_up s) ts t → Trail s ((Some (next s), book b) ∷ ts) t
     decides : {s : Session} {b : List ℕ} →
         OnCourse s → (looked s b ≢ empty) ⊎ (suc s.up ≡ length (base n)) →
-        Trail s ((some (next s), book b) ∷ []) (concluded s n (looked s b))
-    fails : {s : Session} → OnCourse s → Trail s ((some (next s), lookup_failed) ∷ []) (closed_with 23 0 s)
+        Trail s ((Some (next s), book b) ∷ []) (concluded s n (looked s b))
+    fails : {s : Session} → OnCourse s → Trail s ((Some (next s), lookup_failed) ∷ []) (closed_with 23 0 s)
 
   -- an accepted book
-  read : {s : Session} (b : List ℕ) → OnCourse s → book_refusal b ≡ none → step s (book b) ≡ goes_to (by_lookup s n (looked s b))
+  read : {s : Session} (b : List ℕ) → OnCourse s → book_refusal b ≡ None → step s (book b) ≡ goes_to (by_lookup s n (looked s b))
   unfolding answered ended_refusal
   read b c e = rw (c.takes, e, c.of_name) refl
 
@@ -99,8 +100,8 @@ module _ (issuer : List ℕ) (who : Applicant) (n : Name) where
 
   -- a session that ends with the first answer
   ends_here :
-      (s : Session) (a : Answer) (more : List Answer) (t : Session) → OnCourse s → step s a ≡ goes_to t → asked t ≡ none →
-      Trail s ((some (next s), a) ∷ []) t → Trail s (accepted s (a ∷ more)) (after s (a ∷ more))
+      (s : Session) (a : Answer) (more : List Answer) (t : Session) → OnCourse s → step s a ≡ goes_to t → asked t ≡ None →
+      Trail s ((Some (next s), a) ∷ []) t → Trail s (accepted s (a ∷ more)) (after s (a ∷ more))
   ends_here s a more t c e nothing done =
       let (front, last) = taken s a more t e in
       let (same, None-more) = ended_stays t more nothing in
@@ -143,8 +144,8 @@ module _ (issuer : List ℕ) (who : Applicant) (n : Name) where
           (inl (λ z. true≢false (let w = sym f ∙ z in cc)))
 
       by_check : (o : Option Refusal) → book_refusal b ≡ o → Later → Here
-      by_check none e later = by_lookup_lem (looked s b) refl (read b c e) later
-      by_check (some r) e later =
-          let named : asked s ≢ none = λ z. none-ne-some _ (sym z ∙ asks_next c) in
+      by_check None e later = by_lookup_lem (looked s b) refl (read b c e) later
+      by_check (Some r) e later =
+          let named : asked s ≢ None = λ z. none-some _ (sym z ∙ asks_next c) in
           let (front, last) = passed_over s (book b) more r (refused_book s b r named e) in
           rw (front, last) (later s c)

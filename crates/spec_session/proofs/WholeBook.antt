@@ -1,11 +1,12 @@
 -- A session decides as one whole book does, where each answer has for its name what that book has.
+use Rattle.std.proofs.lemmas.Option.{none-some, same_Some}
+use Rattle.std.specs.Prelude.{Option, None, Some}
 use Prim.Native.Nat.{ℕ, suc, ◌+◌, ◌≤◌, ◌<◌}
 use native.Mathlib.Omega.{arith}
 use mathlib.Core.Path.{◌≡◌, refl, ap, sym, ◌∙◌}
 use mathlib.Core.Logic.{◌≢◌, ◌⊎◌, inl, inr}
 use mathlib.Core.Bool.{true≢false}
 use mathlib.Core.List.{List, [], ◌∷◌, map, append-nil}
-use mathlib.Core.Option.{Option, none, some, none-ne-some, some-injective}
 use lib.ListN.{length, drop, drop_of_length-le}
 use borrow.Author.Tests.{leb-true}
 use Rattle.spec_limits.specs.Limits.{max_names}
@@ -61,9 +62,9 @@ module _ (issuer : List ℕ) (who : Applicant) (n : Name) (whole : List ℕ) whe
   lookups_from u h = rw (first_ancestor u (base n) h) refl
 
   -- an answer that agrees has the same lookup
-  agreed : (s : Session) (b : List ℕ) → Agrees whole (some (next issuer who n s), book b) → Alike (looked issuer who n s b) (lookup library (next issuer who n s))
+  agreed : (s : Session) (b : List ℕ) → Agrees whole (Some (next issuer who n s), book b) → Alike (looked issuer who n s b) (lookup library (next issuer who n s))
   agreed s b (x, c, e, f, h) =
-      let same = some-injective _ _ e in
+      let same = same_Some _ _ e in
       let read : b ≡ c = cc in
       same_lookups library (as_book (records b)) (next issuer who n s) (rw (← same, ← read) at h)
 
@@ -95,14 +96,14 @@ module _ (issuer : List ℕ) (who : Applicant) (n : Name) (whole : List ℕ) whe
 
   as_whole :
       {s t : Session} {ts : List (Option Name × Answer)} → Trail issuer who n s ts t → All (Agrees whole) ts →
-      (v : SessionAnswer) → standing t ≡ some v → Verdict s.up v
-  as_whole (stays c) all v e = absurd (none-ne-some v (sym (phase_asks issuer who n c) ∙ e))
+      (v : SessionAnswer) → standing t ≡ Some v → Verdict s.up v
+  as_whole (stays c) all v e = absurd (none-some v (sym (phase_asks issuer who n c) ∙ e))
   as_whole (climbs {s} {t} {b} {ts} c nothing h more) all v e =
       let there = alike_empty (agreed s b (All-head all)) nothing in
       rw (passed s.up (below issuer who n c) there) (as_whole more (All-tail all) v e)
   as_whole (decides {s} {b} c why) all v e = (
     verdict issuer (decided_from who (is_wildcard n) s.up (looked issuer who n s b) ∷ []),
-    some-injective _ _ (sym e ∙ concluded_stands issuer who n c b),
+    same_Some _ _ (sym e ∙ concluded_stands issuer who n c b),
     settled s.up (below issuer who n c) (looked issuer who n s b) (lookup library (next issuer who n s)) refl (agreed s b (All-head all)) why,
   )
   as_whole (fails {s} c) all v e =
@@ -115,7 +116,7 @@ one_name_fits = leb-true 1 250 refl
 
 -- the whole book judges the one name
 judged :
-    {request issuer : List ℕ} {who : Applicant} {n : Name} → GoodOpening request issuer who n → (whole : List ℕ) → book_refusal whole ≡ none →
+    {request issuer : List ℕ} {who : Applicant} {n : Name} → GoodOpening request issuer who n → (whole : List ℕ) → book_refusal whole ≡ None →
     judge request issuer who whole ≡ ruled issuer who n whole 0
 unfolding judge decisions decision authorization relevant_set labels_off
 judged {request} {issuer} {who} {n} g whole e =

@@ -1,6 +1,5 @@
 -- What the theorems on sessions say, without a reader and without the steps.
-use Rattle.std.specs.Prelude.{ℕ, zero, suc, ◌<◌, ◌≡◌, ◌≢◌, ◌⊎◌, Bool, List, [], ◌∷◌, ◌++◌, map, length}
-use Rattle.std.proofs.Math.Option.{Option, none, some}
+use Rattle.std.specs.Prelude.{ℕ, zero, suc, ◌<◌, ◌≡◌, ◌≢◌, ◌⊎◌, Bool, List, [], ◌∷◌, ◌++◌, map, length, Option, None, Some}
 use Rattle.spec_limits.specs.Limits.{max_aliases}
 use Rattle.spec_refusal.specs.declared.Refusal.{Refusal}
 use Rattle.spec_refusal.specs.declared.Refusal.TheVariants.{RequestTooLong, BadName, SessionEnded}
@@ -47,7 +46,7 @@ OpenRow request issuer who r = OneNameRow request r ⊎ IssuerRow issuer r ⊎ A
 
 -- The rows of an answer to a session: by a book, and by a failure.
 abbrev pub EndedRow : Session → Refusal → Type 0
-EndedRow s r = (r ≡ SessionEnded) × (asked s ≡ none)
+EndedRow s r = (r ≡ SessionEnded) × (asked s ≡ None)
 
 abbrev pub AnswerRow : Session → Answer → Refusal → Type 0
 AnswerRow s (book b) r = EndedRow s r ⊎ BookRow b r
@@ -94,7 +93,7 @@ HoldsAs whole part x =
 -- An accepted answer is a book that has for the name asked for what the whole book has. "Lookup failed" is no such answer.
 abbrev pub Agrees : List ℕ → Option Name × Answer → Type 0
 Agrees whole p =
-    (x : Name) × (b : List ℕ) × (p.0 ≡ some x) × (p.1 ≡ book b) × HoldsAs (as_book (records whole)) (as_book (records b)) x
+    (x : Name) × (b : List ℕ) × (p.0 ≡ Some x) × (p.1 ≡ book b) × HoldsAs (as_book (records whole)) (as_book (records b)) x
 
 -- The record number of a verdict is that of the lookup l: the first unknown critical record, the first governing record, the first alias. The
 -- name number is 0, and u labels are taken off.

@@ -1,7 +1,6 @@
 -- Sessions, worked out by hand: what the opening and each answer after it are answered with; and what kept sessions say of themselves.
-use Rattle.std.specs.Prelude.{ℕ, ◌≡◌, List, [], ◌∷◌, ◌++◌, map, replicate, take, drop}
+use Rattle.std.specs.Prelude.{ℕ, ◌≡◌, List, [], ◌∷◌, ◌++◌, map, replicate, take, drop, Some}
 use Prim.Native.Char.{code}
-use Rattle.std.proofs.Math.Option.{some}
 use Rattle.spec_refusal.specs.declared.Refusal.{Refusal}
 use Rattle.spec_refusal.specs.declared.Refusal.TheVariants.{RequestTooLong, BadName, BadIssuer, BookTooLong, BadRecord, AliasConflict, SessionEnded, BadAccountOrMethod}
 use Rattle.spec_octets.specs.Octets.{text}
@@ -257,4 +256,4 @@ StatesAgree = map (λ e. state e.0) state_edges ≡ map (λ e. e.1) state_edges
 abbrev pub AskedAsGiven : Type 0
 AskedAsGiven =
     (take 17 (drop 2 (held (opened starred ca1 someone).session.name)) ≡ wire (dotted "WwW.Example.com"))
-    × (asked (opened starred ca1 someone).session ≡ some (dotted "WwW.Example.com"))
+    × (asked (opened starred ca1 someone).session ≡ Some (dotted "WwW.Example.com"))

@@ -1,6 +1,5 @@
 -- A session as it is kept: which name it asks for, and which verdict stands.
-use Rattle.std.specs.Prelude.{ℕ, ◌-◌, Bool, false, cond, ◌&&◌, List, [], ◌++◌, eqb, leb, ltb, length, take, drop, replicate}
-use Rattle.std.proofs.Math.Option.{Option, none, some}
+use Rattle.std.specs.Prelude.{ℕ, ◌-◌, Bool, false, cond, ◌&&◌, List, [], ◌++◌, eqb, leb, ltb, length, take, drop, replicate, Option, None, Some}
 use Rattle.spec_limits.specs.Limits.{max_records}
 use Rattle.spec_name.specs.Names.{Name, wire}
 use Rattle.spec_request.specs.Request.{base, requested_name}
@@ -35,8 +34,8 @@ kept_applicant s = record { account = held s.account; method = held s.method }
 
 -- X has more than u labels: a name is left when u of them are taken off.
 abbrev pub reaches : Option Name → ℕ → Bool
-reaches none u = false
-reaches (some n) u = ltb u (length (base n))
+reaches None u = false
+reaches (Some n) u = ltb u (length (base n))
 
 -- The kept name, issuer domain name, account and method each keep to their rules, and so does the number of labels taken off.
 unfoldable pub is_kept : Session → Bool
@@ -55,35 +54,35 @@ is_asking s = eqb s.phase asking && is_kept s
 
 -- The base of the name without its first u labels.
 abbrev pub above : Option Name → ℕ → Option Name
-above none u = none
-above (some n) u = some (drop u (base n))
+above None u = None
+above (Some n) u = Some (drop u (base n))
 
 -- The name to be looked up next: X, its parent, and so on.
 unfoldable pub asked : Session → Option Name
-asked s = cond (is_asking s) (above (kept_name s) s.up) none
+asked s = cond (is_asking s) (above (kept_name s) s.up) None
 
 -- A verdict by record rr. No accepted book has a record with a number of `max_records` or more.
 abbrev pub of_record : ℕ → SessionAnswer → Option SessionAnswer
-of_record rr v = cond (ltb rr max_records) (some v) none
+of_record rr v = cond (ltb rr max_records) (Some v) None
 
 -- The verdict with this number, for the one name of a session. No other number is a verdict.
 unfoldable pub verdict_of : ℕ → ℕ → ℕ → Option SessionAnswer
 verdict_of number rr up =
-    cond (eqb number 0) (some (Judged Permitted))
+    cond (eqb number 0) (Some (Judged Permitted))
     (cond (eqb number 20) (of_record rr (Judged (UnknownCritical (denial 0 rr up))))
     (cond (eqb number 21) (of_record rr (Judged (NotGranted (denial 0 rr up))))
     (cond (eqb number 22) (of_record rr (Judged (TooManyAliases (denial 0 rr up))))
-    (cond (eqb number 23) (some LookupFailed) none))))
+    (cond (eqb number 23) (Some LookupFailed) None))))
 
 -- The verdict that stands, if any. The labels taken off are those at which the session ended.
 unfoldable pub standing : Session → Option SessionAnswer
-standing s = cond (eqb s.phase decided && is_kept s) (verdict_of s.verdict s.rr s.up) none
+standing s = cond (eqb s.phase decided && is_kept s) (verdict_of s.verdict s.rr s.up) None
 
 -- What a session answers when it is asked for its state. The name asked for is at the end of the kept name, which has k octets.
 abbrev pub state_from : ℕ → Option Name → Option SessionAnswer → SessionAnswer
-state_from k (some y) v = Asks (k - length (wire y)) (length (wire y))
-state_from k none (some v) = v
-state_from k none none = NoVerdict
+state_from k (Some y) v = Asks (k - length (wire y)) (length (wire y))
+state_from k None (Some v) = v
+state_from k None None = NoVerdict
 
 unfoldable pub state : Session → SessionAnswer
 state s = state_from (length (held s.name)) (asked s) (standing s)

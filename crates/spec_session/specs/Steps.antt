@@ -1,6 +1,5 @@
 -- The calls on a session: opening it, an answer with the records of the name asked for, and a lookup that failed.
-use Rattle.std.specs.Prelude.{ℕ, suc, Bool, true, false, cond, not, List, [], ◌∷◌, ltb, length, drop, get_or}
-use Rattle.std.proofs.Math.Option.{Option, none, some}
+use Rattle.std.specs.Prelude.{ℕ, suc, Bool, true, false, cond, not, List, [], ◌∷◌, ltb, length, drop, get_or, Option, None, Some}
 use Rattle.spec_limits.specs.Limits.{max_request_octets}
 use Rattle.spec_refusal.specs.declared.Refusal.{Refusal}
 use Rattle.spec_refusal.specs.declared.Refusal.TheVariants.{RequestTooLong, BadName, SessionEnded}
@@ -24,7 +23,7 @@ use Rattle.spec_session.specs.Sessions.{text_of, kept_name, kept_applicant, held
 
 -- Row 14: "Any answer to an ended session". It is looked for before the book is read.
 unfoldable pub ended_refusal : Session → Option Refusal
-ended_refusal s = cond (is_asking s) none (some SessionEnded)
+ended_refusal s = cond (is_asking s) None (Some SessionEnded)
 
 -- A refusal leaves the session as it was.
 abbrev pub refused_with : Refusal → Session → Stepped
@@ -36,13 +35,13 @@ goes_to t = record { answer = state t; session = t }
 
 -- "octets after one good name are 2 at place 1"
 abbrev pub rest_refusal : Option (Name × List ℕ) → Option Refusal
-rest_refusal none = some (BadName (record { 0 = 0 }))
-rest_refusal (some (n, [])) = none
-rest_refusal (some (n, x ∷ s)) = some (BadName (record { 0 = 1 }))
+rest_refusal None = Some (BadName (record { 0 = 0 }))
+rest_refusal (Some (n, [])) = None
+rest_refusal (Some (n, x ∷ s)) = Some (BadName (record { 0 = 1 }))
 
 -- Rows 1 and 2 for a request of one name.
 unfoldable pub one_name_refusal : List ℕ → Option Refusal
-one_name_refusal s = cond (ltb max_request_octets (length s)) (some RequestTooLong) (rest_refusal (requested_name s))
+one_name_refusal s = cond (ltb max_request_octets (length s)) (Some RequestTooLong) (rest_refusal (requested_name s))
 
 abbrev pub open_checks : List ℕ → List ℕ → Applicant → List (Option Refusal)
 open_checks request issuer who = one_name_refusal request ∷ issuer_refusal issuer ∷ applicant_refusal who ∷ []
@@ -65,8 +64,8 @@ unfoldable pub ended_session : Session
 ended_session = record { phase = 0; up = 0; verdict = 0; rr = 0; name = text_of []; issuer = text_of []; account = text_of []; method = text_of [] }
 
 abbrev pub opened_or : Option Refusal → Session → Stepped
-opened_or none t = goes_to t
-opened_or (some r) t = record { answer = Judged (Refused r); session = ended_session }
+opened_or None t = goes_to t
+opened_or (Some r) t = record { answer = Judged (Refused r); session = ended_session }
 
 unfoldable pub opened : List ℕ → List ℕ → Applicant → Stepped
 opened request issuer who = opened_or (first_refusal (open_checks request issuer who)) (session_of request issuer who)
@@ -116,12 +115,12 @@ by_lookup s n (endless r) = concluded s n (endless r)
 
 -- "Only the asked name's CAA records count": one lookup of that name in the book, its aliases followed there.
 abbrev pub by_records : Session → Option Name → Book → Session
-by_records s none book = s
-by_records s (some n) book = by_lookup s n (lookup book (drop s.up (base n)))
+by_records s None book = s
+by_records s (Some n) book = by_lookup s n (lookup book (drop s.up (base n)))
 
 abbrev pub answered_or : Option Refusal → Session → List ℕ → Stepped
-answered_or none s b = goes_to (by_records s (kept_name s) (as_book (records b)))
-answered_or (some r) s b = refused_with r s
+answered_or None s b = goes_to (by_records s (kept_name s) (as_book (records b)))
+answered_or (Some r) s b = refused_with r s
 
 abbrev pub answer_checks : Session → List ℕ → List (Option Refusal)
 answer_checks s b = ended_refusal s ∷ book_refusal b ∷ []
@@ -132,8 +131,8 @@ answered s b = answered_or (first_refusal (answer_checks s b)) s b
 
 -- The lookup of the name asked for failed: verdict 23.
 abbrev pub failed_or : Option Refusal → Session → Stepped
-failed_or none s = goes_to (closed_with 23 0 s)
-failed_or (some r) s = refused_with r s
+failed_or None s = goes_to (closed_with 23 0 s)
+failed_or (Some r) s = refused_with r s
 
 unfoldable pub failed : Session → Stepped
 failed s = failed_or (ended_refusal s) s

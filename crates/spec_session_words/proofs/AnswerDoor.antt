@@ -1,11 +1,11 @@
 -- The word of caa_session_answer: the first row of the table that holds, the next name, or the verdict.
+use Rattle.std.specs.Prelude.{Some}
 use Prim.Native.Nat.{ℕ, suc, ◌+◌, ◌-◌, ◌<◌}
 use native.Mathlib.Omega.{arith}
 use mathlib.Core.Path.{◌≡◌, refl, ap, sym, ◌∙◌}
 use mathlib.Core.Logic.{◌↔◌, ◌≢◌, ◌⊎◌, inl, inr, ⊎_elim}
 use mathlib.Core.Bool.{false, true≢false, false≢true}
 use mathlib.Core.List.{List, [], ◌∷◌, Memᴰ}
-use mathlib.Core.Option.{some}
 use lib.ListN.{length, drop, length-drop}
 use lib.Seq.{drop-drop}
 use Rattle.spec_refusal.specs.declared.Refusal.{Refusal}
@@ -79,14 +79,14 @@ module _ (s : Session) (b : List ℕ) where
   holds = word_holds (answered s b).answer (step_fits s (book b))
 
   -- the parent is asked for
-  climbed : (c : Climbs s b) → (asked after ≡ some (drop 1 c.from.next)) × (caa_session_state after ≡ w)
+  climbed : (c : Climbs s b) → (asked after ≡ Some (drop 1 c.from.next)) × (caa_session_state after ≡ w)
   climbed c =
       let h = c.from in
       let up = one_up_course _ _ _ (course s b h) c.parent in
       let z = base h.kept in
       let count : suc s.up ≡ s.up + 1 = omega arith in
       let one_more_lem : drop (suc s.up) z ≡ drop 1 h.next = ap (λ k. drop k z) count ∙ sym (drop-drop 1 s.up z) ∙ ap (drop 1) (sym h.is_next) in
-      (ap (λ t. asked t.session) c.goes ∙ asks_next _ _ _ up ∙ ap some one_more_lem, ap (λ t. packed_session (state t.session)) c.goes ∙ sym (ap (λ t. packed_session t.answer) c.goes))
+      (ap (λ t. asked t.session) c.goes ∙ asks_next _ _ _ up ∙ ap Some one_more_lem, ap (λ t. packed_session (state t.session)) c.goes ∙ sym (ap (λ t. packed_session t.answer) c.goes))
 
   tells_parent : (c : Climbs s b) → TellsName w after (drop 1 c.from.next)
   tells_parent c = let (e, f) = climbed c in rw f at ((asked_exactly after (drop 1 c.from.next)).0 e)
@@ -101,16 +101,16 @@ module _ (s : Session) (b : List ℕ) where
   labels_left h = ap length h.is_next ∙ length-drop s.up (base h.kept)
 
   module _ (octets : Octets s.name.octets) (book-octets : Octets b) where
-    abbrev None : Type 0
-    None = NoneHolds (AnswerTable s b)
+    abbrev Unrefused_all : Type 0
+    Unrefused_all = NoneHolds (AnswerTable s b)
 
-    none_held : ((r : Refusal) → (answered s b).answer ≡ Judged (Refused r) → ⊥) → None
+    none_held : ((r : Refusal) → (answered s b).answer ≡ Judged (Refused r) → ⊥) → Unrefused_all
     none_held = none_holds (answer_rows s b) (λ r. (answered s b).answer ≡ Judged (Refused r)) (answer_refusals s (book b) book-octets)
 
-    never : None → (r : Refusal) → (answered s b).answer ≡ Judged (Refused r) → ⊥
+    never : Unrefused_all → (r : Refusal) → (answered s b).answer ≡ Judged (Refused r) → ⊥
     never = never_refuses (answer_rows s b) (λ r. (answered s b).answer ≡ Judged (Refused r)) (answer_refusals s (book b) book-octets)
 
-    accepts : (h : Asking s) → None → Accepts s b h.kept h.next
+    accepts : (h : Asking s) → Unrefused_all → Accepts s b h.kept h.next
     unfolding kept_name
     accepts h no_row = (no_row, (one_name_read (held s.name) (held_octets s.name octets) h.kept).0 h.is_kept_lem, h.asks_next)
 
@@ -137,8 +137,8 @@ module _ (s : Session) (b : List ℕ) where
         not_both (inl h) = h (rw (next_is c.from acc.2) e)
         not_both (inr h) = omega (arith, more, labels_left c.from, ap length (next_is c.from acc.2))
 
-    next_name : Ways s b → number_in w ≡ 40 → (y : Name) → asked s ≡ some y → (asked after ≡ some (drop 1 y)) × TellsName w after (drop 1 y)
-    next_name (inr (inl c)) e y f = let same = next_is c.from f in ((climbed c).0 ∙ ap (λ z. some (drop 1 z)) same, rw same at (tells_parent c))
+    next_name : Ways s b → number_in w ≡ 40 → (y : Name) → asked s ≡ Some y → (asked after ≡ Some (drop 1 y)) × TellsName w after (drop 1 y)
+    next_name (inr (inl c)) e y f = let same = next_is c.from f in ((climbed c).0 ∙ ap (λ z. Some (drop 1 z)) same, rw same at (tells_parent c))
     next_name (inl g) e y f = let (n, z, acc, nothing, more) = next_there (inl g) e in absurd (never acc.0 g.0 (ap (λ t. t.answer) g.1))
     next_name (inr (inr c)) e y f = absurd (asks_judged (sym (word_40 _ _ _ _ (answered s b).answer holds e) ∙ c.says))
 

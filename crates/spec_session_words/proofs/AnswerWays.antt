@@ -1,11 +1,12 @@
 -- The three ways of an answer with a book.
+use Rattle.std.proofs.lemmas.Option.{none-some}
+use Rattle.std.specs.Prelude.{Option, None, Some}
 use Prim.Native.Nat.{ℕ, suc, ◌<◌}
 use native.Mathlib.Omega.{arith}
 use mathlib.Core.Path.{◌≡◌, refl, ap, sym, ◌∙◌}
 use mathlib.Core.Logic.{◌≢◌, ◌⊎◌, inl, inr}
 use mathlib.Core.Bool.{Bool, true, false, cond, true≢false}
 use mathlib.Core.List.{List}
-use mathlib.Core.Option.{Option, none, some, none-ne-some}
 use lib.Dec.{ltb}
 use lib.ListN.{length, drop}
 use borrow.Author.Tests.{ltb-true, ltb-false}
@@ -21,7 +22,7 @@ use Rattle.spec_session.specs.declared.SessionAnswer.TheVariants.{Judged}
 use Rattle.spec_session.specs.Sessions.{held, kept_applicant, is_asking, state}
 use Rattle.spec_session.specs.Steps.{ended_refusal, goes_to, one_up, concluded, by_lookup, answered, book}
 use Rattle.spec_session.proofs.StepLaws.{asks_nothing, ended_refuses, refused_book, state_tells}
-use Rattle.spec_session.proofs.Trails.{OnCourse, asks_next}
+use Rattle.spec_session.proofs.Trails.{OnCourse}
 use Rattle.spec_session.proofs.Runs.{concluded_stands}
 use Rattle.spec_session_words.proofs.States
 use Rattle.spec_session_words.proofs.States.{Asking}
@@ -54,7 +55,7 @@ module _ (s : Session) (b : List ℕ) where
   abbrev pub Ways : Type 0
   Ways = Refusing ⊎ Climbs ⊎ Decides
 
-  read : (h : Asking s) → book_refusal b ≡ none → answered s b ≡ goes_to (by_lookup s h.kept (had b h.next))
+  read : (h : Asking s) → book_refusal b ≡ None → answered s b ≡ goes_to (by_lookup s h.kept (had b h.next))
   unfolding answered ended_refusal
   read h e = rw (h.takes, e, h.is_kept_lem, h.is_next) refl
 
@@ -64,7 +65,7 @@ module _ (s : Session) (b : List ℕ) where
   concluded_says : (h : Asking s) → state (concluded s h.kept (had b h.next)) ≡ Judged (rule s h.kept (had b h.next))
   concluded_says h = rw h.is_next ((state_tells (concluded s h.kept (had b (drop s.up (base h.kept))))).1 _ (concluded_stands _ _ _ (course h) b))
 
-  accepted : (h : Asking s) → book_refusal b ≡ none → Climbs ⊎ Decides
+  accepted : (h : Asking s) → book_refusal b ≡ None → Climbs ⊎ Decides
   accepted h e = by_lookup_lem (had b h.next) refl (read h e)
     where
       decides :
@@ -89,8 +90,8 @@ module _ (s : Session) (b : List ℕ) where
   ways = by_asking (is_asking s) refl
     where
       by_book : Asking s → (o : Option Refusal) → book_refusal b ≡ o → Ways
-      by_book h none e = inr (accepted h e)
-      by_book h (some r) e = inl (r, refused_book s b r (λ z. none-ne-some h.next (sym z ∙ h.asks_next)) e)
+      by_book h None e = inr (accepted h e)
+      by_book h (Some r) e = inl (r, refused_book s b r (λ z. none-some h.next (sym z ∙ h.asks_next)) e)
 
       by_asking : (t : Bool) → is_asking s ≡ t → Ways
       by_asking true t = by_book (States.asking s t) (book_refusal b) refl

@@ -1,10 +1,11 @@
 -- The word of caa_session_fail: 14, or 23.
+use Rattle.std.proofs.lemmas.Option.{none-some}
+use Rattle.std.specs.Prelude.{None, Some}
 use Prim.Native.Nat.{ℕ}
 use native.Mathlib.Omega.{arith}
 use mathlib.Core.Path.{◌≡◌, refl, ap, sym, ◌∙◌}
 use mathlib.Core.Logic.{◌↔◌, ◌≢◌, ◌⊎◌, inl, inr, ⊎_elim}
 use mathlib.Core.Bool.{true, false}
-use mathlib.Core.Option.{none, some, none-ne-some}
 use Rattle.spec_refusal.specs.declared.Refusal.TheVariants.{SessionEnded}
 use Rattle.spec_refusal.specs.Refusal.{number, place}
 use Rattle.spec_octets.specs.Lists.{all_nil}
@@ -37,10 +38,10 @@ module _ (s : Session) where
 
   -- the session asks for a name and ends, or it is refused
   abbrev Ends : Type 0
-  Ends = ((y : Name) × (asked s ≡ some y)) × Word LookupFailed × SameTexts (failed s).session s
+  Ends = ((y : Name) × (asked s ≡ Some y)) × Word LookupFailed × SameTexts (failed s).session s
 
   abbrev Ended : Type 0
-  Ended = (asked s ≡ none) × Word (Judged (Refused SessionEnded)) × SameTexts (failed s).session s
+  Ended = (asked s ≡ None) × Word (Judged (Refused SessionEnded)) × SameTexts (failed s).session s
 
   holds : Word (failed s).answer
   holds = word_holds (failed s).answer (step_fits s lookup_failed)
@@ -52,7 +53,7 @@ module _ (s : Session) where
       ends : is_asking s ≡ true → Ends
       ends t =
           let h = States.asking s t in
-          let some_name : asked s ≢ none = λ z. none-ne-some h.next (sym z ∙ h.asks_next) in
+          let some_name : asked s ≢ None = λ z. none-some h.next (sym z ∙ h.asks_next) in
           ((h.next, h.asks_next), of_session _ _ _ _ (failed_ends s some_name).0 holds, rw t (refl, refl, refl, refl))
 
       ended : is_asking s ≡ false → Ended
@@ -61,17 +62,17 @@ module _ (s : Session) where
           let step_is = ended_refuses s lookup_failed nothing in
           (nothing, of_session _ _ _ _ (ap (λ r. r.answer) step_is) holds, rw t (refl, refl, refl, refl))
 
-  failed_exactly : (number_in w ≡ 23) ↔ ((y : Name) × (asked s ≡ some y))
+  failed_exactly : (number_in w ≡ 23) ↔ ((y : Name) × (asked s ≡ Some y))
   unfolding session_code judgement_code number
   failed_exactly = (λ e. there ways e, λ named. back ways named)
     where
-      there : Ends ⊎ Ended → number_in w ≡ 23 → (y : Name) × (asked s ≡ some y)
+      there : Ends ⊎ Ended → number_in w ≡ 23 → (y : Name) × (asked s ≡ Some y)
       there (inl h) e = h.0
       there (inr h) e = let z : ◌≡◌ {A = ℕ} 14 23 = sym h.1.0 ∙ e in absurd (omega arith)
 
-      back : Ends ⊎ Ended → (y : Name) × (asked s ≡ some y) → number_in w ≡ 23
+      back : Ends ⊎ Ended → (y : Name) × (asked s ≡ Some y) → number_in w ≡ 23
       back (inl h) named = h.1.0
-      back (inr h) (y, e) = absurd (none-ne-some y (sym h.0 ∙ e))
+      back (inr h) (y, e) = absurd (none-some y (sym h.0 ∙ e))
 
   pub fail_says : FailWord s (caa_session_fail s).word (caa_session_fail s).session
   unfolding session_code judgement_code number place

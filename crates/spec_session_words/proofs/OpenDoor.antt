@@ -1,11 +1,12 @@
 -- The word of caa_session_open: the first row of the table that holds, or the name X.
+use Rattle.std.proofs.lemmas.Option.{none-some}
+use Rattle.std.specs.Prelude.{Option, None, Some}
 use Prim.Native.Nat.{ℕ, ◌+◌, ◌≤◌}
 use native.Mathlib.Omega.{arith}
 use mathlib.Core.Path.{◌≡◌, refl, ap, sym, ◌∙◌}
 use mathlib.Core.Logic.{◌⊎◌, inl, inr, ⊎_elim}
 use mathlib.Core.Bool.{Bool, true, false, cond, false≢true}
 use mathlib.Core.List.{List, [], ◌∷◌, append-nil, Memᴰ}
-use mathlib.Core.Option.{Option, none, some, none-ne-some}
 use lib.Dec.{ltb}
 use lib.ListN.{length, length-append}
 use Rattle.spec_limits.specs.Limits.{max_request_octets}
@@ -87,20 +88,20 @@ module _ (request issuer : List ℕ) (who : Applicant) (octets : Octets request)
   abbrev Good : Type 0
   Good = (n : Name) × GoodOpening request issuer who n
 
-  front_read : one_name_refusal request ≡ none → (n : Name) × (requested_name request ≡ some (n, []))
+  front_read : one_name_refusal request ≡ None → (n : Name) × (requested_name request ≡ Some (n, []))
   unfolding one_name_refusal
   front_read e = by_length (ltb max_request_octets (length request)) e
     where
-      by_rest : (o : Option (Name × List ℕ)) → rest_refusal o ≡ none → (n : Name) × (o ≡ some (n, []))
-      by_rest none e = absurd (none-ne-some _ (sym e))
-      by_rest (some (n, [])) e = (n, refl)
-      by_rest (some (n, y ∷ s)) e = absurd (none-ne-some _ (sym e))
+      by_rest : (o : Option (Name × List ℕ)) → rest_refusal o ≡ None → (n : Name) × (o ≡ Some (n, []))
+      by_rest None e = absurd (none-some _ (sym e))
+      by_rest (Some (n, [])) e = (n, refl)
+      by_rest (Some (n, y ∷ s)) e = absurd (none-some _ (sym e))
 
-      by_length : (t : Bool) → cond t (some RequestTooLong) (rest_refusal (requested_name request)) ≡ none → (n : Name) × (requested_name request ≡ some (n, []))
-      by_length true e = absurd (none-ne-some _ (sym e))
+      by_length : (t : Bool) → cond t (Some RequestTooLong) (rest_refusal (requested_name request)) ≡ None → (n : Name) × (requested_name request ≡ Some (n, []))
+      by_length true e = absurd (none-some _ (sym e))
       by_length false e = by_rest (requested_name request) e
 
-  good_of : one_name_refusal request ≡ none → issuer_refusal issuer ≡ none → applicant_refusal who ≡ none → Good
+  good_of : one_name_refusal request ≡ None → issuer_refusal issuer ≡ None → applicant_refusal who ≡ None → Good
   good_of e f g =
       let (n, read) = front_read e in
       let (whole, valid) = (requested_name_is_its_labels request octets n []).0 read in (
@@ -114,7 +115,7 @@ module _ (request issuer : List ℕ) (who : Applicant) (octets : Octets request)
         },
       )
 
-  refused_by : (r : Refusal) → first_refusal (open_checks request issuer who) ≡ some r → x ≡ Judged (Refused r)
+  refused_by : (r : Refusal) → first_refusal (open_checks request issuer who) ≡ Some r → x ≡ Judged (Refused r)
   unfolding opened
   refused_by r e = ap (λ c. (opened_or c (session_of request issuer who)).answer) e
 
@@ -122,10 +123,10 @@ module _ (request issuer : List ℕ) (who : Applicant) (octets : Octets request)
   never_refused never = go (one_name_refusal request) (issuer_refusal issuer) (applicant_refusal who) refl refl refl
     where
       go : (a b c : Option Refusal) → one_name_refusal request ≡ a → issuer_refusal issuer ≡ b → applicant_refusal who ≡ c → Good
-      go none none none e f g = good_of e f g
-      go (some r) b c e f g = absurd (never r (refused_by r (rw e refl)))
-      go none (some r) c e f g = absurd (never r (refused_by r (rw (e, f) refl)))
-      go none none (some r) e f g = absurd (never r (refused_by r (rw (e, f, g) refl)))
+      go None None None e f g = good_of e f g
+      go (Some r) b c e f g = absurd (never r (refused_by r (rw e refl)))
+      go None (Some r) c e f g = absurd (never r (refused_by r (rw (e, f) refl)))
+      go None None (Some r) e f g = absurd (never r (refused_by r (rw (e, f, g) refl)))
 
   ways : ((r : Refusal) × (x ≡ Judged (Refused r))) ⊎ Good
   ways = ⊎_elim

@@ -1,11 +1,12 @@
 -- A session from a good opening on, by the words of its calls.
+use Rattle.std.proofs.lemmas.Option.{none-some}
+use Rattle.std.specs.Prelude.{Option, None, Some}
 use Prim.Native.Nat.{ℕ}
 use native.Mathlib.Omega.{arith}
 use mathlib.Core.Path.{◌≡◌, refl, ap, sym, ◌∙◌}
 use mathlib.Core.Logic.{◌≢◌, ⊎_elim}
 use mathlib.Core.List.Memᴰ
 use mathlib.Core.List.{List, [], ◌∷◌, Memᴰ}
-use mathlib.Core.Option.{Option, none, some, none-ne-some}
 use Rattle.spec_refusal.specs.declared.Refusal.{Refusal}
 use Rattle.spec_octets.specs.Lists.{All}
 use Rattle.spec_octets.specs.Octets.{Octets}
@@ -78,15 +79,15 @@ same_verdict j k e =
     )
 
 -- a book for which no row holds is accepted
-book_accepted : (whole : List ℕ) → Octets whole → NoneHolds (BookTable whole) → book_refusal whole ≡ none
+book_accepted : (whole : List ℕ) → Octets whole → NoneHolds (BookTable whole) → book_refusal whole ≡ None
 book_accepted whole o h = go (book_refusal whole) refl
   where
-    never : (r : Refusal) → first_refusal (book_refusal whole ∷ []) ≡ some r → ⊥
-    never = never_refuses (book_rows whole) (λ r. first_refusal (book_refusal whole ∷ []) ≡ some r) (first_row (book_keeps whole o)) h
+    never : (r : Refusal) → first_refusal (book_refusal whole ∷ []) ≡ Some r → ⊥
+    never = never_refuses (book_rows whole) (λ r. first_refusal (book_refusal whole ∷ []) ≡ Some r) (first_row (book_keeps whole o)) h
 
-    go : (c : Option Refusal) → book_refusal whole ≡ c → book_refusal whole ≡ none
-    go none e = e
-    go (some r) e = absurd (never r (rw e refl))
+    go : (c : Option Refusal) → book_refusal whole ≡ c → book_refusal whole ≡ None
+    go None e = e
+    go (Some r) e = absurd (never r (rw e refl))
 
 module _ (request issuer : List ℕ) (who : Applicant) (n : Name) (g : GoodOpening request issuer who n) (given : List Answer) where
   abbrev last : Session
@@ -99,15 +100,15 @@ module _ (request issuer : List ℕ) (who : Applicant) (n : Name) (g : GoodOpeni
   w = caa_session_state last
 
   -- a verdict stands, where no name is asked for
-  ended : number_in w ≢ 40 → (v : SessionAnswer) × (standing last ≡ some v)
+  ended : number_in w ≢ 40 → (v : SessionAnswer) × (standing last ≡ Some v)
   ended h = ⊎_elim
       (λ (none-stands, e, below). absurd (h ((asked_exactly last _).0 e).0))
       (λ (stands, e). there (standing last) refl stands)
       (asks_or_stands request issuer who n g given)
     where
-      there : (o : Option SessionAnswer) → standing last ≡ o → standing last ≢ none → (v : SessionAnswer) × (standing last ≡ some v)
-      there none e stands = absurd (stands e)
-      there (some v) e stands = (v, e)
+      there : (o : Option SessionAnswer) → standing last ≡ o → standing last ≢ None → (v : SessionAnswer) × (standing last ≡ Some v)
+      there None e stands = absurd (stands e)
+      there (Some v) e stands = (v, e)
 
   numbered : Memᴰ (number_in w) (40 ∷ 0 ∷ 20 ∷ 21 ∷ 22 ∷ 23 ∷ [])
   numbered = ⊎_elim (λ e. absurd (never_41 e)) (λ m. m) (Memᴰ.cases_cons (number_said last))
@@ -116,7 +117,7 @@ module _ (request issuer : List ℕ) (who : Applicant) (n : Name) (g : GoodOpeni
       never_41 e =
           let (nothing, none-stands) = (saying last NoVerdict (word_41 _ _ _ _ (state last) (state_word last) e)).0 in
           let (v, f) = ended (λ z. omega arith) in
-          none-ne-some v (sym none-stands ∙ f)
+          none-some v (sym none-stands ∙ f)
 
   as_whole :
       (whole : List ℕ) → Octets whole → NoneHolds (BookTable whole) → All (Agrees whole) answers → number_in w ≢ 40 →
@@ -135,15 +136,15 @@ module _ (request issuer : List ℕ) (who : Applicant) (n : Name) (g : GoodOpeni
   run_says = record {
     as_many_as_labels = (verdict_stands request issuer who n g given).0;
     then_a_verdict = λ e f. stands_and_asks ((verdict_stands request issuer who n g given).1 e) f;
-    asks_in_turn = λ e. let h = name_told last e in h.asks_next ∙ ap some ((asked_in_turn request issuer who n g given).1 h.next h.asks_next);
+    asks_in_turn = λ e. let h = name_told last e in h.asks_next ∙ ap Some ((asked_in_turn request issuer who n g given).1 h.next h.asks_next);
     numbers = numbered;
     as_the_whole_book = as_whole;
   }
     where
-      stands_and_asks : standing last ≢ none → number_in w ≡ 40 → ⊥
+      stands_and_asks : standing last ≢ None → number_in w ≡ 40 → ⊥
       stands_and_asks h e =
           let k = name_told last e in
-          h ((state_tells last).0 (λ z. none-ne-some k.next (sym z ∙ k.asks_next)))
+          h ((state_tells last).0 (λ z. none-some k.next (sym z ∙ k.asks_next)))
 
 pub caa_session_run : CaaSessionRun
 caa_session_run request issuer who n g given =

@@ -1,10 +1,11 @@
 -- Unpacking the word of a session gives the number and the values of the answer: each fits its field.
+use Rattle.std.proofs.lemmas.Option.{none-some, same_Some}
+use Rattle.std.specs.Prelude.{Option, None, Some}
 use Prim.Native.Nat.{ℕ, ◌+◌, ◌^◌, ◌≤◌, ◌<◌}
 use native.Mathlib.Omega.{arith}
 use mathlib.Core.Path.{◌≡◌, refl}
 use mathlib.Core.Bool.{Bool, true, false, cond}
 use mathlib.Core.List.{[], ◌∷◌}
-use mathlib.Core.Option.{Option, none, some, none-ne-some, some-injective}
 use lib.Dec.{eqb, ltb}
 use lib.ListN.{length, length-append}
 use borrow.Author.Tests.{eqb-true, ltb-true}
@@ -56,13 +57,13 @@ KeptAs v r u NoVerdict = ⊥
 
 module _ (v r u : ℕ) where
   abbrev Read : Option SessionAnswer → Type 0
-  Read o = (a : SessionAnswer) → o ≡ some a → KeptAs v r u a
+  Read o = (a : SessionAnswer) → o ≡ Some a → KeptAs v r u a
 
-  one : (b : SessionAnswer) → KeptAs v r u b → Read (some b)
-  one b h a e = rw (← some-injective b a e) h
+  one : (b : SessionAnswer) → KeptAs v r u b → Read (Some b)
+  one b h a e = rw (← same_Some b a e) h
 
-  nothing : Read none
-  nothing a e = absurd (none-ne-some a e)
+  nothing : Read None
+  nothing a e = absurd (none-some a e)
 
   either : (t : Bool) (o p : Option SessionAnswer) → (t ≡ true → Read o) → Read p → Read (cond t o p)
   either true o p h k = h refl
@@ -71,7 +72,7 @@ module _ (v r u : ℕ) where
   by_record : (b : SessionAnswer) → (r < max_records → KeptAs v r u b) → Read (of_record r b)
   by_record b h = either (ltb r max_records) _ _ (λ e. one b (h (ltb-true r max_records e))) nothing
 
-  pub kept_as_lem : (a : SessionAnswer) → verdict_of v r u ≡ some a → KeptAs v r u a
+  pub kept_as_lem : (a : SessionAnswer) → verdict_of v r u ≡ Some a → KeptAs v r u a
   unfolding verdict_of
   kept_as_lem =
       either (eqb v 0) _ _ (λ e. one _ (eqb-true v 0 e))

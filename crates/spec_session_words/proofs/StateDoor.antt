@@ -1,11 +1,12 @@
 -- The word of caa_session_state: what a session in memory says.
+use Rattle.std.proofs.lemmas.Option.{none-some, same_Some}
+use Rattle.std.specs.Prelude.{None, Some}
 use mathlib.Core.List.Memᴰ.{tail}
 use Prim.Native.Nat.{ℕ, ◌<◌}
 use mathlib.Core.Path.{◌≡◌, refl, ap, sym, ◌∙◌}
 use mathlib.Core.Logic.{◌↔◌, ◌≢◌, ◌⊎◌, inl, inr}
 use mathlib.Core.Bool.{true, and-eq-true_iff}
 use mathlib.Core.List.{[], ◌∷◌, Memᴰ}
-use mathlib.Core.Option.{none, some, none-ne-some, some-injective}
 use lib.Dec.{eqb}
 use lib.ListN.{drop}
 use borrow.Author.Tests.{eqb-true, ne_eqb, lt-ltb}
@@ -39,18 +40,18 @@ use Rattle.spec_session_words.proofs.WordAnswers.{HoldsAnswer, of_session, c_sma
 use Rattle.spec_session_words.proofs.ToldNames.{one_wire, held_octets, state_word, tells_next}
 
 -- a name is asked for
-pub named : (s : Session) {y : Name} → asked s ≡ some y → Asking s
-named s {y} e = States.asking s (not_ended s (λ z. none-ne-some y (sym z ∙ e)))
+pub named : (s : Session) {y : Name} → asked s ≡ Some y → Asking s
+named s {y} e = States.asking s (not_ended s (λ z. none-some y (sym z ∙ e)))
 
 -- the name asked for is the one that is told
-pub next_is : {s : Session} {y : Name} (h : Asking s) → asked s ≡ some y → h.next ≡ y
-next_is h e = some-injective _ _ (sym h.asks_next ∙ e)
+pub next_is : {s : Session} {y : Name} (h : Asking s) → asked s ≡ Some y → h.next ≡ y
+next_is h e = same_Some _ _ (sym h.asks_next ∙ e)
 
 -- and the kept name is the one that the session is for
 pub kept_is : {s : Session} (h : Asking s) {n : Name} → IsFor s n → h.kept ≡ n
 kept_is h (whole, good) = one_name h.good good.0 (sym h.whole ∙ whole)
 
-pub asked_above : (s : Session) {n y : Name} → IsFor s n → asked s ≡ some y → WithoutLabels n s.up y
+pub asked_above : (s : Session) {n y : Name} → IsFor s n → asked s ≡ Some y → WithoutLabels n s.up y
 asked_above s {n} {y} is-for e =
     let h = named s e in
     let same = kept_is h is-for in
@@ -70,16 +71,16 @@ module _ (s : Session) where
   pub name_told : number_in w ≡ 40 → Asking s
   name_told e = (saying _ (word_40 _ _ _ _ (state s) (state_word s) e)).0.0
 
-  pub asked_exactly : (y : Name) → (asked s ≡ some y) ↔ TellsName w s y
+  pub asked_exactly : (y : Name) → (asked s ≡ Some y) ↔ TellsName w s y
   asked_exactly y = (λ e. let h = named s e in rw (next_is h e) at (tells_next h), λ t. back (name_told t.0) t)
     where
-      back : Asking s → TellsName w s y → asked s ≡ some y
+      back : Asking s → TellsName w s y → asked s ≡ Some y
       back h (n, a, ends, there) =
           let (m, b, finish, here) = tells_next h in
-          h.asks_next ∙ ap some (one_wire h.next y (sym here ∙ there))
+          h.asks_next ∙ ap Some (one_wire h.next y (sym here ∙ there))
 
   -- a session in phase 2 that keeps its rules says its verdict
-  verdict_said : s.phase ≡ 2 → is_kept s ≡ true → (a : SessionAnswer) → verdict_of s.verdict s.rr s.up ≡ some a → state s ≡ a
+  verdict_said : s.phase ≡ 2 → is_kept s ≡ true → (a : SessionAnswer) → verdict_of s.verdict s.rr s.up ≡ Some a → state s ≡ a
   unfolding standing decided
   verdict_said phase keeps a e = (state_tells s).1 a (rw (keeps, phase) e)
 
@@ -123,7 +124,7 @@ module _ (s : Session) where
   c_unused (tail (tail (tail (tail x16)))) = elim x16 [ ]
   c_unused (Memᴰ.tail (Memᴰ.tail (Memᴰ.tail (Memᴰ.head e)))) = (saying _ (word_41 _ _ _ _ (state s) (state_word s) e)).1.3
 
-  pub nothing_said : (asked s ≡ none) × (standing s ≡ none) → number_in w ≡ 41
+  pub nothing_said : (asked s ≡ None) × (standing s ≡ None) → number_in w ≡ 41
   unfolding session_code
   nothing_said (e, f) = (saying NoVerdict ((state_tells s).2 e f)).1.0
 
@@ -162,7 +163,7 @@ module _ (s : Session) where
     denied_as :
         (v : ℕ) (is : Denial → Judgement) → (number_in w ≡ v → state s ≡ Judged (is (denial (field_a w) (field_b w) (field_c w)))) →
         ((d : Denial) → KeptAs s.verdict s.rr s.up (Judged (is d)) → DeniedBy v s.verdict s.rr s.up d) →
-        ((r u : ℕ) → r < max_records → verdict_of v r u ≡ some (Judged (is (denial 0 r u)))) →
+        ((r u : ℕ) → r < max_records → verdict_of v r u ≡ Some (Judged (is (denial 0 r u)))) →
         ((r u : ℕ) → Word (Judged (is (denial 0 r u))) → (number_in w ≡ v) × (field_b w ≡ r) × (field_c w ≡ u)) → (r u : ℕ) → Denied v r u
     denied_as v is read kept_by stands holds r u = (
       λ (e, b, c).

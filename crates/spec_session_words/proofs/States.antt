@@ -1,10 +1,11 @@
 -- What a session says of itself, by what is in memory.
+use Rattle.std.proofs.lemmas.Option.{none-some}
+use Rattle.std.specs.Prelude.{Option, None, Some}
 use Prim.Native.Nat.{ℕ, ◌+◌, ◌-◌, ◌<◌}
 use native.Mathlib.Omega.{arith}
 use mathlib.Core.Path.{◌≡◌, refl, ap, sym, ◌∙◌}
 use mathlib.Core.Bool.{Bool, true, false, cond, ◌&&◌, and-eq-true_iff}
 use mathlib.Core.List.{List, [], ◌++◌, append-nil}
-use mathlib.Core.Option.{Option, none, some, none-ne-some}
 use lib.Dec.{eqb}
 use lib.ListN.{length, drop, length-append}
 use borrow.Author.Tests.{eqb-true}
@@ -23,7 +24,7 @@ use Rattle.spec_session.proofs.AskedName.{at_the_end}
 use Rattle.spec_session_words.proofs.SessionUnpacks.{FitsAnswer, KeptAs, kept_as_lem, few_labels}
 
 -- the name that a session keeps
-kept_read : (s : Session) (n : Name) → kept_name s ≡ some n → (held s.name ≡ wire n) × GoodName n
+kept_read : (s : Session) (n : Name) → kept_name s ≡ Some n → (held s.name ≡ wire n) × GoodName n
 unfolding kept_name
 kept_read s n e =
     let (whole, good) = name_read (held s.name) n [] ((filling_some (requested_name (held s.name)) n).0 e) in
@@ -35,11 +36,11 @@ pub record Asking (s : Session) : Type 0 where
   pub kept : Name
   pub next : Name
   pub front : List ℕ
-  pub is_kept_lem : kept_name s ≡ some kept
+  pub is_kept_lem : kept_name s ≡ Some kept
   pub good : GoodName kept
   pub below : s.up < length (base kept)
   pub is_next : next ≡ drop s.up (base kept)
-  pub asks_next : asked s ≡ some next
+  pub asks_next : asked s ≡ Some next
   pub whole : held s.name ≡ wire kept
   pub ends : held s.name ≡ front ++ wire next
   pub in_words : state s ≡ Asks (length front) (length (wire next))
@@ -71,7 +72,7 @@ asking s t =
 
 -- a session with the verdict a
 pub record Stands (s : Session) (a : SessionAnswer) : Type 0 where
-  pub asks_nothing : asked s ≡ none
+  pub asks_nothing : asked s ≡ None
   pub in_phase : s.phase ≡ 2
   pub keeps : is_kept s ≡ true
   pub kept_verdict : KeptAs s.verdict s.rr s.up a
@@ -80,17 +81,17 @@ abbrev pub Says : Session → SessionAnswer → Type 0
 Says s (Asks o l) = (h : Asking s) × (o ≡ length h.front) × (l ≡ length (wire h.next))
 Says s (Judged j) = Stands s (Judged j)
 Says s LookupFailed = Stands s LookupFailed
-Says s NoVerdict = (asked s ≡ none) × (standing s ≡ none)
+Says s NoVerdict = (asked s ≡ None) × (standing s ≡ None)
 
-stands : (s : Session) → asked s ≡ none → (a : SessionAnswer) → standing s ≡ some a → Stands s a
+stands : (s : Session) → asked s ≡ None → (a : SessionAnswer) → standing s ≡ Some a → Stands s a
 unfolding standing decided
 stands s nothing a e = go (eqb s.phase 2 && is_kept s) refl e
   where
-    go : (t : Bool) → eqb s.phase 2 && is_kept s ≡ t → cond t (verdict_of s.verdict s.rr s.up) none ≡ some a → Stands s a
+    go : (t : Bool) → eqb s.phase 2 && is_kept s ≡ t → cond t (verdict_of s.verdict s.rr s.up) None ≡ Some a → Stands s a
     go true f e =
         let (phase, keeps) = (and-eq-true_iff (eqb s.phase 2) (is_kept s)).0 f in
         record { asks_nothing = nothing; in_phase = eqb-true _ _ phase; keeps = keeps; kept_verdict = kept_as_lem s.verdict s.rr s.up a e }
-    go false f e = absurd (none-ne-some a e)
+    go false f e = absurd (none-some a e)
 
 pub says : (s : Session) → Says s (state s)
 says s = go (is_asking s) refl
@@ -101,9 +102,9 @@ says s = go (is_asking s) refl
     of_verdict LookupFailed h = h
     of_verdict NoVerdict h = absurd h.kept_verdict
 
-    ended : asked s ≡ none → (o : Option SessionAnswer) → standing s ≡ o → Says s (state s)
-    ended e none f = rw ((state_tells s).2 e f) (e, f)
-    ended e (some a) f = rw ((state_tells s).1 a f) (of_verdict a (stands s e a f))
+    ended : asked s ≡ None → (o : Option SessionAnswer) → standing s ≡ o → Says s (state s)
+    ended e None f = rw ((state_tells s).2 e f) (e, f)
+    ended e (Some a) f = rw ((state_tells s).1 a f) (of_verdict a (stands s e a f))
 
     go : (t : Bool) → is_asking s ≡ t → Says s (state s)
     go true e = let h = asking s e in rw h.in_words (h, refl, refl)

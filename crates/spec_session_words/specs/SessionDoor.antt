@@ -12,9 +12,8 @@
 --   base, GoodRequested                  X of a requested name X or *.X, and a valid requested name: Request.antt of spec_request
 --   lookup                               what a book has for one name, its aliases followed: RelevantSet.antt of spec_rule
 --   UnknownCriticalRecord, Governs, ..   the rule of issue: Meaning.antt of spec_rule
-use Rattle.std.specs.Prelude.{ℕ, ◌+◌, ◌≤◌, ◌<◌, ◌≡◌, ◌↔◌, ◌≢◌, ◌⊎◌, Bool, not, cond, ◌&&◌, leb, length, take, drop, replicate}
+use Rattle.std.specs.Prelude.{ℕ, ◌+◌, ◌≤◌, ◌<◌, ◌≡◌, ◌↔◌, ◌≢◌, ◌⊎◌, Bool, not, cond, ◌&&◌, leb, length, take, drop, replicate, Option, None, Some}
 use mathlib.Core.List.{List, [], ◌∷◌, Memᴰ}
-use Rattle.std.proofs.Math.Option.{Option, none, some}
 use Rattle.spec_limits.specs.Limits.{max_records}
 use Rattle.spec_octets.specs.Lists.{All, Any, First, cons_if}
 use Rattle.spec_octets.specs.Octets.{Octets, lowered}
@@ -44,7 +43,7 @@ pub data OneNameTable (request : List ℕ) : ℕ → ℕ → Type 0 where
 
 pub data EndedTable (s : Session) : ℕ → ℕ → Type 0 where
   -- The session asks for no name.
-  row_14 : asked s ≡ none → EndedTable s 14 0
+  row_14 : asked s ≡ None → EndedTable s 14 0
 
 -- The rows of caa_session_open, and those of caa_session_answer. caa_session_fail has row 14 alone.
 abbrev pub OpenTable : List ℕ → List ℕ → Applicant → ℕ → ℕ → Type 0
@@ -96,7 +95,7 @@ pub record OpenWord (request issuer : List ℕ) (who : Applicant) (word : ℕ) (
   pub opening_is_good : (number_in word ≡ 40) ↔ ((n : Name) × GoodOpening request issuer who n)
   -- Then X is asked for. It is at offset 2 if the requested name is *.X, and at 0 if it is X.
   pub asks_for_x : (n : Name) → GoodOpening request issuer who n →
-      (asked after ≡ some (base n)) × TellsName word after (base n) × (field_b word ≡ cond (is_wildcard n) 2 0)
+      (asked after ≡ Some (base n)) × TellsName word after (base n) × (field_b word ≡ cond (is_wildcard n) 2 0)
   -- The session keeps the request and the three texts as they were given.
   pub texts_kept : number_in word ≡ 40 →
       (held after.name ≡ request) × (held after.issuer ≡ issuer) × (held after.account ≡ who.account)
@@ -116,7 +115,7 @@ CaaSessionOpen =
 
 -- No row holds: the book is accepted. The session is for the requested name n and asks for y.
 abbrev pub Accepts : Session → List ℕ → Name → Name → Type 0
-Accepts s b n y = NoneHolds (AnswerTable s b) × IsFor s n × (asked s ≡ some y)
+Accepts s b n y = NoneHolds (AnswerTable s b) × IsFor s n × (asked s ≡ Some y)
 
 -- What the book has for y.
 abbrev pub Finds : List ℕ → Name → Lookup → Type 0
@@ -142,8 +141,8 @@ pub record AnswerWord (s : Session) (b : List ℕ) (word : ℕ) (after : Session
   -- 40, the next name: exactly when no row holds, the book has nothing for the name asked for, and that has more than one label.
   pub next_exactly : (number_in word ≡ 40) ↔ ((n y : Name) × Accepts s b n y × Finds b y empty × (1 < length y))
   -- The parent of the name asked for is asked for next.
-  pub next_name : number_in word ≡ 40 → (y : Name) → asked s ≡ some y →
-      (asked after ≡ some (drop 1 y)) × TellsName word after (drop 1 y)
+  pub next_name : number_in word ≡ 40 → (y : Name) → asked s ≡ Some y →
+      (asked after ≡ Some (drop 1 y)) × TellsName word after (drop 1 y)
   -- 0, permitted: exactly when no row holds, and the book has nothing for the name asked for, which has one label, or has records that permit.
   pub permitted_exactly :
       (number_in word ≡ 0)
@@ -193,7 +192,7 @@ pub record FailWord (s : Session) (word : ℕ) (after : Session) : Type 0 where
   -- A refusal changes nothing in the session.
   pub refused_unchanged : Refuses word → after ≡ s
   -- 23, lookup failed: exactly when the session asks for a name.
-  pub failed_exactly : (number_in word ≡ 23) ↔ ((y : Name) × (asked s ≡ some y))
+  pub failed_exactly : (number_in word ≡ 23) ↔ ((y : Name) × (asked s ≡ Some y))
   -- caa_session_state then returns the same word.
   pub state_after : number_in word ≡ 23 → caa_session_state after ≡ word
   -- The texts stay as they are.
@@ -213,9 +212,9 @@ pub record StateWord (s : Session) (word : ℕ) : Type 0 where
   -- 40, a name is asked for: exactly when the phase is 1 and the session keeps its rules.
   pub asks_exactly : (number_in word ≡ 40) ↔ ((s.phase ≡ 1) × KeptWell s)
   -- The word tells which name: y exactly if y is asked for.
-  pub asked_exactly : (y : Name) → (asked s ≡ some y) ↔ TellsName word s y
+  pub asked_exactly : (y : Name) → (asked s ≡ Some y) ↔ TellsName word s y
   -- That is X without as many labels as the session says.
-  pub asked_above : (n y : Name) → IsFor s n → asked s ≡ some y → WithoutLabels n s.up y
+  pub asked_above : (n y : Name) → IsFor s n → asked s ≡ Some y → WithoutLabels n s.up y
   -- 0, permitted, and 23, lookup failed: exactly when the phase is 2, the session keeps its rules, and this is its verdict.
   pub settled_exactly : (v : ℕ) → Memᴰ v (0 ∷ 23 ∷ []) → (number_in word ≡ v) ↔ ((s.phase ≡ 2) × KeptWell s × (s.verdict ≡ v))
   -- 20, 21 and 22: the same, r in b is its record, below the limit of records, and u in c is its number of labels taken off.
@@ -223,7 +222,7 @@ pub record StateWord (s : Session) (word : ℕ) : Type 0 where
       ((number_in word ≡ v) × (field_b word ≡ r) × (field_c word ≡ u))
       ↔ ((s.phase ≡ 2) × KeptWell s × (s.verdict ≡ v) × (s.rr ≡ r) × (s.rr < max_records) × (s.up ≡ u))
   -- 41: exactly when no name is asked for and there is no verdict.
-  pub no_verdict_exactly : (number_in word ≡ 41) ↔ ((asked s ≡ none) × (standing s ≡ none))
+  pub no_verdict_exactly : (number_in word ≡ 41) ↔ ((asked s ≡ None) × (standing s ≡ None))
   -- A session that breaks a rule, or has another phase than 1 and 2, is one of those.
   pub broken : (KeptWell s → ⊥) ⊎ ((s.phase ≢ 1) × (s.phase ≢ 2)) → number_in word ≡ 41
   -- No other number is ever returned.
@@ -263,7 +262,7 @@ pub record RunWord (request issuer : List ℕ) (who : Applicant) (n : Name) (ans
   pub as_many_as_labels : length answers ≤ length (base n)
   pub then_a_verdict : length answers ≡ length (base n) → number_in word ≢ 40
   -- A name is asked for, which is X without one label for each accepted answer; or a verdict stands.
-  pub asks_in_turn : number_in word ≡ 40 → asked last ≡ some (drop (length answers) (base n))
+  pub asks_in_turn : number_in word ≡ 40 → asked last ≡ Some (drop (length answers) (base n))
   pub numbers : Memᴰ (number_in word) (40 ∷ 0 ∷ 20 ∷ 21 ∷ 22 ∷ 23 ∷ [])
   -- If every accepted answer has for its name what one accepted whole book has, a verdict that stands is that of caa_judge_for on the whole book: its
   -- number, the name in a and the labels taken off in c.

@@ -1,16 +1,17 @@
 -- TLSA data holds an association exactly when it is its wire form; the known values of its fields; the TLSA records of a book.
+use Rattle.std.proofs.lemmas.Option.{same_Some, none-some}
+use Rattle.std.specs.Prelude.{Some}
 use Prim.Native.Nat.{ℕ, zero, suc, ◌≤◌}
 use native.Mathlib.Omega.{arith}
-use mathlib.Core.Path.{◌≡◌, refl, sym, ap, ◌∙◌}
+use mathlib.Core.Path.{◌≡◌, refl}
 use mathlib.Core.Logic.{◌↔◌, ◌⊎◌, inl, inr}
 use mathlib.Core.Bool.{true, and-eq-true_iff}
 use mathlib.Core.List.{List, [], ◌∷◌}
-use mathlib.Core.Option.{some, some-injective, none-ne-some}
 use lib.Dec.{eqb}
 use lib.ListN.{length}
 use borrow.Author.Tests.{leb-true, le-leb, eqb-true, eq-eqb}
 use Rattle.spec_record.proofs.KindLaws.{kind_records}
-use Rattle.spec_tlsa.specs.Association.{Association, is_tlsa, wire_association, read_association, association, is_usage, is_selector, is_matching_type}
+use Rattle.spec_tlsa.specs.Association.{Association, is_tlsa, read_association, association, is_usage, is_selector, is_matching_type}
 use Rattle.spec_tlsa.specs.Matches.{TlsaRecord, as_tlsa}
 use Rattle.spec_tlsa.specs.Meaning.{Holds}
 use Rattle.spec_tlsa.specs.Pinned.{AssociationForm}
@@ -23,16 +24,16 @@ pub association_is_its_parts : AssociationIsItsParts
 unfolding association read_association
 association_is_its_parts d a = (read d, stand)
   where
-    stand : Holds d a → association d ≡ some a
+    stand : Holds d a → association d ≡ Some a
     stand h = rw (h.0, le-leb 1 (length a.octets) h.1)
 
-    read : (d : List ℕ) → association d ≡ some a → Holds d a
-    read [] e = absurd (none-ne-some _ e)
-    read (u ∷ []) e = absurd (none-ne-some _ e)
-    read (u ∷ s ∷ []) e = absurd (none-ne-some _ e)
-    read (u ∷ s ∷ m ∷ []) e = absurd (none-ne-some _ e)
+    read : (d : List ℕ) → association d ≡ Some a → Holds d a
+    read [] e = absurd (none-some _ e)
+    read (u ∷ []) e = absurd (none-some _ e)
+    read (u ∷ s ∷ []) e = absurd (none-some _ e)
+    read (u ∷ s ∷ m ∷ []) e = absurd (none-some _ e)
     read (u ∷ s ∷ m ∷ x ∷ d) e =
-        let same = some-injective _ _ (rw (le-leb 1 (length (x ∷ d)) (omega arith)) at e) in
+        let same = same_Some _ _ (rw (le-leb 1 (length (x ∷ d)) (omega arith)) at e) in
         rw (← same) (refl, omega arith)
 
 up_to_3 : (x : ℕ) → x ≤ 3 → (x ≡ 0) ⊎ (x ≡ 1) ⊎ (x ≡ 2) ⊎ (x ≡ 3)

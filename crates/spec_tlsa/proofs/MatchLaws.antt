@@ -1,7 +1,7 @@
 -- The match by the rule: the first record of the owner that matches, else whether one of them is usable.
 use Prim.Native.Nat.{ℕ}
 use native.Mathlib.Omega.{arith}
-use mathlib.Core.Path.{◌≡◌, refl, sym, ap, ◌∙◌}
+use mathlib.Core.Path.{◌≡◌, refl, ap}
 use mathlib.Core.Logic.Iff
 use mathlib.Core.Logic.{◌↔◌, ◌≢◌, ◌⊎◌, inl, inr}
 use mathlib.Core.Bool.{Bool, true, false, cond, not, ◌&&◌, and-eq-true_iff, true≢false}
@@ -9,19 +9,19 @@ use mathlib.Core.List.{List, [], ◌∷◌}
 use lib.Dec.{leb, eqb}
 use borrow.Author.Tests.{leb-true, le-leb, eqb-true, eqb-false, eq-eqb}
 use Rattle.spec_refusal.specs.declared.Refusal.{Refusal}
-use Rattle.spec_octets.specs.Lists.{any, select, is_empty, All, all_nil, all_cons, Any, any_here, any_there, Selects, selects_nil, selects_take, selects_pass, First}
+use Rattle.spec_octets.specs.Lists.{select, is_empty, All, all_nil, all_cons, Any, any_here, any_there, Selects, selects_take, selects_pass, First}
 use Rattle.spec_octets.specs.Octets.{same}
-use Rattle.spec_octets.proofs.ListLaws.{true_or_false, All-imp}
+use Rattle.spec_octets.proofs.ListLaws.{All-imp}
 use Rattle.spec_octets.proofs.Texts.{same_equal}
 use Rattle.spec_octets.proofs.SelectLaws.{selects_none, selects_first, first_selects, selected}
 use Rattle.spec_octets.proofs.SelectTests.{select_twice, any_selected}
-use Rattle.spec_name.specs.Names.{Name, same_name}
+use Rattle.spec_name.specs.Names.{same_name}
 use Rattle.spec_name.proofs.WholeNames.{whole_names}
 use Rattle.spec_tlsa.specs.declared.Matching.{Matching}
 use Rattle.spec_tlsa.specs.declared.Matching.TheVariants.{Match, NoMatch, NothingUsable, Refused}
 use Rattle.spec_tlsa.specs.Association.{Association, is_usage, is_selector, is_matching_type}
 use Rattle.spec_tlsa.specs.Matches.{TlsaRecord, tlsa_at, Presented, is_usable, selected as selectedOctets, is_match, first_match, matching}
-use Rattle.spec_tlsa.specs.Meaning.{OwnedBy, Usable, Matches, MatchOn}
+use Rattle.spec_tlsa.specs.Meaning.{OwnedBy, Usable, Matches}
 use Rattle.spec_tlsa.specs.Theorems.{MatchByTheRule}
 
 usable_exactly : (a : Association) → (is_usable a ≡ true) ↔ Usable a

@@ -1,26 +1,27 @@
 -- A service has an owner exactly when host, port and transport keep their rules.
+use Rattle.std.proofs.lemmas.Option.{none-some, same_Some}
+use Rattle.std.specs.Prelude.{Option, None, Some}
 use Prim.Native.Nat.{ℕ, ◌≤◌}
 use native.Mathlib.Omega.{arith}
 use mathlib.Core.Path.{◌≡◌, refl, sym, ap, subst, ◌∙◌}
-use mathlib.Core.Logic.{◌↔◌, ◌≢◌, ◌⊎◌, inl, inr}
+use mathlib.Core.Logic.{◌↔◌, ◌⊎◌, inl, inr}
 use mathlib.Core.Bool.{Bool, true, false, cond, not, ◌&&◌, ◌||◌, and-eq-true_iff, true≢false, false≢true}
-use mathlib.Core.List.{List, [], ◌∷◌, ◌++◌, append-nil}
-use mathlib.Core.Option.{Option, none, some, none-ne-some, some-injective}
+use mathlib.Core.List.{List, [], ◌∷◌, append-nil}
 use lib.Dec.{leb}
 use lib.ListN.{length}
 use borrow.Author.Tests.{leb-true, le-leb, not-true}
 use Rattle.spec_limits.specs.Limits.{max_name_octets, max_label_octets}
-use Rattle.spec_octets.specs.Lists.{is_empty, All, all_cons}
+use Rattle.spec_octets.specs.Lists.{is_empty, all_cons}
 use Rattle.spec_octets.specs.Octets.{Octets, text, same, is_digit, is_upper, is_lower, is_letter_or_digit}
-use Rattle.spec_octets.specs.Label.{is_letter_digit_hyphen, HostLabel}
+use Rattle.spec_octets.specs.Label.{is_letter_digit_hyphen}
 use Rattle.spec_octets.specs.WrittenDecimal.{decimal}
 use Rattle.spec_octets.specs.Reader.{if_read}
 use Rattle.spec_octets.proofs.ListLaws.{or_eq_true, All-head}
 use Rattle.spec_octets.proofs.Texts.{same_equal}
-use Rattle.spec_name.specs.Names.{Name, wire, GoodName}
+use Rattle.spec_name.specs.Names.{Name, wire}
 use Rattle.spec_request.specs.Request.{is_wildcard, requested_name, GoodRequested}
 use Rattle.spec_request.proofs.RequestedNames.{wildcard_form, requested_name_is_its_labels}
-use Rattle.spec_tlsa.specs.Owners.{Service, max_port, is_port, is_transport, host_name, prefixed, owner_from, service_owner}
+use Rattle.spec_tlsa.specs.Owners.{is_port, is_transport, host_name, prefixed, owner_from, service_owner}
 use Rattle.spec_tlsa.specs.Meaning.{GoodHost, Transport, OwnerOf}
 use Rattle.spec_tlsa.specs.Pinned.{PrefixForm}
 use Rattle.spec_tlsa.specs.Theorems.{OwnerIsItsParts, OwnerIsValid}
@@ -29,9 +30,9 @@ use Rattle.spec_tlsa.proofs.Ports.{port_is_a_decimal, port_short}
 pub prefix_form : PrefixForm
 prefix_form p t x = refl
 
-chosen : {A : Type 0} (t : Bool) (a b : A) → (cond t (some a) none ≡ some b) ↔ ((t ≡ true) × (a ≡ b))
-chosen true a b = (λ e. (refl, some-injective a b e), λ h. ap some h.1)
-chosen false a b = (λ e. absurd (none-ne-some b e), λ h. absurd (false≢true h.0))
+chosen : {A : Type 0} (t : Bool) (a b : A) → (cond t (Some a) None ≡ Some b) ↔ ((t ≡ true) × (a ≡ b))
+chosen true a b = (λ e. (refl, same_Some a b e), λ h. ap Some h.1)
+chosen false a b = (λ e. absurd (none-some b e), λ h. absurd (false≢true h.0))
 
 transport_exactly : (t : List ℕ) → (is_transport t ≡ true) ↔ Transport t
 unfolding is_transport
@@ -60,24 +61,24 @@ good_host : (h : Name) → GoodRequested h → is_wildcard h ≡ false → GoodH
 good_host h (good, (x, inl e, full, hosts)) plain = (good, rw e full, rw e hosts)
 good_host h (good, (x, inr e, full, hosts)) plain = absurd (true≢false (sym (wildcard_form.0 x).0 ∙ rw e at plain))
 
-pub host_exactly : (s : List ℕ) → Octets s → (h : Name) → (host_name s ≡ some h) ↔ ((s ≡ wire h) × GoodHost h)
+pub host_exactly : (s : List ℕ) → Octets s → (h : Name) → (host_name s ≡ Some h) ↔ ((s ≡ wire h) × GoodHost h)
 unfolding host_name
 host_exactly s o h = (λ e. read (requested_name s) refl e, stand)
   where
-    whole : (n : Name) (rest : List ℕ) → requested_name s ≡ some (n, rest) → is_empty rest ≡ true → is_wildcard n ≡ false → (s ≡ wire n) × GoodHost n
+    whole : (n : Name) (rest : List ℕ) → requested_name s ≡ Some (n, rest) → is_empty rest ≡ true → is_wildcard n ≡ false → (s ≡ wire n) × GoodHost n
     whole n [] r e plain = let (front, good) = (requested_name_is_its_labels s o n []).0 r in (front ∙ append-nil (wire n), good_host n good plain)
     whole n (x ∷ rest) r e plain = absurd (false≢true e)
 
     read :
         (r : Option (Name × List ℕ)) → requested_name s ≡ r →
-        if_read none r (λ n rest. cond (is_empty rest && not (is_wildcard n)) (some n) none) ≡ some h → (s ≡ wire h) × GoodHost h
-    read none r e = absurd (none-ne-some h e)
-    read (some (n, rest)) r e =
+        if_read None r (λ n rest. cond (is_empty rest && not (is_wildcard n)) (Some n) None) ≡ Some h → (s ≡ wire h) × GoodHost h
+    read None r e = absurd (none-some h e)
+    read (Some (n, rest)) r e =
         let (t, is) = (chosen (is_empty rest && not (is_wildcard n)) n h).0 e in
         let (ended, plain) = (and-eq-true_iff (is_empty rest) (not (is_wildcard n))).0 t in
         rw (← is) (whole n rest r ended (not-true (is_wildcard n) plain))
 
-    stand : (s ≡ wire h) × GoodHost h → host_name s ≡ some h
+    stand : (s ≡ wire h) × GoodHost h → host_name s ≡ Some h
     stand (front, good) =
         let read = (requested_name_is_its_labels s o h []).1 (front ∙ sym (append-nil (wire h)), (good.0, (h, inl refl, good.1, good.2))) in
         rw (read, host_plain h good)
@@ -89,9 +90,9 @@ owner_is_its_parts s o x = (λ e. read (host_name s.host) refl e, stand)
     fits : Name → Bool
     fits h = leb (length (wire (prefixed s.port s.transport h))) max_name_octets
 
-    read : (r : Option Name) → host_name s.host ≡ r → owner_from s.port s.transport r ≡ some x → OwnerOf s x
-    read none r e = absurd (none-ne-some x e)
-    read (some h) r e =
+    read : (r : Option Name) → host_name s.host ≡ r → owner_from s.port s.transport r ≡ Some x → OwnerOf s x
+    read None r e = absurd (none-some x e)
+    read (Some h) r e =
         let (t, is) = (chosen (is_port s.port && is_transport s.transport && fits h) (prefixed s.port s.transport h) x).0 e in
         let (front, short) = (and-eq-true_iff (is_port s.port && is_transport s.transport) (fits h)).0 t in
         let (port, transport) = (and-eq-true_iff (is_port s.port) (is_transport s.transport)).0 front in
@@ -108,7 +109,7 @@ owner_is_its_parts s o x = (λ e. read (host_name s.host) refl e, stand)
           rw (← is) (leb-true _ max_name_octets short),
         )
 
-    stand : OwnerOf s x → owner_from s.port s.transport (host_name s.host) ≡ some x
+    stand : OwnerOf s x → owner_from s.port s.transport (host_name s.host) ≡ Some x
     stand (h, n, whole, good, decimal-n, low, transport, is, short) =
         let made : prefixed s.port s.transport h ≡ x = rw decimal-n (sym is) in
         let room = le-leb _ max_name_octets (subst (λ y. length (wire y) ≤ max_name_octets) (sym made) short) in

@@ -1,19 +1,19 @@
 -- A port is the decimal of a number up to 65,535.
-use Prim.Native.Nat.{ℕ, ◌+◌, ◌-◌, ◌*◌, ◌/◌, ◌%◌, ◌≤◌, ◌<◌}
+use Prim.Native.Nat.{ℕ, ◌+◌, ◌-◌, ◌*◌, ◌/◌, ◌%◌, ◌≤◌}
 use Prim.Native.Char.{code}
 use native.Mathlib.Omega.{arith}
 use mathlib.Core.Path.{◌≡◌, refl, sym, ap, ◌∙◌}
 use mathlib.Core.Logic.{◌↔◌, ◌≢◌, ◌⊎◌, inl, inr}
-use mathlib.Core.Bool.{Bool, true, false, not, ◌&&◌, ◌||◌, and-eq-true_iff, or-true}
+use mathlib.Core.Bool.{Bool, true, not, ◌&&◌, ◌||◌, and-eq-true_iff, or-true}
 use mathlib.Core.List.{List, [], ◌∷◌, ◌++◌, append-nil, append_assoc}
 use lib.Dec.{leb, eqb}
 use lib.ListN.{length}
-use borrow.Author.Tests.{leb-true, le-leb, eqb-true, eq-eqb, eqb-false, ne_eqb, not-true}
-use Rattle.spec_octets.specs.Lists.{all, begins, All, all_nil, all_cons}
+use borrow.Author.Tests.{leb-true, le-leb, eqb-false, ne_eqb, not-true}
+use Rattle.spec_octets.specs.Lists.{all, begins, All}
 use Rattle.spec_octets.specs.Octets.{between, is_digit}
 use Rattle.spec_octets.specs.Decimal.{decimal_from}
-use Rattle.spec_octets.specs.WrittenDecimal.{digit, decimal}
-use Rattle.spec_octets.proofs.ListLaws.{true_or_false, or_eq_true, all_true, All-head, All-tail}
+use Rattle.spec_octets.specs.WrittenDecimal.{decimal}
+use Rattle.spec_octets.proofs.ListLaws.{all_true, All-head, All-tail}
 use Rattle.spec_octets.proofs.WrittenDecimals.{decimal_small, decimal_more, decimal_within_lem, decimal_some, says, decimals}
 use Rattle.spec_tlsa.specs.Owners.{max_port, is_port}
 use Rattle.spec_tlsa.specs.Pinned.{PortLimit}

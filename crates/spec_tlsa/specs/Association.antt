@@ -1,6 +1,5 @@
 -- TLSA data (RFC 6698 section 2.1): certificate usage, selector, matching type, and the certificate association data.
-use Rattle.std.specs.Prelude.{ℕ, Bool, ◌&&◌, List, ◌∷◌, leb, eqb, length}
-use Rattle.std.proofs.Math.Option.{Option, none, some}
+use Rattle.std.specs.Prelude.{ℕ, Bool, ◌&&◌, List, ◌∷◌, leb, eqb, length, Option, None, Some}
 use Rattle.spec_octets.specs.Reader.{Reader, given, ◌>>=◌, if_read, octet, remainder}
 
 pub record Association : Type 0 where
@@ -28,7 +27,7 @@ read_association = do
 
 -- The association in TLSA data; none if the data is malformed.
 unfoldable pub association : List ℕ → Option Association
-association d = if_read none (read_association d) (λ a rest. some a)
+association d = if_read None (read_association d) (λ a rest. Some a)
 
 -- RFC 6698 sections 2.1.1 to 2.1.3: the values that are known. Of the matching types this is 0 alone, no hash, for now.
 unfoldable pub is_usage : ℕ → Bool

@@ -1,6 +1,5 @@
 -- The two calls: the owner of a service in the caller's buffer, and the match.
-use Rattle.std.specs.Prelude.{ℕ, List, [], ◌∷◌}
-use Rattle.std.proofs.Math.Option.{Option, none, some}
+use Rattle.std.specs.Prelude.{ℕ, List, [], ◌∷◌, Option, None, Some}
 use Rattle.spec_refusal.specs.declared.Refusal.{Refusal}
 use Rattle.spec_refusal.specs.declared.Refusal.TheVariants.{BadName}
 use Rattle.spec_name.specs.Names.{Name, wire}
@@ -18,15 +17,15 @@ bad_service = BadName (record { 0 = 0 })
 
 -- Writes the owner in wire form. The checks in their order: 2; 8.
 abbrev pub owner_placed : Option Name → List ℕ → Output
-owner_placed none buffer = refused bad_service buffer
-owner_placed (some x) buffer = placed (wire x) buffer
+owner_placed None buffer = refused bad_service buffer
+owner_placed (Some x) buffer = placed (wire x) buffer
 
 unfoldable pub write_owner : Service → List ℕ → Output
 write_owner s buffer = owner_placed (service_owner s) buffer
 
 abbrev pub owner_check : Option Name → Option Refusal
-owner_check none = some bad_service
-owner_check (some x) = none
+owner_check None = Some bad_service
+owner_check (Some x) = None
 
 unfoldable pub owner_refusal : Service → Option Refusal
 owner_refusal s = owner_check (service_owner s)
@@ -36,12 +35,12 @@ abbrev pub match_checks : Service → List ℕ → List (Option Refusal)
 match_checks s book = owner_refusal s ∷ book_refusal book ∷ []
 
 abbrev pub tlsa_of : Option Name → List TlsaRecord → List TlsaRecord
-tlsa_of none rs = []
-tlsa_of (some x) rs = tlsa_at rs x
+tlsa_of None rs = []
+tlsa_of (Some x) rs = tlsa_at rs x
 
 abbrev pub refused_or : Option Refusal → Matching → Matching
-refused_or none m = m
-refused_or (some r) m = Refused r
+refused_or None m = m
+refused_or (Some r) m = Refused r
 
 unfoldable pub match_service : Service → Presented → List ℕ → Matching
 match_service s c book =

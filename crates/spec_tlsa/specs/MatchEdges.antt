@@ -2,7 +2,6 @@
 use Rattle.std.specs.Prelude.{ℕ, List, [], ◌∷◌, ◌++◌}
 use Prim.Native.String.{String}
 use Rattle.spec_refusal.specs.declared.Refusal.TheVariants.{BookTooLong, BadRecord, AliasConflict}
-use Rattle.spec_octets.specs.Octets.{text}
 use Rattle.spec_record.specs.Records.{Record}
 use Rattle.spec_record.specs.BookEdges.{of_octets}
 use Rattle.spec_rule.specs.Edges.{dotted, caa, cname}

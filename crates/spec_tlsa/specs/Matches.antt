@@ -1,6 +1,5 @@
 -- The TLSA records of a book, and which of them match a certificate or its key (RFC 6698 sections 2.1 and 4).
 use Rattle.std.specs.Prelude.{ℕ, Bool, true, false, cond, ◌&&◌, List, [], ◌∷◌, eqb}
-use Rattle.std.proofs.Math.Option.{Option, none, some}
 use Rattle.spec_octets.specs.Lists.{any, select}
 use Rattle.spec_octets.specs.Octets.{same}
 use Rattle.spec_name.specs.Names.{Name, same_name}

@@ -1,5 +1,5 @@
 -- Services, their owners and the match as statements, without the tests and the search. The theorems use these.
-use Rattle.std.specs.Prelude.{ℕ, ◌≤◌, ◌<◌, ◌≡◌, ◌≢◌, ◌⊎◌, ◌↔◌, List, [], ◌∷◌, map, length}
+use Rattle.std.specs.Prelude.{ℕ, ◌≤◌, ◌≡◌, ◌≢◌, ◌⊎◌, ◌↔◌, List, [], ◌∷◌, map, length}
 use Rattle.spec_limits.specs.Limits.{max_name_octets}
 use Rattle.spec_refusal.specs.declared.Refusal.{Refusal}
 use Rattle.spec_octets.specs.Lists.{All, Any, First}

@@ -1,8 +1,7 @@
 -- TLSA data, and services, each with what the requirements say of it. Worked out by hand.
-use Rattle.std.specs.Prelude.{ℕ, List, [], ◌∷◌, ◌++◌, length, replicate}
+use Rattle.std.specs.Prelude.{ℕ, List, [], ◌∷◌, ◌++◌, replicate, Option, None, Some}
 use Prim.Native.Char.{code}
 use Prim.Native.String.{String}
-use Rattle.std.proofs.Math.Option.{Option, none, some}
 use Rattle.spec_octets.specs.Octets.{text}
 use Rattle.spec_name.specs.Names.{Name, wire}
 use Rattle.spec_rule.specs.Edges.{dotted}
@@ -12,13 +11,13 @@ use Rattle.spec_tlsa.specs.Owners.{Service}
 -- Data of 0 to 5 octets, and fields of any value.
 abbrev pub association_edges : List (List ℕ × Option Association)
 association_edges =
-    ([], none)
-    ∷ (3 ∷ [], none)
-    ∷ (3 ∷ 1 ∷ [], none)
-    ∷ (3 ∷ 1 ∷ 0 ∷ [], none)
-    ∷ (3 ∷ 1 ∷ 0 ∷ 48 ∷ [], some (record { usage = 3; selector = 1; matching = 0; octets = 48 ∷ [] }))
-    ∷ (0 ∷ 1 ∷ 2 ∷ 48 ∷ 49 ∷ [], some (record { usage = 0; selector = 1; matching = 2; octets = 48 ∷ 49 ∷ [] }))
-    ∷ (255 ∷ 254 ∷ 253 ∷ 0 ∷ [], some (record { usage = 255; selector = 254; matching = 253; octets = 0 ∷ [] }))
+    ([], None)
+    ∷ (3 ∷ [], None)
+    ∷ (3 ∷ 1 ∷ [], None)
+    ∷ (3 ∷ 1 ∷ 0 ∷ [], None)
+    ∷ (3 ∷ 1 ∷ 0 ∷ 48 ∷ [], Some (record { usage = 3; selector = 1; matching = 0; octets = 48 ∷ [] }))
+    ∷ (0 ∷ 1 ∷ 2 ∷ 48 ∷ 49 ∷ [], Some (record { usage = 0; selector = 1; matching = 2; octets = 48 ∷ 49 ∷ [] }))
+    ∷ (255 ∷ 254 ∷ 253 ∷ 0 ∷ [], Some (record { usage = 255; selector = 254; matching = 253; octets = 0 ∷ [] }))
     ∷ []
 
 -- A service at a host that is written with dots, or whose octets are given.
@@ -37,27 +36,27 @@ long_host k = letters 63 ∷ letters 63 ∷ letters 63 ∷ letters k ∷ []
 
 -- Port p of a.example is good, with this first label; or it is no port.
 abbrev pub good_port : String → Service × Option Name
-good_port p = (service "a.example" p "tcp", some ((code "_" ∷ text p) ∷ dotted "_tcp.a.example"))
+good_port p = (service "a.example" p "tcp", Some ((code "_" ∷ text p) ∷ dotted "_tcp.a.example"))
 
 abbrev pub bad_port : String → Service × Option Name
-bad_port p = (service "a.example" p "tcp", none)
+bad_port p = (service "a.example" p "tcp", None)
 
 -- The same for a transport, and for a host.
 abbrev pub good_transport : String → Service × Option Name
-good_transport t = (service "a.example" "443" t, some (text "_443" ∷ (code "_" ∷ text t) ∷ dotted "a.example"))
+good_transport t = (service "a.example" "443" t, Some (text "_443" ∷ (code "_" ∷ text t) ∷ dotted "a.example"))
 
 abbrev pub bad_transport : String → Service × Option Name
-bad_transport t = (service "a.example" "443" t, none)
+bad_transport t = (service "a.example" "443" t, None)
 
 abbrev pub bad_host : List ℕ → Service × Option Name
-bad_host h = (service_at h "443" "tcp", none)
+bad_host h = (service_at h "443" "tcp", None)
 
 abbrev pub owner_edges : List (Service × Option Name)
 owner_edges =
     -- RFC 6698 section 3. The host keeps its letter case.
-    (service "www.example.com" "443" "tcp", some (dotted "_443._tcp.www.example.com"))
-    ∷ (service "mail.example.com" "25" "tcp", some (dotted "_25._tcp.mail.example.com"))
-    ∷ (service "WWW.Example.com" "443" "tcp", some (dotted "_443._tcp.WWW.Example.com"))
+    (service "www.example.com" "443" "tcp", Some (dotted "_443._tcp.www.example.com"))
+    ∷ (service "mail.example.com" "25" "tcp", Some (dotted "_25._tcp.mail.example.com"))
+    ∷ (service "WWW.Example.com" "443" "tcp", Some (dotted "_443._tcp.WWW.Example.com"))
     -- Ports: 0 to 65,535 without leading zeros.
     ∷ good_port "0"
     ∷ good_port "9"
@@ -99,12 +98,12 @@ owner_edges =
     ∷ bad_host (1 ∷ 97 ∷ [])
     ∷ bad_host (1 ∷ 97 ∷ 0 ∷ 0 ∷ [])
     ∷ bad_host (1 ∷ 97 ∷ 0 ∷ 1 ∷ 97 ∷ 0 ∷ [])
-    ∷ (service_at (1 ∷ 97 ∷ 0 ∷ []) "443" "tcp", some (dotted "_443._tcp.a"))
+    ∷ (service_at (1 ∷ 97 ∷ 0 ∷ []) "443" "tcp", Some (dotted "_443._tcp.a"))
     -- The shortest prefix takes 8 octets: hosts of 247 and 248 octets. The longest takes 13: hosts of 242 and 243 octets.
-    ∷ (service_at (wire (long_host 53)) "1" "tcp", some (text "_1" ∷ text "_tcp" ∷ long_host 53))
-    ∷ (service_at (wire (long_host 54)) "1" "tcp", none)
-    ∷ (service_at (wire (long_host 48)) "65535" "sctp", some (text "_65535" ∷ text "_sctp" ∷ long_host 48))
-    ∷ (service_at (wire (long_host 49)) "65535" "sctp", none)
-    ∷ (service_at (wire (long_host 61)) "1" "tcp", none)
-    ∷ (service_at (wire (long_host 62)) "1" "tcp", none)
+    ∷ (service_at (wire (long_host 53)) "1" "tcp", Some (text "_1" ∷ text "_tcp" ∷ long_host 53))
+    ∷ (service_at (wire (long_host 54)) "1" "tcp", None)
+    ∷ (service_at (wire (long_host 48)) "65535" "sctp", Some (text "_65535" ∷ text "_sctp" ∷ long_host 48))
+    ∷ (service_at (wire (long_host 49)) "65535" "sctp", None)
+    ∷ (service_at (wire (long_host 61)) "1" "tcp", None)
+    ∷ (service_at (wire (long_host 62)) "1" "tcp", None)
     ∷ []

@@ -1,7 +1,6 @@
 -- RFC 6698 section 3: the owner of the TLSA records of a service, such as _443._tcp.www.example.com.
-use Rattle.std.specs.Prelude.{ℕ, Bool, cond, not, ◌&&◌, ◌||◌, List, ◌∷◌, leb, eqb, length}
+use Rattle.std.specs.Prelude.{ℕ, Bool, cond, not, ◌&&◌, ◌||◌, List, ◌∷◌, leb, eqb, length, Option, None, Some}
 use Prim.Native.Char.{code}
-use Rattle.std.proofs.Math.Option.{Option, none, some}
 use Rattle.spec_limits.specs.Limits.{max_name_octets}
 use Rattle.spec_octets.specs.Lists.{all, begins, is_empty}
 use Rattle.spec_octets.specs.Octets.{text, between, same, is_digit}
@@ -30,7 +29,7 @@ is_transport t = same t (text "tcp") || same t (text "udp") || same t (text "sct
 
 -- "one request name without star": the octets are exactly one such name.
 unfoldable pub host_name : List ℕ → Option Name
-host_name h = if_read none (requested_name h) (λ n rest. cond (is_empty rest && not (is_wildcard n)) (some n) none)
+host_name h = if_read None (requested_name h) (λ n rest. cond (is_empty rest && not (is_wildcard n)) (Some n) None)
 
 -- A label that begins with an underscore.
 abbrev pub underscored : List ℕ → Label
@@ -41,10 +40,10 @@ abbrev pub prefixed : List ℕ → List ℕ → Name → Name
 prefixed port transport x = underscored port ∷ underscored transport ∷ x
 
 abbrev pub owner_from : List ℕ → List ℕ → Option Name → Option Name
-owner_from port transport none = none
-owner_from port transport (some x) =
+owner_from port transport None = None
+owner_from port transport (Some x) =
     cond (is_port port && is_transport transport && leb (length (wire (prefixed port transport x))) max_name_octets)
-    (some (prefixed port transport x)) none
+    (Some (prefixed port transport x)) None
 
 -- The owner; none if host, port or transport breaks its rule, or the name grows over 255 octets.
 unfoldable pub service_owner : Service → Option Name

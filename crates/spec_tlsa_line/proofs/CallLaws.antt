@@ -1,20 +1,18 @@
 -- When the two calls on TLSA lines refuse, what they write, and the two one after the other. The rows are those of CAA lines, shown once for both.
+use Rattle.std.specs.Prelude.{Option, None, Some}
 use Prim.Native.Nat.{ℕ, ◌≤◌, ◌<◌}
 use native.Mathlib.Omega.{arith}
 use mathlib.Core.Path.{◌≡◌, refl, ap}
-use mathlib.Core.Logic.{◌↔◌, inl, ⊎_elim}
+use mathlib.Core.Logic.{inl, ⊎_elim}
 use mathlib.Core.Bool.{Bool, true, false}
-use mathlib.Core.List.{List, [], ◌∷◌, ◌++◌}
-use mathlib.Core.Option.{Option, none, some}
+use mathlib.Core.List.{List, [], ◌∷◌}
 use lib.Dec.{leb, leb-zero}
-use lib.ListN.{length, drop}
+use lib.ListN.{length}
 use lib.Seq.{take-append_seam}
 use borrow.Author.Tests.{leb-true, leb-false, le-leb}
 use Rattle.spec_limits.specs.Limits.{max_data_octets, max_line_octets}
 use Rattle.spec_refusal.specs.declared.Refusal.TheVariants.{BadLine, BadData}
 use Rattle.spec_octets.proofs.WholeLists.{not_empty}
-use Rattle.spec_line.specs.declared.LineAnswer.TheVariants.{Length}
-use Rattle.spec_line.specs.Calls.{Output}
 use Rattle.spec_line.proofs.CallRefusals.{outcome, refusals}
 use Rattle.spec_line.proofs.LineRefusals.{apart}
 use Rattle.spec_line.proofs.ReadBack.{at_front, placed_fits}
@@ -38,8 +36,8 @@ tlsa_read_refusals s buffer =
     same :
         (o : Option Association) →
         read_of o buffer ≡ outcome (length s) max_line_octets max_data_octets (λ a. length (wire_association a)) wire_association BadLine buffer o
-    same none = refl
-    same (some a) = refl
+    same None = refl
+    same (Some a) = refl
 
 -- data of 4 octets or more holds an association
 held : (d : List ℕ) → 4 ≤ length d → (a : Association) × Holds d a
@@ -69,8 +67,8 @@ tlsa_write_refusals d buffer =
     )
   where
     same : (o : Option Association) → written_of o buffer ≡ outcome (length d) max_data_octets max_data_octets (λ a. 0) tlsa_line BadData buffer o
-    same none = refl
-    same (some a) = rw leb-zero
+    same None = refl
+    same (Some a) = rw leb-zero
 
     few : (length d ≤ max_data_octets) × ((a : Association) → Holds d a → ⊥) → length d < 4
     few (fits, nothing) = by (leb 4 (length d)) refl

@@ -1,18 +1,18 @@
 -- Hexadecimal digits, and when a text of them is read.
-use Prim.Native.Nat.{ℕ, zero, suc, ◌+◌, ◌-◌, ◌*◌, ◌%◌, ◌≤◌, ◌<◌}
-use Prim.Native.Char.{code}
+use Rattle.std.proofs.lemmas.Option.{none-some, same_Some}
+use Rattle.std.specs.Prelude.{None, Some}
+use Prim.Native.Nat.{ℕ, ◌%◌, ◌≤◌, ◌<◌}
 use native.Mathlib.Omega.{arith}
-use mathlib.Core.Path.{◌≡◌, refl, sym, ap, ◌∙◌}
-use mathlib.Core.Logic.{◌↔◌, ◌≢◌, ◌⊎◌, inl, inr, ⊎_elim}
+use mathlib.Core.Path.{◌≡◌, refl, ap}
+use mathlib.Core.Logic.{◌↔◌, ◌≢◌, ◌⊎◌, inl, inr}
 use mathlib.Core.Bool.{Bool, true, false, cond, not, ◌&&◌, ◌||◌, and-eq-true_iff, false≢true, or-true, and-false}
 use mathlib.Core.List.{List, [], ◌∷◌, cons≢nil}
-use mathlib.Core.Option.{Option, none, some, none-ne-some, some-injective}
-use lib.Dec.{leb, ltb, eqb}
+use lib.Dec.{leb, eqb}
 use lib.ListN.{length}
-use borrow.Author.Tests.{leb-true, leb-false, le-leb, lt-leb, eqb-true, eq-eqb, not-true}
-use Rattle.spec_octets.specs.Lists.{all, select, is_empty, begins, ends, All, all_nil, all_cons, Selects}
+use borrow.Author.Tests.{leb-true, le-leb, lt-leb, eqb-true, eq-eqb, not-true}
+use Rattle.spec_octets.specs.Lists.{all, is_empty, begins, ends, All, all_nil, all_cons}
 use Rattle.spec_octets.specs.Octets.{between, is_digit, is_upper, is_blank}
-use Rattle.spec_octets.proofs.ListLaws.{true_or_false, or_eq_true, or_eq_false, not_passed, all_true, All-head, All-tail}
+use Rattle.spec_octets.proofs.ListLaws.{or_eq_true, all_true}
 use Rattle.spec_octets.proofs.SelectLaws.{selects_exactly}
 use Rattle.spec_tlsa_line.specs.Hex.{is_hex_digit, hex_value, digits_of, paired, is_hex_text, hex_octets}
 use Rattle.spec_tlsa_line.specs.Grammar.{HexDigit, PairsOf, pairs_end, pairs_more, HexField}
@@ -113,15 +113,15 @@ full : (v ds : List ℕ) → PairsOf v ds → (v ≢ []) ↔ (not (is_empty ds) 
 full v ds pairs_end = (λ n. absurd (n refl), λ e. absurd (false≢true e))
 full v ds (pairs_more h l p q is more) = (λ n. refl, λ e. cons≢nil)
 
-chosen : {A : Type 0} (t : Bool) (a b : A) → (cond t (some a) none ≡ some b) ↔ ((t ≡ true) × (a ≡ b))
-chosen true a b = (λ e. (refl, some-injective a b e), λ h. ap some h.1)
-chosen false a b = (λ e. absurd (none-ne-some b e), λ h. absurd (false≢true h.0))
+chosen : {A : Type 0} (t : Bool) (a b : A) → (cond t (Some a) None ≡ Some b) ↔ ((t ≡ true) × (a ≡ b))
+chosen true a b = (λ e. (refl, same_Some a b e), λ h. ap Some h.1)
+chosen false a b = (λ e. absurd (none-some b e), λ h. absurd (false≢true h.0))
 
 not_blank_exactly : (x : ℕ) → (not (is_blank x) ≡ true) ↔ (is_blank x ≡ false)
 not_blank_exactly x = (λ e. not-true (is_blank x) e, λ e. rw e)
 
 -- where no white space comes first, a text is read exactly as its octets
-pub hex_field : (s v : List ℕ) → begins is_blank s ≡ false → (hex_octets s ≡ some v) ↔ HexField v s
+pub hex_field : (s v : List ℕ) → begins is_blank s ≡ false → (hex_octets s ≡ Some v) ↔ HexField v s
 unfolding hex_octets is_hex_text
 hex_field s v first = (λ e. read ((chosen (is_hex_text s) (paired (digits_of s)) v).0 e), stand)
   where
@@ -151,7 +151,7 @@ hex_field s v first = (λ e. read ((chosen (is_hex_text s) (paired (digits_of s)
           (digits_of s, (selects_exactly _ not_blank_exactly s (digits_of s)).0 refl, pairs),
         )
 
-    stand : HexField v s → hex_octets s ≡ some v
+    stand : HexField v s → hex_octets s ≡ Some v
     stand (filled, clean, last, (ds, selects, pairs)) =
         let is : digits_of s ≡ ds = (selects_exactly _ not_blank_exactly s ds).1 selects in
         let r = pairs_stand pairs in

@@ -1,9 +1,9 @@
 -- A TLSA line is read exactly when the productions match it, as the one association that it stands for.
+use Rattle.std.proofs.lemmas.Option.{none-some, same_Some}
+use Rattle.std.specs.Prelude.{Option, None, Some}
 use Prim.Native.Nat.{ℕ}
 use mathlib.Core.Path.{◌≡◌, refl, ap}
-use mathlib.Core.Logic.{◌↔◌}
 use mathlib.Core.List.{List, ◌++◌}
-use mathlib.Core.Option.{Option, none, some, none-ne-some, some-injective}
 use Rattle.spec_octets.specs.Decimal.{decimal_octet}
 use Rattle.spec_line.specs.Read.{field}
 use Rattle.spec_line.specs.Grammar.{some_blanks, OctetField}
@@ -17,21 +17,21 @@ use Rattle.spec_tlsa_line.specs.Theorems.{TlsaLineIsTheGrammar}
 use Rattle.spec_tlsa_line.proofs.HexLaws.{hex_field}
 
 pub record Fields (u s m : Option ℕ) (d : Option (List ℕ)) (a : Association) : Type 0 where
-  pub usage : u ≡ some a.usage
-  pub selector : s ≡ some a.selector
-  pub matching : m ≡ some a.matching
-  pub octets : d ≡ some a.octets
+  pub usage : u ≡ Some a.usage
+  pub selector : s ≡ Some a.selector
+  pub matching : m ≡ Some a.matching
+  pub octets : d ≡ Some a.octets
 
-association_some : (u s m : Option ℕ) (d : Option (List ℕ)) (a : Association) → association_of u s m d ≡ some a → Fields u s m d a
-association_some none s m d a e = absurd (none-ne-some a e)
-association_some (some u) none m d a e = absurd (none-ne-some a e)
-association_some (some u) (some s) none d a e = absurd (none-ne-some a e)
-association_some (some u) (some s) (some m) none a e = absurd (none-ne-some a e)
-association_some (some u) (some s) (some m) (some d) a e = let same = some-injective _ a e in record {
-  usage = ap (λ (b : Association). some b.usage) same;
-  selector = ap (λ (b : Association). some b.selector) same;
-  matching = ap (λ (b : Association). some b.matching) same;
-  octets = ap (λ (b : Association). some b.octets) same;
+association_some : (u s m : Option ℕ) (d : Option (List ℕ)) (a : Association) → association_of u s m d ≡ Some a → Fields u s m d a
+association_some None s m d a e = absurd (none-some a e)
+association_some (Some u) None m d a e = absurd (none-some a e)
+association_some (Some u) (Some s) None d a e = absurd (none-some a e)
+association_some (Some u) (Some s) (Some m) None a e = absurd (none-some a e)
+association_some (Some u) (Some s) (Some m) (Some d) a e = let same = same_Some _ a e in record {
+  usage = ap (λ (b : Association). Some b.usage) same;
+  selector = ap (λ (b : Association). Some b.selector) same;
+  matching = ap (λ (b : Association). Some b.matching) same;
+  octets = ap (λ (b : Association). Some b.octets) same;
 }
 
 pub tlsa_line_is_the_grammar : TlsaLineIsTheGrammar
@@ -42,7 +42,7 @@ tlsa_line_is_the_grammar s a = (
       stand f₁ b₁ f₂ b₂ f₃ b₃ s₁ s₂ s₃ (cc) (cc) (cc) usage blanks₁ selector blanks₂ matching blanks₃ hex,
 )
   where
-    read : read_tlsa_line s ≡ some a → TlsaLineOf a s
+    read : read_tlsa_line s ≡ Some a → TlsaLineOf a s
     read h =
         let (f₁, s₁, h₁, k₁) = fields_some (field s) _ a h in
         let (f₂, s₂, h₂, k₂) = fields_some (field s₁) _ a k₁ in
@@ -61,7 +61,7 @@ tlsa_line_is_the_grammar s a = (
     stand :
         (f₁ b₁ f₂ b₂ f₃ b₃ s₁ s₂ s₃ : List ℕ) → s ≡ f₁ ++ (b₁ ++ s₁) → s₁ ≡ f₂ ++ (b₂ ++ s₂) → s₂ ≡ f₃ ++ (b₃ ++ s₃) → OctetField a.usage f₁ →
         some_blanks b₁ → OctetField a.selector f₂ → some_blanks b₂ → OctetField a.matching f₃ → some_blanks b₃ → HexField a.octets s₃ →
-        read_tlsa_line s ≡ some a
+        read_tlsa_line s ≡ Some a
     stand f₁ b₁ f₂ b₂ f₃ b₃ s₁ s₂ s₃ e₁ e₂ e₃ usage blanks₁ selector blanks₂ matching blanks₃ hex =
         rw (
           (field_apart s f₁ s₁).1 (b₁, e₁, flags_blankless usage, blanks₁, rw e₂ (unblank f₂ selector.0 (flags_blankless selector) (b₂ ++ s₂))),

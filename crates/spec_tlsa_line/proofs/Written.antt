@@ -1,15 +1,15 @@
 -- How a TLSA line is written; the grammar matches it, and reading gives the data back. It is never over the limit of lines.
-use Prim.Native.Nat.{ℕ, ◌+◌, ◌*◌, ◌/◌, ◌%◌, ◌≤◌, ◌<◌}
+use Prim.Native.Nat.{ℕ, ◌*◌, ◌/◌, ◌%◌, ◌<◌}
 use native.Mathlib.Omega.{arith}
-use mathlib.Core.Path.{◌≡◌, refl, sym, ap, subst, ◌∙◌}
-use mathlib.Core.Logic.{◌≢◌, ◌⊎◌, inl, inr}
-use mathlib.Core.Bool.{Bool, true, false, cond, not}
-use mathlib.Core.List.{List, [], ◌∷◌, ◌++◌, map, append_assoc, cons≢nil}
+use mathlib.Core.Path.{◌≡◌, refl}
+use mathlib.Core.Logic.{◌≢◌, inl, inr}
+use mathlib.Core.Bool.{Bool, true, false}
+use mathlib.Core.List.{List, [], ◌∷◌, ◌++◌, map, append_assoc}
 use lib.Dec.{ltb}
 use lib.ListN.{length, length-append}
 use borrow.Author.Tests.{ltb-true, ltb-false}
 use Rattle.spec_limits.specs.Limits.{max_data_octets, max_line_octets}
-use Rattle.spec_octets.specs.Lists.{begins, ends, flatten, All, all_nil, all_cons, Selects, selects_nil, selects_take}
+use Rattle.spec_octets.specs.Lists.{begins, ends, flatten, all_nil, all_cons, Selects, selects_nil, selects_take}
 use Rattle.spec_octets.specs.Octets.{Octets, is_digit, is_upper, is_blank}
 use Rattle.spec_octets.specs.WrittenDecimal.{decimal}
 use Rattle.spec_octets.proofs.ListLaws.{All-head}

@@ -1,7 +1,6 @@
 -- Octets in hexadecimal, as in the last field of a TLSA line (RFC 6698 section 2.2).
-use Rattle.std.specs.Prelude.{ℕ, ◌+◌, ◌-◌, ◌*◌, ◌/◌, ◌%◌, Bool, cond, not, ◌&&◌, ◌||◌, List, [], ◌∷◌, map, ltb, eqb, length}
+use Rattle.std.specs.Prelude.{ℕ, ◌+◌, ◌-◌, ◌*◌, ◌/◌, ◌%◌, Bool, cond, not, ◌&&◌, ◌||◌, List, [], ◌∷◌, map, ltb, eqb, length, Option, None, Some}
 use Prim.Native.Char.{code}
-use Rattle.std.proofs.Math.Option.{Option, none, some}
 use Rattle.spec_octets.specs.Lists.{all, select, is_empty, ends, flatten}
 use Rattle.spec_octets.specs.Octets.{between, is_digit, is_upper, is_blank}
 
@@ -38,4 +37,4 @@ is_hex_text s =
     all is_hex_digit (digits_of s) && eqb (length (digits_of s) % 2) 0 && not (is_empty (digits_of s)) && not (ends is_blank s)
 
 unfoldable pub hex_octets : List ℕ → Option (List ℕ)
-hex_octets s = cond (is_hex_text s) (some (paired (digits_of s))) none
+hex_octets s = cond (is_hex_text s) (Some (paired (digits_of s))) None

@@ -1,7 +1,6 @@
 -- TLSA data as a line of text, written and read: three numbers and hexadecimal digits (RFC 6698 section 2.2). Number fields and white space are
 -- those of a CAA line.
-use Rattle.std.specs.Prelude.{ℕ, List, [], ◌∷◌, ◌++◌}
-use Rattle.std.proofs.Math.Option.{Option, none, some}
+use Rattle.std.specs.Prelude.{ℕ, List, [], ◌∷◌, ◌++◌, Option, None, Some}
 use Rattle.spec_octets.specs.Decimal.{decimal_octet}
 use Rattle.spec_octets.specs.WrittenDecimal.{decimal}
 use Rattle.spec_octets.specs.Reader.{if_read}
@@ -17,15 +16,15 @@ tlsa_line a =
     ++ hex_text a.octets
 
 abbrev pub association_of : Option ℕ → Option ℕ → Option ℕ → Option (List ℕ) → Option Association
-association_of none s m d = none
-association_of (some u) none m d = none
-association_of (some u) (some s) none d = none
-association_of (some u) (some s) (some m) none = none
-association_of (some u) (some s) (some m) (some d) = some (record { usage = u; selector = s; matching = m; octets = d })
+association_of None s m d = None
+association_of (Some u) None m d = None
+association_of (Some u) (Some s) None d = None
+association_of (Some u) (Some s) (Some m) None = None
+association_of (Some u) (Some s) (Some m) (Some d) = Some (record { usage = u; selector = s; matching = m; octets = d })
 
 -- Each number field ends at white space, which is skipped. The digits are what is left.
 unfoldable pub read_tlsa_line : List ℕ → Option Association
 read_tlsa_line s =
-    if_read none (field s) (λ u s₁.
-    if_read none (field s₁) (λ e s₂.
-    if_read none (field s₂) (λ m s₃. association_of (decimal_octet u) (decimal_octet e) (decimal_octet m) (hex_octets s₃))))
+    if_read None (field s) (λ u s₁.
+    if_read None (field s₁) (λ e s₂.
+    if_read None (field s₂) (λ m s₃. association_of (decimal_octet u) (decimal_octet e) (decimal_octet m) (hex_octets s₃))))

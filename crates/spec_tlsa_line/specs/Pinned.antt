@@ -1,11 +1,11 @@
 -- A round-trip theorem doesn't fix a format: change reader and writer together, and it still holds. So the format is also spelled out by
 -- equations. Each is proved under its name in proofs/.
-use Rattle.std.specs.Prelude.{ℕ, ◌≡◌, List, [], ◌∷◌, ◌++◌, map}
+use Rattle.std.specs.Prelude.{◌≡◌, [], ◌∷◌, ◌++◌, map}
 use Rattle.spec_octets.specs.Lists.{flatten}
 use Rattle.spec_octets.specs.Octets.{text}
 use Rattle.spec_octets.specs.WrittenDecimal.{decimal}
 use Rattle.spec_tlsa.specs.Association.{Association}
-use Rattle.spec_tlsa_line.specs.Hex.{hex_digit, hex_octet, hex_text, is_hex_digit, hex_value}
+use Rattle.spec_tlsa_line.specs.Hex.{hex_digit, hex_octet, hex_text, hex_value}
 use Rattle.spec_tlsa_line.specs.Lines.{tlsa_line}
 
 -- Three numbers without leading zeros and the digits, with one space between two fields.

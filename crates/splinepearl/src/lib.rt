@@ -8,7 +8,8 @@ ghost use Rattle.spec_answers.specs.Door.{caa_judge_for, caa_permitted_issuers_f
 ghost use Rattle.spec_answers.specs.LineAnswers.{packed_line};
 
 use judge_word::pack_judgement;
-use spec_line::LineAnswer;
+use spec_applicant::Applicant;
+use spec_refusal::Refusal;
 use spec_rule::PermittedIssuers;
 
 // May this issuer issue, for this account and by this method? 0: permitted. 20, 21 and 22: name number in a, record number in b, labels taken off in c. A refusal: its place (spec_refusal) in a.
@@ -21,7 +22,8 @@ pub fn caa_judge_for(
 ) -> u64
     ensures { result ≡ caa_judge_for request.now issuer.now (record { account = account.now; method = method.now }) book.now }
 {
-    pack_judgement(judge_call::judge(request, issuer, account, method, book))
+    let applicant = Applicant { account, method };
+    pack_judgement(judge_call::judge(request, issuer, applicant, book))
 }
 
 // Who may issue, for this account and by this method? 30: anyone. 31: a list at the start of the buffer, with its octets in a and its count in b. A refusal: place in a.
@@ -36,7 +38,8 @@ pub fn caa_permitted_issuers_for(
     ensures answer { result ≡ (caa_permitted_issuers_for request.now (record { account = account.now; method = method.now }) book.now buffer.old).word }
     ensures octets { buffer.new ≡ (caa_permitted_issuers_for request.now (record { account = account.now; method = method.now }) book.now buffer.old).buffer }
 {
-    match list_call::permitted_issuers(request, account, method, book, buffer) {
+    let applicant = Applicant { account, method };
+    match list_call::permitted_issuers(request, applicant, book, buffer) {
         PermittedIssuers::Anyone => spec_packed::pack(30, 0, 0, 0),
         PermittedIssuers::Listed { count, octets } => spec_packed::pack(
             31,
@@ -50,12 +53,12 @@ pub fn caa_permitted_issuers_for(
 
 // 0 with the length of the output in a, or a refusal with its place in a.
 #[tactic(auto, unfolding(spec_answers::specs::LineAnswers::packed_line, spec_answers::specs::LineAnswers::line_code, spec_packed::specs::Packed::packed_refusal))]
-fn pack_made(m: LineAnswer) -> u64
+fn pack_made(m: Result<usize, Refusal>) -> u64
     ensures { result ≡ packed_line m }
 {
     match m {
-        LineAnswer::Length(n) => spec_packed::pack(0, n as u64, 0, 0),
-        LineAnswer::Refused(r) => spec_packed::pack_refusal(r),
+        Ok(n) => spec_packed::pack(0, n as u64, 0, 0),
+        Err(r) => spec_packed::pack_refusal(r),
     }
 }
 

@@ -13,10 +13,6 @@ ghost use Rattle.read_value.specs.Places.{value_at};
 ghost use Rattle.test_readers.specs.Packs.{packed_bool, packed_end, packed_requested, packed_property, packed_tag, packed_record, packed_value};
 ghost use Rattle.test_readers.specs.Answers.{reader_answer};
 
-use read_name::NameEnd;
-use read_property::PropertyRead;
-use read_record::RecordRead;
-use read_request::RequestedRead;
 use read_value::ValueRead;
 use spec_record::PropertyTag;
 
@@ -34,7 +30,7 @@ fn same(s: &[u8], t: &[u8]) -> u64
 fn name_end(s: &[u8], at: usize) -> u64
     ensures { result ≡ packed_end (name_end s.now at) }
 {
-    let NameEnd::At(e) = read_name::name_end(s, at) else {
+    let Some(e) = read_name::name_end(s, at) else {
         return 0;
     };
     spec_packed::pack(1, e as u64, 0, 0)
@@ -44,7 +40,7 @@ fn name_end(s: &[u8], at: usize) -> u64
 fn requested_name(s: &[u8], at: usize) -> u64
     ensures { result ≡ packed_requested (requested_at s.now at) }
 {
-    let RequestedRead::Good(n) = read_request::requested_name(s, at) else {
+    let Some(n) = read_request::requested_name(s, at) else {
         return 0;
     };
     if n.wildcard {
@@ -57,7 +53,7 @@ fn requested_name(s: &[u8], at: usize) -> u64
 fn property(d: &[u8]) -> u64
     ensures { result ≡ packed_property (property_at d.now) }
 {
-    let PropertyRead::Good(p) = read_property::read_property(d) else {
+    let Some(p) = read_property::read_property(d) else {
         return 0;
     };
     spec_packed::pack(1, p.value as u64, p.flags as u64, 0)
@@ -79,7 +75,7 @@ fn tag(t: &[u8]) -> u64
 fn record(s: &[u8], at: usize) -> u64
     ensures { result ≡ packed_record (record_at s.now at) }
 {
-    let RecordRead::Good(r) = read_record::read_record(s, at) else {
+    let Some(r) = read_record::read_record(s, at) else {
         return 0;
     };
     spec_packed::pack(1, r.next as u64, r.owner_end as u64, r.rdata as u64)

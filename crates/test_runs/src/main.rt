@@ -8,7 +8,7 @@
 // Proved: the program is memory-safe and terminates, and `answer` makes the call with the given number on its inputs in order.
 #![tactic(auto)]
 
-ghost use Rattle.std.specs.Prelude.{◌<◌, ◌≡◌};
+ghost use Rattle.std.specs.Prelude.{◌≡◌};
 ghost use Rattle.io.specs.Counts.{IsPrefixLen};
 ghost use Rattle.test_runs.specs.Answers.{answer_of, buffer_after};
 
@@ -29,22 +29,6 @@ const ACCOUNT_ROOM: usize = 300;
 // How many octets of a buffer are printed.
 const SHOWN: usize = 64;
 
-// Stands for a number that could not be read, because the file ends: more than three octets can hold, and than any buffer has.
-const CUT_OFF: usize = 16777216;
-
-// The result of reading a part: whether it is complete, and how many octets of it are at the start of the buffer.
-#[derive(Clone, Copy)]
-struct Part {
-    pub whole: bool,
-    pub length: usize,
-}
-
-fn wide(b: u8) -> usize
-    ensures { result < 256 }
-{
-    b as usize
-}
-
 // Reads until the buffer is full, the file ends or a read fails, and returns how many octets it read.
 fn read_full(file: &mut File, out: &mut [u8]) -> usize
     ensures { IsPrefixLen result out.new }
@@ -62,51 +46,39 @@ fn read_full(file: &mut File, out: &mut [u8]) -> usize
     n
 }
 
-fn read_number(file: &mut File) -> usize {
+// None if the file ends within the number.
+fn read_number(file: &mut File) -> Option<usize> {
     let mut n = [0u8; 3];
     if read_full(file, &mut n) < 3 {
-        return CUT_OFF;
+        return None;
     }
-    wide(n[0]) * 65536 + wide(n[1]) * 256 + wide(n[2])
+    Some(u32::from_be_bytes([0, n[0], n[1], n[2]]) as usize)
 }
 
-fn read_part(file: &mut File, out: &mut [u8]) -> Part
-    ensures { IsPrefixLen result.length out.new }
-{
-    let n = read_number(file);
-    if n <= out.len() {
-        if read_full(file, &mut out[..n]) == n {
-            return Part {
-                whole: true,
-                length: n,
-            };
-        }
+// Reads a part into the buffer, and returns the front of the buffer that holds it. None if the file ends within the part, or the part is longer than the
+// buffer.
+fn read_part<'a>(file: &mut File, out: &'a mut [u8]) -> Option<&'a [u8]> {
+    let n = read_number(file)?;
+    let part = out.get_mut(..n)?;
+    if read_full(file, part) < n {
+        return None;
     }
-    Part {
-        whole: false,
-        length: 0,
-    }
+    Some(part)
 }
 
 // A checksum that depends on the order of the octets. It covers the octets of a buffer that are not printed.
 fn checksum(s: &[u8]) -> u64 {
     let mut sum: u64 = 0;
-    let mut i: usize = 0;
-    while i < s.len() {
-        sum = (sum * 31 + wide(s[i]) as u64) % 4294967296;
-        i += 1;
+    for b in s {
+        sum = (sum * 31 + u64::from(*b)) % 4294967296;
     }
     sum
 }
 
 // Prints a printable octet except `\` as itself, and others as `\` and two hex digits.
 fn print_octet(rt: &impl Print, b: u8) -> io::Result<()> {
-    if 32 <= b {
-        if b <= 126 {
-            if b != b'\\' {
-                return rt.write_all(&[b]);
-            }
-        }
+    if 32 <= b && b <= 126 && b != b'\\' {
+        return rt.write_all(&[b]);
     }
     print!(rt; "\\{b:02x}")
 }
@@ -114,14 +86,11 @@ fn print_octet(rt: &impl Print, b: u8) -> io::Result<()> {
 // Prints the first octets of the buffer, and the checksum of all of it.
 fn print_buffer(rt: &impl Print, s: &[u8]) -> io::Result<()> {
     print!(rt; " [")?;
-    let mut i: usize = 0;
-    while i < s.len() {
-        if i == SHOWN {
-            print!(rt; "..")?;
-            break;
-        }
-        print_octet(rt, s[i])?;
-        i += 1;
+    for b in s.iter().take(SHOWN) {
+        print_octet(rt, *b)?;
+    }
+    if SHOWN < s.len() {
+        print!(rt; "..")?;
     }
     let sum = checksum(s);
     print!(rt; "] {sum:08x}")
@@ -162,162 +131,98 @@ fn answer(
     splinepearl::caa_read_line(request, buffer)
 }
 
-// Runs a case and prints the rest of its line.
-fn run(
-    rt: &impl Print,
+// The inputs of a call, and how many octets its buffer has.
+#[derive(Clone, Copy)]
+struct Case<'a> {
     call: usize,
-    request: &[u8],
-    issuer: &[u8],
-    account: &[u8],
-    method: &[u8],
-    book: &[u8],
-    buffer: &mut [u8],
-) -> io::Result<()> {
-    let packed = answer(call, request, issuer, account, method, book, buffer);
-    print_answer(rt, packed)?;
-    if call != 1 {
-        print_buffer(rt, buffer)?;
-    }
-    rt.write_all(b"\n")
+    request: &'a [u8],
+    issuer: &'a [u8],
+    account: &'a [u8],
+    method: &'a [u8],
+    book: &'a [u8],
+    room: usize,
 }
 
-// These functions read a case, each one part of it, and return whether it is complete.
-fn run_with_room(
-    rt: &impl Print,
+// Reads a case behind its title, into these buffers. None if it is not complete.
+fn read_case<'a>(
     file: &mut File,
-    call: usize,
-    request: &[u8],
-    issuer: &[u8],
-    account: &[u8],
-    method: &[u8],
-    book: &[u8],
-) -> io::Result<bool> {
-    let room = read_number(file);
-    if ROOM < room {
-        return Ok(false);
+    request: &'a mut [u8],
+    issuer: &'a mut [u8],
+    account: &'a mut [u8],
+    method: &'a mut [u8],
+    book: &'a mut [u8],
+) -> Option<Case<'a>> {
+    let call = read_number(file)?;
+    if call == 0 || 4 < call {
+        return None;
     }
-    let mut buffer = [b'_'; ROOM];
-    run(
-        rt,
+    let request = read_part(file, request)?;
+    let issuer = read_part(file, issuer)?;
+    let account = read_part(file, account)?;
+    let method = read_part(file, method)?;
+    let book = read_part(file, book)?;
+    let room = read_number(file)?;
+    Some(Case {
         call,
         request,
         issuer,
         account,
         method,
         book,
-        &mut buffer[..room],
-    )?;
-    Ok(true)
+        room,
+    })
 }
 
-fn run_with_book(
-    rt: &impl Print,
-    file: &mut File,
-    call: usize,
-    request: &[u8],
-    issuer: &[u8],
-    account: &[u8],
-    method: &[u8],
-) -> io::Result<bool> {
-    let mut book = [0u8; ROOM];
-    let read = read_part(file, &mut book);
-    if !read.whole {
-        return Ok(false);
-    }
-    let n = read.length;
-    run_with_room(rt, file, call, request, issuer, account, method, &book[..n])
-}
-
-fn run_with_method(
-    rt: &impl Print,
-    file: &mut File,
-    call: usize,
-    request: &[u8],
-    issuer: &[u8],
-    account: &[u8],
-) -> io::Result<bool> {
-    let mut method = [0u8; ACCOUNT_ROOM];
-    let read = read_part(file, &mut method);
-    if !read.whole {
-        return Ok(false);
-    }
-    let n = read.length;
-    run_with_book(rt, file, call, request, issuer, account, &method[..n])
-}
-
-fn run_with_account(
-    rt: &impl Print,
-    file: &mut File,
-    call: usize,
-    request: &[u8],
-    issuer: &[u8],
-) -> io::Result<bool> {
-    let mut account = [0u8; ACCOUNT_ROOM];
-    let read = read_part(file, &mut account);
-    if !read.whole {
-        return Ok(false);
-    }
-    let n = read.length;
-    run_with_method(rt, file, call, request, issuer, &account[..n])
-}
-
-fn run_with_issuer(
-    rt: &impl Print,
-    file: &mut File,
-    call: usize,
-    request: &[u8],
-) -> io::Result<bool> {
-    let mut issuer = [0u8; ISSUER_ROOM];
-    let read = read_part(file, &mut issuer);
-    if !read.whole {
-        return Ok(false);
-    }
-    let n = read.length;
-    run_with_account(rt, file, call, request, &issuer[..n])
-}
-
-fn run_call(rt: &impl Print, file: &mut File) -> io::Result<bool> {
-    let call = read_number(file);
-    if call == 0 {
-        return Ok(false);
-    }
-    if 4 < call {
-        return Ok(false);
-    }
-    let mut request = [0u8; ROOM];
-    let read = read_part(file, &mut request);
-    if !read.whole {
-        return Ok(false);
-    }
-    let n = read.length;
-    run_with_issuer(rt, file, call, &request[..n])
-}
-
-// Reads the next case and runs it. Its line begins with its title.
+// Reads the next case and runs it, and returns whether the case is complete. Its line begins with its title.
 fn run_next(rt: &impl Print, file: &mut File) -> io::Result<bool> {
     let mut title = [0u8; TITLE_ROOM];
-    let read = read_part(file, &mut title);
-    if !read.whole {
+    let Some(title) = read_part(file, &mut title) else {
         return Ok(false);
+    };
+    rt.write_all(title)?;
+    let mut request = [0u8; ROOM];
+    let mut issuer = [0u8; ISSUER_ROOM];
+    let mut account = [0u8; ACCOUNT_ROOM];
+    let mut method = [0u8; ACCOUNT_ROOM];
+    let mut book = [0u8; ROOM];
+    let Some(c) = read_case(
+        file,
+        &mut request,
+        &mut issuer,
+        &mut account,
+        &mut method,
+        &mut book,
+    ) else {
+        return Ok(false);
+    };
+    let mut buffer = [b'_'; ROOM];
+    let Some(buffer) = buffer.get_mut(..c.room) else {
+        return Ok(false);
+    };
+    let packed = answer(
+        c.call, c.request, c.issuer, c.account, c.method, c.book, buffer,
+    );
+    print_answer(rt, packed)?;
+    if c.call != 1 {
+        print_buffer(rt, buffer)?;
     }
-    let n = read.length;
-    rt.write_all(&title[..n])?;
-    run_call(rt, file)
+    rt.write_all(b"\n")?;
+    Ok(true)
 }
 
 // Runs all cases of the file, and returns whether it is well-formed.
 fn run_all(rt: &impl Print, file: &mut File) -> io::Result<bool> {
-    let cases = read_number(file);
-    let mut k: usize = 0;
-    while k < cases {
+    let Some(cases) = read_number(file) else {
+        return Ok(false);
+    };
+    for _ in 0..cases {
         if !run_next(rt, file)? {
-            break;
+            return Ok(false);
         }
-        k += 1;
     }
     // Nothing may follow the last case.
     let mut after = [0u8; 1];
-    Ok(k == cases && read_full(file, &mut after) == 0)
+    Ok(read_full(file, &mut after) == 0)
 }
 
 fn main(rt: HostRuntime) -> io::Result<()> {

@@ -12,7 +12,7 @@ use Rattle.spec_octets.specs.Buffer.{Put}
 pub put_nothing : (d : List ℕ) → Put [] d d 0
 put_nothing d = record { count = refl; octets = refl }
 
--- one octet, two and three at the front
+-- one octet and two at the front
 module _ (a : ℕ) where
   pub put_one : (d : List ℕ) → 1 ≤ length d → Put (a ∷ []) d (set d 0 a) 1
   put_one [] h = absurd (omega arith)
@@ -23,12 +23,6 @@ module _ (a : ℕ) where
     put_two [] h = absurd (omega arith)
     put_two (x ∷ []) h = absurd (omega arith)
     put_two (x ∷ y ∷ d) h = record { count = refl; octets = refl }
-
-    pub put_three : (c : ℕ) (d : List ℕ) → 3 ≤ length d → Put (a ∷ b ∷ c ∷ []) d (set (set (set d 0 a) 1 b) 2 c) 3
-    put_three c [] h = absurd (omega arith)
-    put_three c (x ∷ []) h = absurd (omega arith)
-    put_three c (x ∷ y ∷ []) h = absurd (omega arith)
-    put_three c (x ∷ y ∷ z ∷ d) h = record { count = refl; octets = refl }
 
 -- how long the rest is that is lent
 pub rest_room : (x : List ℕ) (w k : ℕ) → w + k ≤ length x → k ≤ length (take (length x - w) (drop w x))

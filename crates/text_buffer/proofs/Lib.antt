@@ -1,3 +1,3 @@
 pub mod LentRest
 pub mod Filled
-pub mod PutLoops
+mod Lowered

@@ -6,6 +6,7 @@ ghost use Rattle.spec_octets.specs.Octets.{lowered};
 ghost use Rattle.spec_octets.specs.Buffer.{filled, filled_length};
 
 // Writes the octets unchanged.
+#[tactic(auto, unfolding(spec_octets::specs::Buffer::filled, spec_octets::specs::Buffer::filled_length))]
 pub fn put_octets(s: &[u8], out: &mut [u8]) -> usize
     ensures answer { result ≡ filled_length s.now out.old }
     ensures octets { out.new ≡ filled s.now out.old }
@@ -13,26 +14,17 @@ pub fn put_octets(s: &[u8], out: &mut [u8]) -> usize
     if out.len() < s.len() {
         return 0;
     }
-    let mut i: usize = 0;
-    while i < s.len() {
-        out[i] = s[i];
-        i += 1;
-    }
-    i
+    out[..s.len()].copy_from_slice(s);
+    s.len()
 }
 
 // Writes the octets in lower case.
+#[tactic(auto, unfolding(spec_octets::specs::Buffer::filled, spec_octets::specs::Buffer::filled_length))]
 pub fn put_lowered(text: &[u8], out: &mut [u8]) -> usize
     ensures answer { result ≡ filled_length (lowered text.now) out.old }
     ensures octets { out.new ≡ filled (lowered text.now) out.old }
 {
-    if out.len() < text.len() {
-        return 0;
-    }
-    let mut i: usize = 0;
-    while i < text.len() {
-        out[i] = text_ascii::to_lower(text[i]);
-        i += 1;
-    }
-    i
+    let count = put_octets(text, out);
+    out[..count].make_ascii_lowercase();
+    count
 }

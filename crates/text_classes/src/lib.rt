@@ -16,16 +16,11 @@ pub enum Class {
 }
 
 // The octets of a parameter's value (RFC 8659 section 4.2): 33 to 126 except the semicolon.
+#[tactic(auto, unfolding(spec_octets::specs::Octets::is_parameter_octet))]
 fn is_parameter_octet(b: u8) -> bool
     ensures { result ≡ is_parameter_octet b }
 {
-    if b < 33 {
-        return false;
-    }
-    if 126 < b {
-        return false;
-    }
-    b != b';'
+    33 <= b && b <= 126 && b != b';'
 }
 
 // Whether an octet is in a class.
@@ -44,12 +39,10 @@ fn is_in(b: u8, class: Class) -> bool
 pub fn all_of(s: &[u8], class: Class) -> bool
     ensures { result ≡ all (in_class class) s.now }
 {
-    let mut i: usize = 0;
-    while i < s.len() {
-        if !is_in(s[i], class) {
+    for b in s {
+        if !is_in(*b, class) {
             return false;
         }
-        i += 1;
     }
     true
 }
@@ -59,11 +52,10 @@ pub fn trim_start(s: &[u8]) -> &[u8]
     ensures { result.now ≡ trim_start s.now }
 {
     let mut t = s;
-    while 0 < t.len() {
-        if !text_ascii::is_blank(t[0]) {
-            return t;
-        }
-        t = &t[1..];
+    while let [first, rest @ ..] = t
+        && text_ascii::is_blank(*first)
+    {
+        t = rest;
     }
     t
 }
@@ -73,12 +65,10 @@ pub fn trim_end(s: &[u8]) -> &[u8]
     ensures { result.now ≡ trim_end s.now }
 {
     let mut t = s;
-    while 0 < t.len() {
-        let last = t.len() - 1;
-        if !text_ascii::is_blank(t[last]) {
-            return t;
-        }
-        t = &t[..last];
+    while let [front @ .., last] = t
+        && text_ascii::is_blank(*last)
+    {
+        t = front;
     }
     t
 }

@@ -1,1 +1,2 @@
-pub mod TextWalk
+mod TextWalk
+mod PairWalk

@@ -19,7 +19,7 @@ pub fn same_ignoring_case(a: &[u8], b: &[u8]) -> bool
     if n < BLOCK {
         return same_short(a, b);
     }
-    let last = before_last(n);
+    let last = n - 2;
     let p = a[last];
     let q = b[last];
     // `same_blocks` is called in two places so that the compiler doesn't inline it here. This function stays short enough to be
@@ -33,49 +33,32 @@ pub fn same_ignoring_case(a: &[u8], b: &[u8]) -> bool
     same_blocks(a, b)
 }
 
-// The index of the octet before the last, or of the only one. In a name in wire form, which ends with a zero octet, the last
-// letter is there.
-fn before_last(n: usize) -> usize
-    requires { 0 < n }
-    ensures { result < n }
-{
-    if n < 2 {
-        return 0;
-    }
-    n - 2
-}
-
-// Compares texts of equal length octet by octet: the octet before the last, then all from the first on.
+// Compares texts of equal length octet by octet: the octet before the last, or the only one, then all from the first on. In a name in
+// wire form, which ends with a zero octet, the octet before the last is the last letter.
 fn same_short(a: &[u8], b: &[u8]) -> bool
     requires { length a.now ≡ length b.now }
     ensures { result ≡ equal_ignoring_case a.now b.now }
 {
-    let n = a.len();
-    if n == 0 {
+    if a.is_empty() {
         return true;
     }
-    let mut at: usize = before_last(n);
-    let mut next: usize = 0;
-    loop {
-        if !same_octet(a[at], b[at]) {
+    let at = a.len().saturating_sub(2);
+    if !same_octet(a[at], b[at]) {
+        return false;
+    }
+    for (x, y) in a.iter().zip(b) {
+        if !same_octet(*x, *y) {
             return false;
         }
-        if next == n {
-            return true;
-        }
-        at = next;
-        next += 1;
     }
+    true
 }
 
+// Whether two octets are the same, letter case ignored. Most equal octets are of one case.
 fn same_octet(x: u8, y: u8) -> bool
     ensures { result ≡ eqb (lower x) (lower y) }
 {
-    // Most equal octets are of one case.
-    if x == y {
-        return true;
-    }
-    text_ascii::to_lower(x) == text_ascii::to_lower(y)
+    x == y || text_ascii::to_lower(x) == text_ascii::to_lower(y)
 }
 
 // Compares texts of equal length, at least a block long: the last block first, then block by block from the first octet on, until
@@ -89,13 +72,11 @@ fn same_blocks(a: &[u8], b: &[u8]) -> bool
     if !same_at_once(&a[tail..n], &b[tail..n]) {
         return false;
     }
-    let mut from: usize = 0;
-    while from < tail {
+    for from in (0..tail).step_by(BLOCK) {
         let to = from + BLOCK;
         if !same_at_once(&a[from..to], &b[from..to]) {
             return false;
         }
-        from += BLOCK;
     }
     true
 }
@@ -105,21 +86,9 @@ fn same_at_once(a: &[u8], b: &[u8]) -> bool
     requires { length a.now ≡ length b.now }
     ensures { result ≡ equal_ignoring_case a.now b.now }
 {
-    let mut same: bool = true;
-    let mut i: usize = 0;
-    while i < a.len() {
-        same = still_same(same, text_ascii::to_lower(a[i]), text_ascii::to_lower(b[i]));
-        i += 1;
+    let mut same = true;
+    for (p, q) in a.iter().zip(b) {
+        same &= text_ascii::to_lower(*p) == text_ascii::to_lower(*q);
     }
     same
-}
-
-// Whether two octets are equal and all before them were the same.
-fn still_same(same: bool, x: u8, y: u8) -> bool
-    ensures { result ≡ (eqb x y && same) }
-{
-    if x == y {
-        return same;
-    }
-    false
 }

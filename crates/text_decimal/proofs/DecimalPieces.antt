@@ -6,33 +6,11 @@ use mathlib.Core.List.{List}
 use lib.ListN.{length, set, length-append}
 use mir.Syntax.{w64}
 use mir.Val.{Fits}
-use Rattle.spec_octets.specs.WrittenDecimal.{decimal, three_digits}
+use Rattle.spec_octets.specs.WrittenDecimal.{decimal}
 use Rattle.spec_octets.proofs.WrittenDecimals.{decimal_small, decimal_more, decimal_within_lem, decimal_some}
 use Rattle.spec_octets.specs.Buffer.{Put, filled, filled_length}
 use Rattle.text_buffer.proofs.Filled.{no_room_answer, no_room_octets, put_answer, put_octets}
-use Rattle.text_buffer.proofs.LentRest.{put_length, put_octet, put_one, put_three}
-
--- Three digits.
-
-module _ (b : ℕ) (d : List ℕ) where
-  pub none_of_three_answer : length d < 3 → 0 ≡ filled_length (three_digits b) d
-  none_of_three_answer = no_room_answer (three_digits b) d
-
-  pub none_of_three_octets : length d < 3 → d ≡ filled (three_digits b) d
-  none_of_three_octets = no_room_octets (three_digits b) d
-
-  module _ (room : 3 ≤ length d) where
-    abbrev put : List ℕ
-    put = set (set (set d 0 (48 + b / 100)) 1 (48 + b / 10 % 10)) 2 (48 + b % 10)
-
-    digits_put : Put (three_digits b) d put 3
-    digits_put = put_three (48 + b / 100) (48 + b / 10 % 10) (48 + b % 10) d room
-
-    pub three_digits_answer : 3 ≡ filled_length (three_digits b) d
-    three_digits_answer = put_answer (three_digits b) d room put 3 digits_put
-
-    pub three_digits_octets : set (set (set d 0 (48 + b / 100)) 1 (48 + b / 10 % 10)) 2 (48 + b % 10) ≡ filled (three_digits b) d
-    three_digits_octets = put_octets (three_digits b) d room put 3 digits_put
+use Rattle.text_buffer.proofs.LentRest.{put_length, put_octet, put_one}
 
 -- As few as it takes.
 

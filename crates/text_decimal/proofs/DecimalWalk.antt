@@ -1,26 +1,22 @@
 -- Reading a decimal number digit by digit: the value so far and the remaining digits give the result.
+use Rattle.std.specs.Prelude.{Option, None, Some}
 use Prim.Native.Nat.{ℕ, ◌+◌, ◌-◌, ◌*◌, ◌≤◌, ◌<◌}
 use native.Mathlib.Omega.{arith}
 use mathlib.Core.Path.{◌≡◌, refl, sym, ◌∙◌}
 use mathlib.Core.Bool.{Bool, true, false, cond, ◌&&◌, and-false, and-eq-true_iff}
 use mathlib.Core.List.{List, [], ◌∷◌}
-use mathlib.Core.Option.{Option, none, some}
 use lib.Dec.{leb}
 use lib.ListN.{length, get_or, drop, drop_of_length-le}
-use mir.Syntax.{w64}
-use mir.Val.{Fits}
 use borrow.Author.Tests.{leb-true, le-leb, lt-leb}
 use Rattle.spec_octets.specs.Lists.{all}
 use Rattle.spec_octets.specs.Octets.{is_digit}
 use Rattle.spec_octets.specs.Decimal.{decimal_from, decimal_octet}
 use Rattle.spec_octets.proofs.Walks.{drop_step}
-use Rattle.text_decimal.specs.declared.OctetRead.{OctetRead}
-use Rattle.text_decimal.specs.declared.OctetRead.TheVariants.{Good, Fault}
 use Rattle.text_decimal.specs.Places.{octet_read, decimal_in}
 
 -- the number that the digits read so far stand for is n, and s is left
-abbrev pub digits_left : ℕ → List ℕ → OctetRead
-digits_left n s = octet_read (cond (all is_digit s && leb (decimal_from n s) 255) (some (decimal_from n s)) none)
+abbrev pub digits_left : ℕ → List ℕ → Option ℕ
+digits_left n s = octet_read (cond (all is_digit s && leb (decimal_from n s) 255) (Some (decimal_from n s)) None)
 
 -- what the code knows of a digit
 module _ (r : Bool) (x : ℕ) (told : r ≡ is_digit x) (h : r ≡ true) where
@@ -33,18 +29,12 @@ module _ (r : Bool) (x : ℕ) (told : r ≡ is_digit x) (h : r ≡ true) where
   pub digit_low : 48 ≤ x
   digit_low = digit_bounds.0
 
-  pub digit_fits : Fits w64 (x - 48)
-  digit_fits = record { fits = omega (arith, digit_bounds) }
-
-  pub number_fits : (n : ℕ) → n ≤ 255 → Fits w64 (n * 10 + (x - 48))
-  number_fits n small = record { fits = omega (arith, digit_bounds) }
-
 module _ (s : List ℕ) where
-  pub no_digits : length s ≡ 0 → Fault ≡ decimal_in s
+  pub no_digits : length s ≡ 0 → None ≡ decimal_in s
   unfolding decimal_in decimal_octet
   no_digits e = rw e
 
-  pub many_digits : 3 < length s → Fault ≡ decimal_in s
+  pub many_digits : 3 < length s → None ≡ decimal_in s
   unfolding decimal_in decimal_octet
   many_digits h = rw (lt-leb (length s) 3 h, and-false)
 
@@ -58,35 +48,43 @@ module _ (s : List ℕ) where
   grows n (x ∷ l) = omega (arith, grows (n * 10 + (x - 48)) l)
 
   module _ (n i : ℕ) (left : decimal_in s ≡ digits_left n (drop i s)) where
-    pub digits_end : n ≤ 255 → length s ≤ i → Good n ≡ decimal_in s
+    pub digits_end : n ≤ 255 → length s ≤ i → Some n ≡ decimal_in s
     digits_end small h = sym (left ∙ rw (drop_of_length-le s h, le-leb n 255 small))
 
     module _ (r : Bool) (h : i < length s) (told : r ≡ is_digit (get_or s i 0)) where
-      pub no_digit : r ≡ false → Fault ≡ decimal_in s
+      pub no_digit : r ≡ false → None ≡ decimal_in s
       no_digit e = sym (left ∙ rw (drop_step 0 s i (i + 1) h, ← told, e))
 
       pub digits_turn : (m j : ℕ) → r ≡ true → m ≡ n * 10 + (get_or s i 0 - 48) → j ≡ i + 1 → decimal_in s ≡ digits_left m (drop j s)
       digits_turn m j e grown next = left ∙ rw (drop_step 0 s i j h next, ← told, e, grown)
 
-      pub number_over : (m : ℕ) → r ≡ true → m ≡ n * 10 + (get_or s i 0 - 48) → 255 < m → Fault ≡ decimal_in s
-      number_over m e grown over =
+      -- a number above 255 stays above it, whatever digits follow
+      over : r ≡ true → 255 < n * 10 + (get_or s i 0 - 48) → None ≡ decimal_in s
+      over e large =
           let rest = drop (i + 1) s in
-          sym (digits_turn m (i + 1) e grown refl ∙ rw (lt-leb (decimal_from m rest) 255 (omega (arith, grows m rest)), and-false))
+          let m = n * 10 + (get_or s i 0 - 48) in
+          sym (digits_turn m (i + 1) e refl refl ∙ rw (lt-leb (decimal_from m rest) 255 (omega (arith, grows m rest)), and-false))
+
+      pub tens_over : r ≡ true → (n * 10 < 256 → ⊥) → None ≡ decimal_in s
+      tens_over e large = over e (omega arith)
+
+      pub number_over : (t : ℕ) → r ≡ true → n * 10 ≡ t → (t + (get_or s i 0 - 48) < 256 → ⊥) → None ≡ decimal_in s
+      number_over t e tens large = over e (omega arith)
 
 -- what decimal_octet has told
-module _ (t : List ℕ) (o : OctetRead) (told : o ≡ decimal_in t) where
-  pub octet_there : (n : ℕ) → o ≡ Good n → decimal_octet t ≡ some n
+module _ (t : List ℕ) (o : Option ℕ) (told : o ≡ decimal_in t) where
+  pub octet_there : (n : ℕ) → o ≡ Some n → decimal_octet t ≡ Some n
   unfolding decimal_in
   octet_there n g = go (decimal_octet t) (sym told ∙ g)
     where
-      go : (q : Option ℕ) → octet_read q ≡ Good n → q ≡ some n
-      go none k = let z : ◌≡◌ {A = ℕ} 0 1 = cc in absurd (omega arith)
-      go (some m) k = cc
+      go : (q : Option ℕ) → octet_read q ≡ Some n → q ≡ Some n
+      go None k = let z : ◌≡◌ {A = ℕ} 0 1 = cc in absurd (omega arith)
+      go (Some m) k = cc
 
-  pub octet_missing : o ≡ Fault → decimal_octet t ≡ none
+  pub octet_missing : o ≡ None → decimal_octet t ≡ None
   unfolding decimal_in
   octet_missing g = go (decimal_octet t) (sym told ∙ g)
     where
-      go : (q : Option ℕ) → octet_read q ≡ Fault → q ≡ none
-      go none k = refl
-      go (some m) k = let z : ◌≡◌ {A = ℕ} 0 1 = cc in absurd (omega arith)
+      go : (q : Option ℕ) → octet_read q ≡ None → q ≡ None
+      go None k = refl
+      go (Some m) k = let z : ◌≡◌ {A = ℕ} 0 1 = cc in absurd (omega arith)

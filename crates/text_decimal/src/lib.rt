@@ -6,37 +6,21 @@ ghost use Rattle.spec_octets.specs.WrittenDecimal.{decimal, three_digits};
 ghost use Rattle.spec_octets.specs.Buffer.{Put, filled, filled_length};
 ghost use Rattle.text_decimal.specs.Places.{decimal_in};
 
-// The number read, or a fault.
-#[derive(Clone, Copy)]
-pub enum OctetRead {
-    Good(u8),
-    Fault,
-}
-
-// Reads an octet in decimal: 1 to 3 digits, at most 255.
-pub fn decimal_octet(s: &[u8]) -> OctetRead
+// Reads an octet in decimal: 1 to 3 digits, at most 255. None for any other text.
+pub fn decimal_octet(s: &[u8]) -> Option<u8>
     ensures { result ≡ decimal_in s.now }
 {
-    if s.len() == 0 {
-        return OctetRead::Fault;
+    if s.is_empty() || 3 < s.len() {
+        return None;
     }
-    if 3 < s.len() {
-        return OctetRead::Fault;
-    }
-    let mut n: usize = 0;
-    let mut i: usize = 0;
-    while i < s.len() {
-        let b = s[i];
-        if !text_ascii::is_digit(b) {
-            return OctetRead::Fault;
+    let mut n: u8 = 0;
+    for b in s {
+        if !text_ascii::is_digit(*b) {
+            return None;
         }
-        n = n * 10 + (b - b'0') as usize;
-        if 255 < n {
-            return OctetRead::Fault;
-        }
-        i += 1;
+        n = n.checked_mul(10)?.checked_add(*b - b'0')?;
     }
-    OctetRead::Good(n as u8)
+    Some(n)
 }
 
 // Writes an octet as three digits at the start of the buffer, and returns 3. If they don't fit, nothing is written and 0 is returned.
@@ -44,13 +28,7 @@ pub fn put_three_digits(b: u8, out: &mut [u8]) -> usize
     ensures answer { result ≡ filled_length (three_digits b) out.old }
     ensures octets { out.new ≡ filled (three_digits b) out.old }
 {
-    if out.len() < 3 {
-        return 0;
-    }
-    out[0] = b'0' + b / 100;
-    out[1] = b'0' + b / 10 % 10;
-    out[2] = b'0' + b % 10;
-    3
+    text_buffer::put_octets(&[b'0' + b / 100, b'0' + b / 10 % 10, b'0' + b % 10], out)
 }
 
 // How many digits a number has in decimal.

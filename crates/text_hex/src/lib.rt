@@ -10,10 +10,7 @@ fn hex_digit(d: u8) -> u8
     requires { d < 16 }
     ensures { result ≡ hex_digit d }
 {
-    if d < 10 {
-        return b'0' + d;
-    }
-    b'a' + (d - 10)
+    if d < 10 { b'0' + d } else { b'a' + (d - 10) }
 }
 
 // Writes the two digits of an octet at the start of the buffer, and returns 2. If they don't fit, nothing is written and 0 is returned.
@@ -29,45 +26,22 @@ pub fn put_hex(b: u8, out: &mut [u8]) -> usize
     2
 }
 
+#[tactic(auto, unfolding(spec_tlsa_line::specs::Hex::is_hex_digit, spec_octets::specs::Octets::is_digit))]
 pub fn is_hex_digit(b: u8) -> bool
     ensures { result ≡ is_hex_digit b }
 {
-    if b < b'0' {
-        return false;
-    }
-    if b <= b'9' {
-        return true;
-    }
-    if b < b'A' {
-        return false;
-    }
-    if b <= b'F' {
-        return true;
-    }
-    if b < b'a' {
-        return false;
-    }
-    b <= b'f'
+    matches!(b, b'0'..=b'9' | b'A'..=b'F' | b'a'..=b'f')
 }
 
 // The value of a digit, in either letter case. Any other octet has the value that the definition gives it.
+#[tactic(auto, unfolding(spec_tlsa_line::specs::Hex::hex_value, spec_octets::specs::Octets::is_digit, spec_octets::specs::Octets::is_upper))]
 pub fn hex_value(b: u8) -> u8
     ensures { result ≡ hex_value b }
 {
-    if b < b'0' {
-        return 10;
+    match b {
+        b'0'..=b'9' => b - b'0',
+        b'A'..=b'Z' => 10 + (b - b'A'),
+        b'a'..=u8::MAX => 10 + (b - b'a'),
+        _ => 10,
     }
-    if b <= b'9' {
-        return b - b'0';
-    }
-    if b < b'A' {
-        return 10;
-    }
-    if b <= b'Z' {
-        return 10 + (b - b'A');
-    }
-    if b < b'a' {
-        return 10;
-    }
-    10 + (b - b'a')
 }

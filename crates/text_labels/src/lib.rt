@@ -12,14 +12,7 @@ use text_classes::Class;
 pub fn is_label(l: &[u8]) -> bool
     ensures { result ≡ is_label l.now }
 {
-    let n = l.len();
-    if n == 0 {
-        return false;
-    }
-    if l[0] == b'-' {
-        return false;
-    }
-    if l[n - 1] == b'-' {
+    if l.is_empty() || l[0] == b'-' || l[l.len() - 1] == b'-' {
         return false;
     }
     text_classes::all_of(l, Class::LetterDigitHyphen)
@@ -29,24 +22,20 @@ pub fn is_label(l: &[u8]) -> bool
 pub fn piece_end(s: &[u8], at: usize, c: u8) -> usize
     ensures { result ≡ piece_end c s.now at }
 {
-    let mut e: usize = at;
-    while e < s.len() {
+    for e in at..s.len() {
         if s[e] == c {
             return e;
         }
-        e += 1;
     }
-    e
+    at.max(s.len())
 }
 
 // Whether l is a label of at most `longest` octets.
+#[tactic(auto, unfolding(crate::specs::DottedLabels::is_label_within))]
 fn is_label_within(l: &[u8], longest: usize) -> bool
     ensures { result ≡ is_label_within longest l.now }
 {
-    if longest < l.len() {
-        return false;
-    }
-    is_label(l)
+    l.len() <= longest && is_label(l)
 }
 
 // Whether a text is labels of at most `longest` octets each, joined by single dots.

@@ -5,14 +5,8 @@ ghost use Rattle.std.specs.Prelude.{◌≡◌};
 ghost use Rattle.tlsa_fields.specs.Fields.{usage_of, selector_of, matching_type_of};
 
 // RFC 6698 section 2.1.1: how the certificate association is to be used.
-#[derive(Clone, Copy)]
+#[derive(Clone, Copy, PartialEq, Eq)]
 pub struct Usage(pub u8);
-
-#[derive(Clone, Copy)]
-pub enum UsageRead {
-    Known(Usage),
-    Unknown,
-}
 
 impl Usage {
     pub const CA_CONSTRAINT: Usage = Usage(0);
@@ -23,72 +17,54 @@ impl Usage {
 
     pub const DOMAIN_ISSUED_CERTIFICATE: Usage = Usage(3);
 
-    pub fn from_octet(x: u8) -> UsageRead
+    #[tactic(auto, unfolding(crate::specs::Fields::usage_of, spec_tlsa::specs::Association::is_usage))]
+    pub fn from_octet(x: u8) -> Option<Usage>
         ensures { result ≡ usage_of x }
     {
-        if x == Usage::CA_CONSTRAINT.0 {
-            return UsageRead::Known(Usage::CA_CONSTRAINT);
+        match Usage(x) {
+            known @ (Usage::CA_CONSTRAINT
+            | Usage::SERVICE_CERTIFICATE_CONSTRAINT
+            | Usage::TRUST_ANCHOR_ASSERTION
+            | Usage::DOMAIN_ISSUED_CERTIFICATE) => Some(known),
+            _ => None,
         }
-        if x == Usage::SERVICE_CERTIFICATE_CONSTRAINT.0 {
-            return UsageRead::Known(Usage::SERVICE_CERTIFICATE_CONSTRAINT);
-        }
-        if x == Usage::TRUST_ANCHOR_ASSERTION.0 {
-            return UsageRead::Known(Usage::TRUST_ANCHOR_ASSERTION);
-        }
-        if x == Usage::DOMAIN_ISSUED_CERTIFICATE.0 {
-            return UsageRead::Known(Usage::DOMAIN_ISSUED_CERTIFICATE);
-        }
-        UsageRead::Unknown
     }
 }
 
 // RFC 6698 section 2.1.2: which part of the certificate is matched.
-#[derive(Clone, Copy)]
+#[derive(Clone, Copy, PartialEq, Eq)]
 pub struct Selector(pub u8);
-
-#[derive(Clone, Copy)]
-pub enum SelectorRead {
-    Known(Selector),
-    Unknown,
-}
 
 impl Selector {
     pub const FULL_CERTIFICATE: Selector = Selector(0);
 
     pub const PUBLIC_KEY: Selector = Selector(1);
 
-    pub fn from_octet(x: u8) -> SelectorRead
+    #[tactic(auto, unfolding(crate::specs::Fields::selector_of, spec_tlsa::specs::Association::is_selector))]
+    pub fn from_octet(x: u8) -> Option<Selector>
         ensures { result ≡ selector_of x }
     {
-        if x == Selector::FULL_CERTIFICATE.0 {
-            return SelectorRead::Known(Selector::FULL_CERTIFICATE);
+        match Selector(x) {
+            known @ (Selector::FULL_CERTIFICATE | Selector::PUBLIC_KEY) => Some(known),
+            _ => None,
         }
-        if x == Selector::PUBLIC_KEY.0 {
-            return SelectorRead::Known(Selector::PUBLIC_KEY);
-        }
-        SelectorRead::Unknown
     }
 }
 
 // RFC 6698 section 2.1.3: how the association data is presented.
-#[derive(Clone, Copy)]
+#[derive(Clone, Copy, PartialEq, Eq)]
 pub struct MatchingType(pub u8);
-
-#[derive(Clone, Copy)]
-pub enum MatchingTypeRead {
-    Known(MatchingType),
-    Unknown,
-}
 
 impl MatchingType {
     pub const NO_HASH: MatchingType = MatchingType(0);
 
-    pub fn from_octet(x: u8) -> MatchingTypeRead
+    #[tactic(auto, unfolding(crate::specs::Fields::matching_type_of, spec_tlsa::specs::Association::is_matching_type))]
+    pub fn from_octet(x: u8) -> Option<MatchingType>
         ensures { result ≡ matching_type_of x }
     {
-        if x == MatchingType::NO_HASH.0 {
-            return MatchingTypeRead::Known(MatchingType::NO_HASH);
+        match MatchingType(x) {
+            known @ (MatchingType::NO_HASH) => Some(known),
+            _ => None,
         }
-        MatchingTypeRead::Unknown
     }
 }

@@ -1,4 +1,6 @@
 -- The returns of write_owner: what write_owner is at each, from what the code has found.
+use Rattle.std.proofs.lemmas.Option.{none-some, same_Some}
+use Rattle.std.specs.Prelude.{Option, None, Some, Ok, Err}
 use Prim.Native.Nat.{ℕ, suc, ◌+◌, ◌≤◌, ◌<◌}
 use native.Mathlib.Omega.{arith}
 use native.Mathlib.Numerals.{add-one}
@@ -6,7 +8,6 @@ use mathlib.Core.Path.{◌≡◌, refl, sym, ap, subst, ◌∙◌}
 use mathlib.Core.Logic.{◌⊎◌, inl, inr}
 use mathlib.Core.Bool.{Bool, true, false, cond, not, ◌&&◌, ◌||◌, and-eq-true_iff, false≢true}
 use mathlib.Core.List.{List, [], ◌∷◌, ◌++◌, append_assoc, append-nil}
-use mathlib.Core.Option.{Option, none, some, none-ne-some, some-injective}
 use lib.Dec.{leb, eqb}
 use lib.ListN.{length, length-append}
 use mir.Syntax.{w64}
@@ -26,8 +27,6 @@ use Rattle.spec_name.specs.Names.{Name, wire, name}
 use Rattle.spec_name.proofs.NameLaws.{name_is_its_labels}
 use Rattle.spec_request.specs.Request.{is_wildcard, is_requestable, requested_name}
 use Rattle.spec_record.specs.Records.{is_some}
-use Rattle.spec_line.specs.declared.LineAnswer.{LineAnswer}
-use Rattle.spec_line.specs.declared.LineAnswer.TheVariants.{Length, Refused}
 use Rattle.spec_line.specs.Calls.{refused, placed}
 use Rattle.spec_line.proofs.Placed.{placed_there, placed_nowhere}
 use Rattle.spec_tlsa.specs.Owners.{max_port, is_port, is_transport, host_name, prefixed, owner_from, service_owner}
@@ -37,15 +36,15 @@ use Rattle.tlsa_owner.specs.Places.{service, owner_octets}
 
 -- the octets of a host are its wire form, at most 255
 pub record HostTo (h : List ℕ) (x : Name) : Type 0 where
-  pub found : host_name h ≡ some x
+  pub found : host_name h ≡ Some x
   pub octets : h ≡ wire x
   pub short : length h ≤ 255
 
-host_to : (h : List ℕ) (x : Name) → host_name h ≡ some x → HostTo h x
+host_to : (h : List ℕ) (x : Name) → host_name h ≡ Some x → HostTo h x
 unfolding host_name requested_name max_name_octets
 host_to h x e = go (requested_name h) refl e
   where
-    whole : (n : Name) (rest : List ℕ) → requested_name h ≡ some (n, rest) → is_empty rest ≡ true → n ≡ x → HostTo h x
+    whole : (n : Name) (rest : List ℕ) → requested_name h ≡ Some (n, rest) → is_empty rest ≡ true → n ≡ x → HostTo h x
     whole n (y ∷ rest) r ended same = absurd (false≢true ended)
     whole n [] r ended same =
         let (m, mid, found, ok) = (bind_some name _ h n []).0 r in
@@ -54,15 +53,15 @@ host_to h x e = go (requested_name h) refl e
         let octets : h ≡ wire x = front ∙ rw (left, is, same) (append-nil (wire x)) in
         record { found = e; octets = octets; short = rw (octets, ← same, ← is) good.1 }
 
-    chosen : (t : Bool) (n : Name) → cond t (some n) none ≡ some x → (t ≡ true) × (n ≡ x)
-    chosen true n f = (refl, some-injective n x f)
-    chosen false n f = absurd (none-ne-some x f)
+    chosen : (t : Bool) (n : Name) → cond t (Some n) None ≡ Some x → (t ≡ true) × (n ≡ x)
+    chosen true n f = (refl, same_Some n x f)
+    chosen false n f = absurd (none-some x f)
 
     go :
         (r : Option (Name × List ℕ)) → requested_name h ≡ r →
-        if_read none r (λ n rest. cond (is_empty rest && not (is_wildcard n)) (some n) none) ≡ some x → HostTo h x
-    go none r f = absurd (none-ne-some x f)
-    go (some (n, rest)) r f =
+        if_read None r (λ n rest. cond (is_empty rest && not (is_wildcard n)) (Some n) None) ≡ Some x → HostTo h x
+    go None r f = absurd (none-some x f)
+    go (Some (n, rest)) r f =
         let (t, same) = chosen (is_empty rest && not (is_wildcard n)) n f in
         whole n rest r ((and-eq-true_iff (is_empty rest) (not (is_wildcard n))).0 t).0 same
 
@@ -95,10 +94,10 @@ module _ (h p t b : List ℕ) (a : Bool) (told : a ≡ keeps_rules h p t) where
       fits x = leb (length (wire (prefixed p t x))) max_name_octets
 
       go : (o : Option Name) → is_some o && (is_port p && is_transport t) ≡ false → owner_placed (owner_from p t o) b ≡ refused bad_service b
-      go none e = refl
-      go (some x) e = rw e
+      go None e = refl
+      go (Some x) e = rw e
 
-  pub refused_answer : a ≡ false → Refused bad_service ≡ (write_owner (service h p t) b).answer
+  pub refused_answer : a ≡ false → Err bad_service ≡ (write_owner (service h p t) b).answer
   refused_answer f = rw (refused_way f)
 
   pub refused_octets : a ≡ false → b ≡ (write_owner (service h p t) b).buffer
@@ -113,8 +112,8 @@ module _ (h p t b : List ℕ) (a : Bool) (told : a ≡ keeps_rules h p t) where
     host = go (host_name h) refl tests.0
       where
         go : (o : Option Name) → host_name h ≡ o → is_some o ≡ true → (x : Name) × HostTo h x
-        go none e f = absurd (false≢true f)
-        go (some x) e f = (x, host_to h x e)
+        go None e f = absurd (false≢true f)
+        go (Some x) e f = (x, host_to h x e)
 
     texts : (length p ≤ 5) × (length t ≤ 4)
     texts = let (port, transport) = (and-eq-true_iff (is_port p) (is_transport t)).0 tests.1 in (port_length p port, transport_length t transport)
@@ -141,7 +140,7 @@ module _ (h p t b : List ℕ) (a : Bool) (told : a ≡ keeps_rules h p t) where
     unfolding write_owner service_owner
     by_length = go host.0 host.1
       where
-        chosen : (y : Name) (u : Bool) → owner_placed (cond u (some y) none) b ≡ cond u (placed (wire y) b) (refused bad_service b)
+        chosen : (y : Name) (u : Bool) → owner_placed (cond u (Some y) None) b ≡ cond u (placed (wire y) b) (refused bad_service b)
         chosen y true = refl
         chosen y false = refl
 
@@ -153,7 +152,7 @@ module _ (h p t b : List ℕ) (a : Bool) (told : a ≡ keeps_rules h p t) where
             let y = prefixed p t x in
             rw (k.found, tests.1)
             (subst
-            (λ s. owner_placed (cond (leb (length (wire y)) max_name_octets) (some y) none) b
+            (λ s. owner_placed (cond (leb (length (wire y)) max_name_octets) (Some y) None) b
             ≡ cond (leb (length s) max_name_octets) (placed s b) (refused bad_service b))
             (wire_form x k.octets)
             (chosen y (leb (length (wire y)) max_name_octets)))
@@ -163,7 +162,7 @@ module _ (h p t b : List ℕ) (a : Bool) (told : a ≡ keeps_rules h p t) where
       unfolding max_name_octets
       long_way = by_length ∙ rw (lt-leb (length (owner_octets p t h)) 255 (omega (arith, owner_length)))
 
-      pub long_answer : Refused bad_service ≡ (write_owner (service h p t) b).answer
+      pub long_answer : Err bad_service ≡ (write_owner (service h p t) b).answer
       long_answer = rw long_way
 
       pub long_octets : b ≡ (write_owner (service h p t) b).buffer
@@ -181,7 +180,7 @@ module _ (h p t b : List ℕ) (a : Bool) (told : a ≡ keeps_rules h p t) where
         tight_way : write_owner (service h p t) b ≡ refused (NoRoom (length p + length t + length h + 4)) b
         tight_way = placed_way ∙ placed_nowhere (owner_octets p t h) b (length p + length t + length h + 4) (sym owner_length) less
 
-        pub tight_answer : Refused (NoRoom (length p + length t + length h + 4)) ≡ (write_owner (service h p t) b).answer
+        pub tight_answer : Err (NoRoom (length p + length t + length h + 4)) ≡ (write_owner (service h p t) b).answer
         tight_answer = rw tight_way
 
         pub tight_octets : b ≡ (write_owner (service h p t) b).buffer
@@ -192,10 +191,10 @@ module _ (h p t b : List ℕ) (a : Bool) (told : a ≡ keeps_rules h p t) where
         owner_room = omega (arith, owner_length)
 
         module _ (x : List ℕ) (j : ℕ) (put : Put (owner_octets p t h) b x j) where
-          written_way : write_owner (service h p t) b ≡ record { answer = Length (length p + length t + length h + 4); buffer = x }
+          written_way : write_owner (service h p t) b ≡ record { answer = Ok (length p + length t + length h + 4); buffer = x }
           written_way = placed_way ∙ placed_there (owner_octets p t h) b x (length p + length t + length h + 4) j (sym owner_length) room put
 
-          pub written_answer : Length (length p + length t + length h + 4) ≡ (write_owner (service h p t) b).answer
+          pub written_answer : Ok (length p + length t + length h + 4) ≡ (write_owner (service h p t) b).answer
           written_answer = rw written_way
 
           pub written_octets : x ≡ (write_owner (service h p t) b).buffer

@@ -8,7 +8,6 @@ ghost use Rattle.spec_tlsa.specs.Calls.{write_owner};
 ghost use Rattle.tlsa_owner.specs.Places.{label_octets, prefix_octets, owner_octets, service};
 
 use spec_limits::MAX_NAME_OCTETS;
-use spec_line::LineAnswer;
 use spec_refusal::{NameNo, Refusal};
 
 // Writes a label of an underscore and the text, after its length octet.
@@ -43,20 +42,25 @@ fn put_owner(port: &[u8], transport: &[u8], host: &[u8], out: &mut [u8]) -> usiz
 }
 
 // Writes the owner of a service at the start of the buffer. Nothing is written unless the service keeps its rules and the buffer is long enough.
-pub fn write_owner(host: &[u8], port: &[u8], transport: &[u8], buffer: &mut [u8]) -> LineAnswer
+pub fn write_owner(
+    host: &[u8],
+    port: &[u8],
+    transport: &[u8],
+    buffer: &mut [u8],
+) -> Result<usize, Refusal>
     ensures answer { result ≡ (write_owner (service host.now port.now transport.now) buffer.old).answer }
     ensures octets { buffer.new ≡ (write_owner (service host.now port.now transport.now) buffer.old).buffer }
 {
     if !tlsa_service::is_service(host, port, transport) {
-        return LineAnswer::Refused(Refusal::BadName(NameNo(0)));
+        return Err(Refusal::BadName(NameNo(0)));
     }
     let n = port.len() + transport.len() + host.len() + 4;
     if MAX_NAME_OCTETS < n {
-        return LineAnswer::Refused(Refusal::BadName(NameNo(0)));
+        return Err(Refusal::BadName(NameNo(0)));
     }
     if buffer.len() < n {
-        return LineAnswer::Refused(Refusal::NoRoom(n));
+        return Err(Refusal::NoRoom(n));
     }
     put_owner(port, transport, host, buffer);
-    LineAnswer::Length(n)
+    Ok(n)
 }

@@ -3,15 +3,15 @@ use Prim.Native.Nat.{ℕ, ◌+◌, ◌-◌, ◌*◌, ◌≤◌, ◌<◌}
 use Prim.Native.Char.{code}
 use native.Mathlib.Omega.{arith}
 use mathlib.Core.Path.{◌≡◌, refl, sym, ◌∙◌}
-use mathlib.Core.Logic.{◌≢◌}
-use mathlib.Core.Bool.{Bool, true, false, not, ◌&&◌, ◌||◌, and-false, and-eq-true_iff, or-true}
+use mathlib.Core.Bool.{Bool, true, false, ◌&&◌, and-false, and-eq-true_iff, or-true}
+use mathlib.Core.Logic.{◌⊎◌, inl, inr}
 use mathlib.Core.List.{List, [], ◌∷◌}
 use lib.Dec.{leb, eqb}
 use lib.ListN.{length, get_or, drop, drop_of_length-le}
 use mir.Syntax.{w64}
 use mir.Val.{Fits}
-use borrow.Author.Tests.{leb-true, le-leb, lt-leb, eq-eqb, ne_eqb}
-use Rattle.spec_octets.specs.Lists.{all, begins}
+use borrow.Author.Tests.{leb-true, le-leb, lt-leb, ne_eqb}
+use Rattle.spec_octets.specs.Lists.{all}
 use Rattle.spec_octets.specs.Octets.{is_digit}
 use Rattle.spec_octets.specs.Decimal.{decimal_from}
 use Rattle.spec_octets.proofs.Walks.{drop_step}
@@ -39,13 +39,10 @@ module _ (r : Bool) (x : ℕ) (told : r ≡ is_digit x) (h : r ≡ true) where
   number_fits n small = record { fits = omega (arith, digit_bounds) }
 
 module _ (s : List ℕ) where
-  pub no_digits : length s ≡ 0 → false ≡ is_port s
+  pub bad_length : (length s ≡ 0) ⊎ ((length s ≡ 0 → ⊥) × (5 < length s)) → false ≡ is_port s
   unfolding is_port
-  no_digits e = rw e
-
-  pub many_digits : 5 < length s → false ≡ is_port s
-  unfolding is_port
-  many_digits h = rw (lt-leb (length s) 5 h, and-false)
+  bad_length (inl e) = rw e
+  bad_length (inr h) = rw (lt-leb (length s) 5 h.1, and-false)
 
 -- a zero stands alone
 pub zero_alone : (s : List ℕ) → (length s ≡ 0 → ⊥) → length s ≤ 5 → get_or s 0 0 ≡ 48 → eqb (length s) 1 ≡ is_port s
@@ -82,8 +79,8 @@ module _ (s : List ℕ) (n i : ℕ) (left : is_port s ≡ port_left n (drop i s)
     pub digits_turn : (m j : ℕ) → r ≡ true → m ≡ n * 10 + (get_or s i 0 - 48) → j ≡ i + 1 → is_port s ≡ port_left m (drop j s)
     digits_turn m j e grown next = left ∙ rw (drop_step 0 s i j h next, ← told, e, grown)
 
-    pub number_over : (m : ℕ) → r ≡ true → m ≡ n * 10 + (get_or s i 0 - 48) → 65535 < m → false ≡ is_port s
+    pub number_over : (d : ℕ) → r ≡ true → d ≡ get_or s i 0 - 48 → 65535 < n * 10 + d → false ≡ is_port s
     unfolding max_port
-    number_over m e grown over =
+    number_over d e digit over =
         let rest = drop (i + 1) s in
-        sym (digits_turn m (i + 1) e grown refl ∙ rw (lt-leb (decimal_from m rest) 65535 (omega (arith, grows m rest)), and-false))
+        sym (digits_turn (n * 10 + d) (i + 1) e (rw digit) refl ∙ rw (lt-leb (decimal_from (n * 10 + d) rest) 65535 (omega (arith, grows (n * 10 + d) rest)), and-false))

@@ -7,8 +7,8 @@ use Rattle.book_authorization.proofs.by_tags.Goals as goal
 pub returns-then-not-wildcard : goal.returns-then-not-wildcard
 returns-then-not-wildcard c = search (rules, not-true, plain_by_issue)
 
-pub returns-in_default : goal.returns-in_default
-returns-in_default c = search (rules, not-false, star_by_issue)
+pub returns-in-None : goal.returns-in-None
+returns-in-None c = search (rules, not-false, star_by_issue)
 
-pub returns : goal.returns
-returns c = search (rules, not-false, issuewild_governs)
+pub returns-in-Some : goal.returns-in-Some
+returns-in-Some c = search (rules, not-false, issuewild_governs)

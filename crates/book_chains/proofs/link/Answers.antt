@@ -8,22 +8,16 @@ pub loop-i-init : goal.loop-i-init
 unfolding max_records
 loop-i-init c = search (rules, limited, nothing_linked)
 
-pub overflow_cast-i : goal.overflow_cast-i
-unfolding max_records
-overflow_cast-i c = search rules
-
 pub loop-i-preserved : goal.loop-i-preserved
-loop-i-preserved c = (
-  search rules,
-  linked_on _ _ _ _ _ _ _ _ c.loop-i.invariant.1 _ _ _ _ _ _
-      c.put_number.ensures
-      c.put_number-in-loop-i.ensures
-      c.number_at.ensures
-      c.key_of-key.ensures
-      c.owner_at.ensures
-      (search rules)
-      (search rules),
-)
+loop-i-preserved c =
+    linked_on _ _ _ _ _ _ _ _ c.loop-i.invariant _ _ _ _ _ _
+    c.put_number.ensures
+    c.put_number-in-loop-i.ensures
+    c.number_at.ensures
+    c.key_of-key.ensures
+    c.owner_at.ensures
+    (search rules)
+    (search rules)
 
 pub shape_of-links : goal.shape_of-links
 shape_of-links c = search (rules, links_long)

@@ -17,8 +17,8 @@ slice_bounds-x-count c = search (rules, at_before, parent_inside)
 pub slice_bounds-x-start : goal.slice_bounds-x-start
 slice_bounds-x-start c = search (rules, at_before, parent_inside)
 
-pub returns-in-At : goal.returns-in-At
-returns-in-At c = search (rules, some_owned)
+pub returns-in-Some : goal.returns-in-Some
+returns-in-Some c = search (rules, some_owned)
 
 pub overflow_add-off : goal.overflow_add-off
 overflow_add-off c = search (rules, off_fits)

@@ -6,7 +6,7 @@ use Rattle.book_climb.proofs.ClimbLaws.{Climbing}
 use Rattle.book_climb.proofs.nearest.Given as goal
 
 abbrev pub invariant-loop-above : goal.invariant-loop-above
-invariant-loop-above l = Climbing l.book l.table l.links l.heads l.onward l.name l.c.at l.off
+invariant-loop-above l = Climbing l.index.book.now l.index.table.now l.index.links.now l.index.heads.now l.onward l.name l.c.at l.off
 
 abbrev pub decreases-loop-above : goal.decreases-loop-above
 decreases-loop-above l = length l.name - l.c.at

@@ -6,11 +6,11 @@ use Rattle.book_conflicts.proofs.clashes_at.Goals as goal
 pub returns-then-not-is_of_kind : goal.returns-then-not-is_of_kind
 returns-then-not-is_of_kind c = search (rules, not_counting)
 
-pub returns-in_default : goal.returns-in_default
-returns-in_default c = search (rules, nothing_owned)
+pub returns-then-r-i : goal.returns-then-r-i
+returns-then-r-i c = search (rules, one_before)
 
-pub returns-then-i-j : goal.returns-then-i-j
-returns-then-i-j c = search (rules, none_before)
+pub returns-else-r-i : goal.returns-else-r-i
+returns-else-r-i c = search (rules, none_before)
 
-pub returns : goal.returns
-returns c = search (rules, one_before)
+pub returns-in-None : goal.returns-in-None
+returns-in-None c = search (rules, nothing_owned)

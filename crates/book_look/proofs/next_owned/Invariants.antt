@@ -6,7 +6,7 @@ use Rattle.book_places.specs.Sets.{owned_of, first_of}
 use Rattle.book_look.proofs.next_owned.Given as goal
 
 abbrev pub invariant-loop-i : goal.invariant-loop-i
-invariant-loop-i l = first_of (owned_of l.kind l.book l.table l.links l.x l.from) ≡ first_of (owned_of l.kind l.book l.table l.links l.x l.i)
+invariant-loop-i l = first_of (owned_of l.kind l.index.book.now l.index.table.now l.index.links.now l.x l.from) ≡ first_of (owned_of l.kind l.index.book.now l.index.table.now l.index.links.now l.x l.i)
 
 abbrev pub decreases-loop-i : goal.decreases-loop-i
-decreases-loop-i l = length l.links - l.i
+decreases-loop-i l = length l.index.links.now - l.i

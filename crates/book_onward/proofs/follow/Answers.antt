@@ -11,8 +11,8 @@ loop-first-init c = search (rules, at_first)
 pub returns-then-left-eq0 : goal.returns-then-left-eq0
 returns-then-left-eq0 c = search (rules, too_many)
 
-pub returns-in_default : goal.returns-in_default
-returns-in_default c = search (rules, leads_nowhere)
+pub returns-in_err-next : goal.returns-in_err-next
+returns-in_err-next c = search (rules, leads_nowhere)
 
 pub loop-first-preserved : goal.loop-first-preserved
 loop-first-preserved c = search (rules, followed_on)

@@ -7,8 +7,8 @@ use Rattle.book_set.proofs.any_grants.Goals as goal
 pub loop-r-init : goal.loop-r-init
 loop-r-init c = search (rules, grants_start)
 
-pub returns-in_default : goal.returns-in_default
-returns-in_default c = search (rules, no_grant)
+pub returns : goal.returns
+returns c = search (rules, no_grant)
 
 pub returns-then-grants : goal.returns-then-grants
 returns-then-grants c = search (rules, grant_found)

@@ -8,8 +8,8 @@ use Rattle.book_set.proofs.first_unknown_critical.Goals as goal
 pub loop-r-init : goal.loop-r-init
 loop-r-init c = search (rules, first_start data_is_unknown_critical)
 
-pub returns-in_default : goal.returns-in_default
-returns-in_default c = search (rules, none_critical)
+pub returns-in_err-r : goal.returns-in_err-r
+returns-in_err-r c = search (rules, none_critical)
 
 pub loop-r-smaller : goal.loop-r-smaller
 loop-r-smaller c = search (rules, fewer_left)

@@ -6,7 +6,7 @@ use Rattle.book_set.proofs.SetLaws.{FirstLeft}
 use Rattle.book_set.proofs.first_with_tag.Given as goal
 
 abbrev pub invariant-loop-r : goal.invariant-loop-r
-invariant-loop-r l = FirstLeft (data_has_tag l.tag) l.book l.table l.links l.first (owner_at l.book l.table l.first) l.at
+invariant-loop-r l = FirstLeft (data_has_tag l.tag) l.index.book.now l.index.table.now l.index.links.now l.first (owner_at l.index.book.now l.index.table.now l.first) l.at
 
 abbrev pub decreases-loop-r : goal.decreases-loop-r
-decreases-loop-r l = length (owned_from l.book l.table l.links (owner_at l.book l.table l.first) l.at)
+decreases-loop-r l = length (owned_from l.index.book.now l.index.table.now l.index.links.now (owner_at l.index.book.now l.index.table.now l.first) l.at)

@@ -16,8 +16,8 @@ slice_bounds-name-start c = search (rules, issuer_from)
 pub slice_bounds-name-end : goal.slice_bounds-name-end
 slice_bounds-name-end c = search (rules, issuer_to)
 
-pub returns-then-not-same_ignoring_case : goal.returns-then-not-same_ignoring_case
-returns-then-not-same_ignoring_case c = search (rules, other_named)
+pub returns-else-same_ignoring_case : goal.returns-else-same_ignoring_case
+returns-else-same_ignoring_case c = search (rules, other_named)
 
 pub slice_bounds-limits_met-count : goal.slice_bounds-limits_met-count
 slice_bounds-limits_met-count c = search (rules, parameters_to)
@@ -25,5 +25,5 @@ slice_bounds-limits_met-count c = search (rules, parameters_to)
 pub slice_bounds-limits_met-start : goal.slice_bounds-limits_met-start
 slice_bounds-limits_met-start c = search (rules, parameters_to)
 
-pub returns : goal.returns
-returns c = search (rules, limits_tested)
+pub returns-then-same_ignoring_case : goal.returns-then-same_ignoring_case
+returns-then-same_ignoring_case c = search (rules, limits_tested)

@@ -4,4 +4,4 @@ use Rattle.digest_padding.proofs.PaddingWrites.{zeros_counted}
 use Rattle.digest_padding.proofs.count_zeros.Goals as goal
 
 pub returns : goal.returns
-returns c = search (rules, zeros_counted)
+returns g c = search (rules, zeros_counted)

@@ -4,16 +4,16 @@ use Rattle.digest_padding.proofs.PaddingWrites.{padding_from, padding_room, part
 use Rattle.digest_padding.proofs.put_parts.Goals as goal
 
 pub slice_bounds-put_padding-count : goal.slice_bounds-put_padding-count
-slice_bounds-put_padding-count c = search (rules, padding_from)
+slice_bounds-put_padding-count g c = search (rules, padding_from)
 
 pub slice_bounds-put_padding-start : goal.slice_bounds-put_padding-start
-slice_bounds-put_padding-start c = search (rules, padding_from)
+slice_bounds-put_padding-start g c = search (rules, padding_from)
 
 pub put_padding-requires : goal.put_padding-requires
-put_padding-requires c = search (rules, padding_room)
+put_padding-requires g c = search (rules, padding_room)
 
 pub overflow_add-result : goal.overflow_add-result
-overflow_add-result c = search (rules, parts_fit)
+overflow_add-result g c = search (rules, parts_fit)
 
 pub returns : goal.returns
-returns c = search (rules, parts_put)
+returns g c = search (rules, parts_put)

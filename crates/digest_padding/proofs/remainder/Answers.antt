@@ -5,4 +5,4 @@ use Rattle.digest_padding.proofs.PaddingWrites.{remainder_below}
 use Rattle.digest_padding.proofs.remainder.Goals as goal
 
 pub returns : goal.returns
-returns c = search (rules, remainder_below, mod-le)
+returns g c = search (rules, remainder_below, mod-le)

@@ -2,7 +2,7 @@
 use borrow.Author.Rules.{rules}
 use Rattle.spec_limits.specs.Limits.{max_aliases}
 use Rattle.edit_places.specs.Reach.{leads_to}
-use Rattle.edit_reach.proofs.ReachWays.{Leading, leads_start, none_left, no_alias, leads_here, leads_nowhere, leads_on}
+use Rattle.edit_reach.proofs.ReachWays.{leads_start, none_left, no_alias, leads_here, leads_nowhere, leads_on}
 use Rattle.edit_reach.proofs.leads.Goals as goal
 
 pub loop-r-init : goal.loop-r-init

@@ -1,9 +1,7 @@
 -- `name_touched` meets its contract. The loop's invariant: from the offset reached on, the walk comes to its answer.
-use Prim.Native.Nat.{◌-◌}
-use lib.ListN.{length}
 use borrow.Author.Rules.{rules}
 use Rattle.read_name.proofs.Parents.{at_before, closer}
-use Rattle.edit_reach.proofs.ReachWays.{parent_inside, Asking, ask_start, at_the_root, touched_here, not_here}
+use Rattle.edit_reach.proofs.ReachWays.{parent_inside, ask_start, at_the_root, touched_here, not_here}
 use Rattle.edit_reach.proofs.name_touched.Goals as goal
 
 pub loop-above-init : goal.loop-above-init

@@ -8,17 +8,17 @@ pub returns-then-s-gt-MAX_CERTIFICATE_OCTETS : goal.returns-then-s-gt-MAX_CERTIF
 unfolding max_certificate_octets
 returns-then-s-gt-MAX_CERTIFICATE_OCTETS c = search (rules, too_long)
 
-pub returns-in_default : goal.returns-in_default
+pub returns-in_err-whole : goal.returns-in_err-whole
 unfolding max_certificate_octets
-returns-in_default c = search (rules, no_whole)
+returns-in_err-whole c = search (rules, no_whole)
 
 pub returns-then-whole-s : goal.returns-then-whole-s
 unfolding max_certificate_octets
 returns-then-whole-s c = search (rules, octets_behind)
 
-pub returns-in_default-read_tagged : goal.returns-in_default-read_tagged
+pub returns-in_err-body : goal.returns-in_err-body
 unfolding max_certificate_octets
-returns-in_default-read_tagged c = search (rules, no_body)
+returns-in_err-body c = search (rules, no_body)
 
 pub returns-then-not-are_two_elements : goal.returns-then-not-are_two_elements
 unfolding max_certificate_octets
@@ -36,9 +36,9 @@ pub slice_bounds-key_in_tbs-end : goal.slice_bounds-key_in_tbs-end
 unfolding max_certificate_octets
 slice_bounds-key_in_tbs-end c = search (rules, body_inside)
 
-pub returns-in_default-key_in_tbs : goal.returns-in_default-key_in_tbs
+pub returns-in_err-key : goal.returns-in_err-key
 unfolding max_certificate_octets
-returns-in_default-key_in_tbs c = search (rules, no_key)
+returns-in_err-key c = search (rules, no_key)
 
 pub overflow_add-from : goal.overflow_add-from
 unfolding max_certificate_octets

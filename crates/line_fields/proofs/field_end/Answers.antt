@@ -1,9 +1,5 @@
 -- `field_end` meets its contract. The loop's invariant: the field ends where the rest of it, from offset e on, ends.
-use Prim.Native.Nat.{◌-◌}
-use mathlib.Core.Path.{◌≡◌}
-use lib.ListN.{length}
 use borrow.Author.Rules.{rules}
-use Rattle.line_fields.specs.Places.{field_end}
 use Rattle.line_fields.proofs.FieldEnds.{field_goes_on, field_stops, line_ends}
 use Rattle.line_fields.proofs.field_end.Goals as goal
 

@@ -2,9 +2,7 @@
 use Prim.Native.Nat.{◌-◌}
 use mathlib.Core.Path.{◌≡◌}
 use lib.ListN.{length}
-use borrow.Author.Rules.{rules}
 use Rattle.line_fields.specs.Places.{field_end}
-use Rattle.line_fields.proofs.FieldEnds.{field_goes_on, field_stops, line_ends}
 use Rattle.line_fields.proofs.field_end.Given as goal
 
 abbrev pub invariant-loop-e : goal.invariant-loop-e

@@ -3,14 +3,14 @@ use borrow.Author.Rules.{rules}
 use Rattle.line_octet.proofs.UnitPlaces.{escape_cut_off, three_cut_off, no_number, number_there, below_32, above_126, quoted_there}
 use Rattle.line_octet.proofs.read_escape.Goals as goal
 
-pub returns-then-s-at : goal.returns-then-s-at
-returns-then-s-at c = search (rules, escape_cut_off)
+pub returns-in_err-x : goal.returns-in_err-x
+returns-in_err-x c = search (rules, escape_cut_off)
 
 pub returns-then-s-at-lt3 : goal.returns-then-s-at-lt3
 returns-then-s-at-lt3 c = search (rules, three_cut_off)
 
-pub returns-in_default : goal.returns-in_default
-returns-in_default c = search (rules, no_number)
+pub returns-in_err-octet : goal.returns-in_err-octet
+returns-in_err-octet c = search (rules, no_number)
 
 pub returns-then-is_digit : goal.returns-then-is_digit
 returns-then-is_digit c = search (rules, number_there)

@@ -7,17 +7,17 @@ use Rattle.line_fields.proofs.FieldPlaces.{field_starts, field_inside}
 use Rattle.line_parts.proofs.LinePlaces.{no_first_field, wrong_flags, no_second_field, wrong_tag, line_there}
 use Rattle.line_parts.proofs.read_fields.Goals as goal
 
-pub returns-in_default : goal.returns-in_default
-returns-in_default c = search (rules, no_first_field)
+pub returns-in_err-f : goal.returns-in_err-f
+returns-in_err-f c = search (rules, no_first_field)
 
 pub slice_bounds-decimal_octet-end : goal.slice_bounds-decimal_octet-end
 slice_bounds-decimal_octet-end c = sym (search (rules, length-take-le, field_inside))
 
-pub returns-in_default-decimal_octet : goal.returns-in_default-decimal_octet
-returns-in_default-decimal_octet c = search (rules, wrong_flags)
+pub returns-in_err-flags : goal.returns-in_err-flags
+returns-in_err-flags c = search (rules, wrong_flags)
 
-pub returns-in_default-read_field : goal.returns-in_default-read_field
-returns-in_default-read_field c = search (rules, no_second_field)
+pub returns-in_err-t : goal.returns-in_err-t
+returns-in_err-t c = search (rules, no_second_field)
 
 pub slice_bounds-is_line_tag-count : goal.slice_bounds-is_line_tag-count
 slice_bounds-is_line_tag-count c = search (rules, field_starts)

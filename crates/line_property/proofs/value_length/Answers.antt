@@ -6,8 +6,8 @@ use Rattle.line_property.proofs.value_length.Goals as goal
 pub overflow_add-n : goal.overflow_add-n
 overflow_add-n c = search (rules, measure_fits)
 
-pub loop-i-preserved : goal.loop-i-preserved
-loop-i-preserved c = search (rules, measure_turn)
+pub loop-b-preserved : goal.loop-b-preserved
+loop-b-preserved c = search (rules, measure_turn)
 
 pub returns : goal.returns
 returns c = search (rules, measure_end)

@@ -7,8 +7,8 @@ use Rattle.line_reader.proofs.read_line.Goals as goal
 pub returns-then-line-gt-MAX_LINE_OCTETS : goal.returns-then-line-gt-MAX_LINE_OCTETS
 returns-then-line-gt-MAX_LINE_OCTETS c = search (rules, line_too_long)
 
-pub returns-in_default : goal.returns-in_default
-returns-in_default c = search (rules, wrong_fields)
+pub returns-in_err-l : goal.returns-in_err-l
+returns-in_err-l c = search (rules, wrong_fields)
 
 pub slice_bounds-value-count : goal.slice_bounds-value-count
 slice_bounds-value-count c = search (rules, value_begins)
@@ -16,8 +16,8 @@ slice_bounds-value-count c = search (rules, value_begins)
 pub slice_bounds-value-start : goal.slice_bounds-value-start
 slice_bounds-value-start c = search (rules, value_begins)
 
-pub returns-in_default-read_line_value : goal.returns-in_default-read_line_value
-returns-in_default-read_line_value c = search (rules, wrong_value)
+pub returns-in_err-v : goal.returns-in_err-v
+returns-in_err-v c = search (rules, wrong_value)
 
 pub slice_bounds-units-count : goal.slice_bounds-units-count
 slice_bounds-units-count c = search (rules, value_starts)
@@ -38,4 +38,7 @@ pub slice_bounds-tag-end : goal.slice_bounds-tag-end
 slice_bounds-tag-end c = search (rules, tag_ends)
 
 pub returns : goal.returns
-returns c = search (rules, passed_answer, passed_octets)
+returns c = record {
+  answer = passed_answer _ c.if-line-gt-MAX_LINE_OCTETS.false _ c.read_fields.ensures c.in_ok-l.l c.in_ok-l.ensures.ok_part _ c.read_line_value.ensures c.in_ok-v.v c.in_ok-v.ensures.ok_part c.args.buffer.now _ c.write_data.ensures.answer;
+  octets = passed_octets _ c.if-line-gt-MAX_LINE_OCTETS.false _ c.read_fields.ensures c.in_ok-l.l c.in_ok-l.ensures.ok_part _ c.read_line_value.ensures c.in_ok-v.v c.in_ok-v.ensures.ok_part c.args.buffer.now _ c.write_data.ensures.octets;
+}

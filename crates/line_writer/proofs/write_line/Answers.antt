@@ -8,14 +8,18 @@ use Rattle.line_writer.proofs.write_line.Goals as goal
 pub returns-then-d-gt-MAX_DATA_OCTETS : goal.returns-then-d-gt-MAX_DATA_OCTETS
 returns-then-d-gt-MAX_DATA_OCTETS c = search (rules, data_too_long)
 
-pub returns-in_default : goal.returns-in_default
-returns-in_default c = search (rules, no_data)
+pub returns-in_err-p : goal.returns-in_err-p
+returns-in_err-p c = search (rules, no_data)
 
 pub returns-then-not-all_of : goal.returns-then-not-all_of
 returns-then-not-all_of c =
     let a = c.args in
-    let e = not_plain a.d.now a.buffer.now (search rules) _ c.read_property.ensures c.in-Good.p (search rules) _ c.tag_part-tag.ensures c.all_of.result (search rules) (search (rules, not-true)) in
+    let e = not_plain a.d.now a.buffer.now (search rules) _ c.read_property.ensures c.in_ok-p.p c.in_ok-p.ensures.ok_part _ c.tag_part-tag.ensures c.all_of.result (search rules) (search (rules, not-true)) in
     record { answer = ap (λ o. o.answer) (sym e); octets = ap (λ o. o.buffer) (sym e) }
 
 pub returns : goal.returns
-returns c = search (rules, passed_answer, passed_octets, not-false)
+returns c =
+    record {
+      answer = passed_answer c.args.d.now c.args.buffer.now c.if-d-gt-MAX_DATA_OCTETS.false _ c.read_property.ensures c.in_ok-p.p c.in_ok-p.ensures.ok_part _ c.tag_part-tag.ensures c.all_of.result c.all_of.ensures c.if-not-all_of.false _ c.value_part-value.ensures _ c.write_property.ensures.answer;
+      octets = passed_octets c.args.d.now c.args.buffer.now c.if-d-gt-MAX_DATA_OCTETS.false _ c.read_property.ensures c.in_ok-p.p c.in_ok-p.ensures.ok_part _ c.tag_part-tag.ensures c.all_of.result c.all_of.ensures c.if-not-all_of.false _ c.value_part-value.ensures _ c.write_property.ensures.octets;
+    }

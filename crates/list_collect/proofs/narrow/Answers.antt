@@ -7,11 +7,11 @@ use Rattle.list_collect.proofs.narrow.Goals as goal
 pub loop-g-init : goal.loop-g-init
 loop-g-init c = search (rules, narrow_start)
 
-pub shape_of-rounds-in_default : goal.shape_of-rounds-in_default
-shape_of-rounds-in_default c = search (rules, narrow_length)
+pub shape_of-rounds : goal.shape_of-rounds
+shape_of-rounds c = search (rules, narrow_length)
 
-pub returns-in_default : goal.returns-in_default
-returns-in_default c = search (rules, all_narrowed)
+pub returns : goal.returns
+returns c = search (rules, all_narrowed)
 
 pub loop-g-smaller : goal.loop-g-smaller
 loop-g-smaller c = search (rules, fewer_grants)

@@ -8,8 +8,8 @@ use Rattle.list_grants.proofs.next_grant.Goals as goal
 pub loop-r-init : goal.loop-r-init
 loop-r-init c = search (rules, walk_start)
 
-pub returns-in_default : goal.returns-in_default
-returns-in_default c = search (rules, no_grant)
+pub returns-in_err-r : goal.returns-in_err-r
+returns-in_err-r c = search (rules, no_grant)
 
 pub loop-r-smaller-then-not-has_tag : goal.loop-r-smaller-then-not-has_tag
 loop-r-smaller-then-not-has_tag c = search (rules, fewer_left)
@@ -20,8 +20,8 @@ loop-r-preserved-then-not-has_tag c = search (rules, untagged)
 pub grant_in-requires : goal.grant_in-requires
 grant_in-requires c = search (rules, grantee_from)
 
-pub returns-in-At-read_grantee : goal.returns-in-At-read_grantee
-returns-in-At-read_grantee c = search (rules, somebody)
+pub returns-in-Some : goal.returns-in-Some
+returns-in-Some c = search (rules, somebody)
 
 pub loop-r-smaller : goal.loop-r-smaller
 loop-r-smaller c = search (rules, fewer_left)

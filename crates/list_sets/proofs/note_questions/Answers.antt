@@ -8,26 +8,20 @@ use Rattle.list_sets.proofs.note_questions.Goals as goal
 pub loop-at-init : goal.loop-at-init
 loop-at-init c = search (rules, note_start)
 
-pub shape_of-numbers-in_default : goal.shape_of-numbers-in_default
-shape_of-numbers-in_default c = search (rules, note_length)
+pub shape_of-numbers-in_err-r : goal.shape_of-numbers-in_err-r
+shape_of-numbers-in_err-r c = search (rules, note_length)
 
-pub returns-in_default : goal.returns-in_default
-returns-in_default c = halves _ _ _ _ _ _ _ (search (rules, bad_name_lem))
+pub returns-in_err-r : goal.returns-in_err-r
+returns-in_err-r c = halves _ _ _ _ _ _ _ (search (rules, bad_name_lem))
 
 pub slice_bounds-nearest_record-count : goal.slice_bounds-nearest_record-count
-slice_bounds-nearest_record-count c = search (rules, base_first)
+slice_bounds-nearest_record-count c = base_first _ _ _ _ _ _ _ _ _ _ c.loop-at.invariant c.loop-at-test.true _ c.requested_name.ensures _ c.in_ok-r.was
 
 pub slice_bounds-nearest_record-start : goal.slice_bounds-nearest_record-start
-slice_bounds-nearest_record-start c = search (rules, base_first)
+slice_bounds-nearest_record-start c = base_first _ _ _ _ _ _ _ _ _ _ c.loop-at.invariant c.loop-at-test.true _ c.requested_name.ensures _ c.in_ok-r.was
 
 pub slice_bounds-nearest_record-end : goal.slice_bounds-nearest_record-end
 slice_bounds-nearest_record-end c = search (rules, next_inside)
-
-pub loop-at-smaller-in_default-nearest_record : goal.loop-at-smaller-in_default-nearest_record
-loop-at-smaller-in_default-nearest_record c = search (rules, left_less)
-
-pub loop-at-preserved-in_default-nearest_record : goal.loop-at-preserved-in_default-nearest_record
-loop-at-preserved-in_default-nearest_record c = search (rules, nothing_relevant)
 
 pub shape_of-numbers-then-numbers-n : goal.shape_of-numbers-then-numbers-n
 shape_of-numbers-then-numbers-n c = search (rules, note_length)
@@ -44,11 +38,17 @@ offset_bounds-numbers-n c = omega (arith, c.loop-at.invariant.same_length)
 pub overflow_add-n : goal.overflow_add-n
 overflow_add-n c = omega (arith, c.loop-at.invariant.same_length)
 
+pub loop-at-smaller-in-Some : goal.loop-at-smaller-in-Some
+loop-at-smaller-in-Some c = search (rules, left_less)
+
+pub loop-at-preserved-in-Some : goal.loop-at-preserved-in-Some
+loop-at-preserved-in-Some c = search (rules, one_noted)
+
 pub loop-at-smaller : goal.loop-at-smaller
 loop-at-smaller c = search (rules, left_less)
 
 pub loop-at-preserved : goal.loop-at-preserved
-loop-at-preserved c = search (rules, one_noted)
+loop-at-preserved c = search (rules, nothing_relevant)
 
 pub shape_of-numbers : goal.shape_of-numbers
 shape_of-numbers c = search (rules, note_length)

@@ -6,5 +6,5 @@ use Rattle.read_association.proofs.association_part.Goals as goal
 pub returns-then-d-lt4 : goal.returns-then-d-lt4
 returns-then-d-lt4 c = search (rules, no_part)
 
-pub returns : goal.returns
-returns c = search (rules, part_there)
+pub returns-else-d-lt4 : goal.returns-else-d-lt4
+returns-else-d-lt4 c = search (rules, part_there)

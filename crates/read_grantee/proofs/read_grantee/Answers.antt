@@ -3,8 +3,8 @@ use borrow.Author.Rules.{rules}
 use Rattle.read_grantee.proofs.Grantees.{nobody_there, parameters_to, limits_not_met, limits_kept}
 use Rattle.read_grantee.proofs.read_grantee.Goals as goal
 
-pub returns-in_default : goal.returns-in_default
-returns-in_default c = search (rules, nobody_there)
+pub returns-in_err-n : goal.returns-in_err-n
+returns-in_err-n c = search (rules, nobody_there)
 
 pub slice_bounds-limits_met-count : goal.slice_bounds-limits_met-count
 slice_bounds-limits_met-count c = search (rules, parameters_to)

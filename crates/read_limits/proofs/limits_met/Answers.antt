@@ -1,16 +1,7 @@
 -- `limits_met` meets its contract. The loop's invariant: the parameters that are left give the same answer.
-use Prim.Native.Nat.{◌-◌, ◌≤◌}
-use Prim.Native.Char.{code}
-use mathlib.Core.Path.{◌≡◌}
-use mathlib.Core.List.{map}
-use lib.ListN.{length, drop}
 use borrow.Author.Rules.{rules}
-use Rattle.spec_octets.specs.Pieces.{split}
 use Rattle.text_labels.proofs.PieceWalk.{piece_from, piece_within, pieces_less}
-use Rattle.spec_value.specs.Parameters.{parameter_in}
-use Rattle.spec_applicant.specs.Admission.{admits}
-use Rattle.read_parameters.specs.Parameters.{parameters_behind}
-use Rattle.read_limits.proofs.LimitWalk.{left, from_start, not_admitted, last_admitted, next_admitted}
+use Rattle.read_limits.proofs.LimitWalk.{from_start, not_admitted, last_admitted, next_admitted}
 use Rattle.read_limits.proofs.limits_met.Goals as goal
 
 pub loop-next-init : goal.loop-next-init

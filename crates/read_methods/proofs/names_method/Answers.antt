@@ -1,14 +1,8 @@
 -- `names_method` meets its contract. The loop's invariant: what is left of the items gives the same answer.
-use Prim.Native.Nat.{◌-◌, ◌≤◌}
-use Prim.Native.Char.{code}
-use mathlib.Core.Path.{◌≡◌}
 use mathlib.Core.Logic.{⊎_elim}
-use lib.ListN.{length, drop}
 use borrow.Author.Rules.{rules}
-use Rattle.spec_octets.specs.Pieces.{split}
 use Rattle.text_labels.proofs.PieceWalk.{piece_from, piece_within, pieces_less}
-use Rattle.read_methods.specs.Methods.{names_method_in}
-use Rattle.read_methods.proofs.ItemWalk.{from_items, item_empty, found_last, other_last, found_next, other_next}
+use Rattle.read_methods.proofs.ItemWalk.{item_empty, found_last, other_last, found_next, other_next}
 use Rattle.read_methods.proofs.names_method.Goals as goal
 
 pub slice_bounds-item-count : goal.slice_bounds-item-count

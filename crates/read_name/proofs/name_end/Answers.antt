@@ -1,17 +1,11 @@
 -- `name_end` meets its contract. The loop's invariant: reading on from offset p gives the result for the name at `at`.
-use Prim.Native.Nat.{◌-◌}
-use native.Mathlib.Omega.{arith}
 use borrow.Author.Rules.{rules}
-use lib.ListN.{length}
 use Rattle.spec_limits.specs.Limits.{max_label_octets, max_name_octets}
-use Rattle.read_name.proofs.Onward.{Onward, start, out, name_too_long, name_closed, label_too_long, label_passed}
+use Rattle.read_name.proofs.Onward.{start, out, name_too_long, name_closed, label_too_long, label_passed}
 use Rattle.read_name.proofs.name_end.Goals as goal
 
 pub loop-p-init : goal.loop-p-init
 loop-p-init c = search (rules, start)
-
-pub overflow_cast-n : goal.overflow_cast-n
-overflow_cast-n c = omega (arith, c.shared_slice_known-1.given c.loop-p.p)
 
 pub returns-then-next-at-gt-MAX_NAME_OCTETS : goal.returns-then-next-at-gt-MAX_NAME_OCTETS
 unfolding max_name_octets

@@ -1,14 +1,7 @@
 -- `are_parameters` meets its contract. The loop's invariant: all pieces are parameters exactly when the remaining ones are.
-use Prim.Native.Nat.{◌≤◌, ◌-◌}
-use Prim.Native.Char.{code}
-use mathlib.Core.Path.{◌≡◌}
-use lib.ListN.{length, drop}
 use borrow.Author.Rules.{rules}
 use borrow.Author.Tests.{not-true, not-false}
-use Rattle.spec_octets.specs.Lists.{all}
-use Rattle.spec_octets.specs.Pieces.{split}
 use Rattle.text_labels.proofs.PieceWalk.{piece_from, piece_within, pieces_less, pieces_turn, pieces_end, pieces_stop}
-use Rattle.spec_value.specs.IssueValues.{is_parameter}
 use Rattle.read_parameters.proofs.ParameterTests.{only_blanks, by_pieces}
 use Rattle.read_parameters.proofs.are_parameters.Goals as goal
 

@@ -3,17 +3,17 @@ use borrow.Author.Rules.{rules}
 use Rattle.read_property.proofs.PropertyPlaces.{no_tag, value_after, value_inside, tag_there}
 use Rattle.read_property.proofs.tag_part.Goals as goal
 
-pub returns-in_default : goal.returns-in_default
-returns-in_default c = search (rules, no_tag)
+pub returns-in-None : goal.returns-in-None
+returns-in-None c = search (rules, no_tag)
 
-pub slice_bounds-result-count-2 : goal.slice_bounds-result-count-2
-slice_bounds-result-count-2 c = search (rules, value_after)
+pub slice_bounds-result-count : goal.slice_bounds-result-count
+slice_bounds-result-count c = search (rules, value_after)
 
-pub slice_bounds-result-start-2 : goal.slice_bounds-result-start-2
-slice_bounds-result-start-2 c = search (rules, value_after)
+pub slice_bounds-result-start : goal.slice_bounds-result-start
+slice_bounds-result-start c = search (rules, value_after)
 
-pub slice_bounds-result-end-2 : goal.slice_bounds-result-end-2
-slice_bounds-result-end-2 c = search (rules, value_inside)
+pub slice_bounds-result-end : goal.slice_bounds-result-end
+slice_bounds-result-end c = search (rules, value_inside)
 
-pub returns : goal.returns
-returns c = search (rules, tag_there)
+pub returns-in-Some : goal.returns-in-Some
+returns-in-Some c = search (rules, tag_there)

@@ -1,10 +1,8 @@
 -- `check_records` meets its contract. The loop's invariant: k records are read, the next begins at `at`, and `aliased` says whether there is an alias
 -- among those read.
-use Prim.Native.Nat.{◌-◌}
-use lib.ListN.{length}
 use borrow.Author.Rules.{rules}
 use Rattle.spec_limits.specs.Limits.{max_book_octets, max_records}
-use Rattle.read_record.proofs.BookWalk.{BookRead, book_too_long, book_start, book_without_aliases, book_with_aliases, too_many_records, bad_record_lem, record_passed, less_left}
+use Rattle.read_record.proofs.BookWalk.{book_too_long, book_start, book_told, too_many_records, bad_record_lem, record_passed, less_left}
 use Rattle.read_record.proofs.check_records.Goals as goal
 
 pub returns-then-b-gt-MAX_BOOK_OCTETS : goal.returns-then-b-gt-MAX_BOOK_OCTETS
@@ -18,9 +16,9 @@ pub returns-then-k-eq-MAX_RECORDS : goal.returns-then-k-eq-MAX_RECORDS
 unfolding max_book_octets max_records
 returns-then-k-eq-MAX_RECORDS c = search (rules, too_many_records)
 
-pub returns-in_default : goal.returns-in_default
+pub returns-in_err-r : goal.returns-in_err-r
 unfolding max_book_octets max_records
-returns-in_default c = search (rules, bad_record_lem)
+returns-in_err-r c = search (rules, bad_record_lem)
 
 pub overflow_add-k : goal.overflow_add-k
 unfolding max_records
@@ -31,12 +29,10 @@ loop-at-smaller c = search (rules, less_left)
 
 pub loop-at-preserved : goal.loop-at-preserved
 unfolding max_records
-loop-at-preserved c = search (rules, record_passed)
-
-pub returns-then-aliased : goal.returns-then-aliased
-unfolding max_book_octets
-returns-then-aliased c = search (rules, book_with_aliases)
+loop-at-preserved c =
+    let passed = record_passed c.args.b.now c.loop-at.k c.loop-at.at c.loop-at.aliased c.loop-at.invariant in
+    search (rules, passed)
 
 pub returns : goal.returns
 unfolding max_book_octets
-returns c = search (rules, book_without_aliases)
+returns c = search (rules, book_told)

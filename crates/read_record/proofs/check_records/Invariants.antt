@@ -2,9 +2,7 @@
 -- among those read.
 use Prim.Native.Nat.{◌-◌}
 use lib.ListN.{length}
-use borrow.Author.Rules.{rules}
-use Rattle.spec_limits.specs.Limits.{max_book_octets, max_records}
-use Rattle.read_record.proofs.BookWalk.{BookRead, book_too_long, book_start, book_without_aliases, book_with_aliases, too_many_records, bad_record_lem, record_passed, less_left}
+use Rattle.read_record.proofs.BookWalk.{BookRead}
 use Rattle.read_record.proofs.check_records.Given as goal
 
 abbrev pub invariant-loop-at : goal.invariant-loop-at

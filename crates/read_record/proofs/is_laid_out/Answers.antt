@@ -9,5 +9,5 @@ returns-then-is_caa c = search (rules, laid_out_as_caa)
 pub returns-then-is_alias : goal.returns-then-is_alias
 returns-then-is_alias c = search (rules, laid_out_as_alias)
 
-pub returns : goal.returns
-returns c = search (rules, laid_out_anyhow)
+pub returns-else-is_alias : goal.returns-else-is_alias
+returns-else-is_alias c = search (rules, laid_out_anyhow)

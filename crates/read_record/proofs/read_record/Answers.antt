@@ -4,8 +4,8 @@ use Rattle.read_record.proofs.RecordPlaces.{data_before, data_inside}
 use Rattle.read_record.proofs.RecordWays.{no_fields_no_record, wrong_data, record_read}
 use Rattle.read_record.proofs.read_record.Goals as goal
 
-pub returns-in_default : goal.returns-in_default
-returns-in_default c = search (rules, no_fields_no_record)
+pub returns-in_err-r : goal.returns-in_err-r
+returns-in_err-r c = search (rules, no_fields_no_record)
 
 pub slice_bounds-is_laid_out-count : goal.slice_bounds-is_laid_out-count
 slice_bounds-is_laid_out-count c = search (rules, data_before)

@@ -1,12 +1,8 @@
 -- `are_host_labels` meets its contract. The loop's invariant: the remaining labels give the result for the whole name.
-use Prim.Native.Nat.{◌-◌}
-use mathlib.Core.Path.{◌≡◌}
-use lib.ListN.{length}
 use borrow.Author.Rules.{rules}
 use borrow.Author.Tests.{not-true, not-false}
-use Rattle.spec_name.specs.Names.{Name, wire, GoodName}
 use Rattle.read_name.proofs.Parents.{up_inside, up_less}
-use Rattle.read_request.proofs.HostNames.{LabelsLeft, labels_start, labels_end, labels_stop, labels_turn}
+use Rattle.read_request.proofs.HostNames.{labels_start, labels_end, labels_stop, labels_turn}
 use Rattle.read_request.proofs.are_host_labels.Goals as goal
 
 pub loop-at-init : goal.loop-at-init

@@ -2,11 +2,8 @@
 use Prim.Native.Nat.{◌-◌}
 use mathlib.Core.Path.{◌≡◌}
 use lib.ListN.{length}
-use borrow.Author.Rules.{rules}
-use borrow.Author.Tests.{not-true, not-false}
 use Rattle.spec_name.specs.Names.{Name, wire, GoodName}
-use Rattle.read_name.proofs.Parents.{up_inside, up_less}
-use Rattle.read_request.proofs.HostNames.{LabelsLeft, labels_start, labels_end, labels_stop, labels_turn}
+use Rattle.read_request.proofs.HostNames.{LabelsLeft}
 use Rattle.read_request.proofs.are_host_labels.Given as goal
 
 abbrev pub invariant-loop-at : goal.invariant-loop-at

@@ -1,8 +1,4 @@
 -- `are_elements` meets its contract. The loop's invariant: the octets from p on are elements exactly when those from `at` on are.
-use Prim.Native.Nat.{◌-◌}
-use mathlib.Core.Path.{◌≡◌}
-use lib.ListN.{length, drop}
-use Rattle.read_tbs.specs.Places.{are_elements}
 use borrow.Author.Rules.{rules}
 use Rattle.read_tbs.proofs.ElementWalk.{elements_broken, less_left, elements_on, elements_end}
 use Rattle.read_tbs.proofs.are_elements.Goals as goal

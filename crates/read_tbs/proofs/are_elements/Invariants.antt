@@ -3,8 +3,6 @@ use Prim.Native.Nat.{◌-◌}
 use mathlib.Core.Path.{◌≡◌}
 use lib.ListN.{length, drop}
 use Rattle.read_tbs.specs.Places.{are_elements}
-use borrow.Author.Rules.{rules}
-use Rattle.read_tbs.proofs.ElementWalk.{elements_broken, less_left, elements_on, elements_end}
 use Rattle.read_tbs.proofs.are_elements.Given as goal
 
 abbrev pub invariant-loop-p : goal.invariant-loop-p

@@ -12,8 +12,8 @@ look_at-requires c = search (rules, stands_there)
 pub go_up-requires : goal.go_up-requires
 go_up-requires c = search (rules, asks_keeps)
 
-pub returns-in-Empty : goal.returns-in-Empty
-returns-in-Empty c = search (rules, finds_none)
+pub returns-in-None : goal.returns-in-None
+returns-in-None c = search (rules, finds_none)
 
-pub returns-in-Decides : goal.returns-in-Decides
-returns-in-Decides c = search (rules, finds_verdict)
+pub returns-in-Some-look_at : goal.returns-in-Some-look_at
+returns-in-Some-look_at c = search (rules, finds_verdict)

@@ -3,8 +3,8 @@ use borrow.Author.Rules.{rules}
 use Rattle.session_answer.proofs.AnswerLaws.{asks_parent_lem, no_parent}
 use Rattle.session_answer.proofs.go_up.Goals as goal
 
-pub returns-in_default : goal.returns-in_default
-returns-in_default c = search (rules, no_parent)
+pub returns-in-Some : goal.returns-in-Some
+returns-in-Some c = search (rules, asks_parent_lem)
 
-pub returns : goal.returns
-returns c = search (rules, asks_parent_lem)
+pub returns-in-None : goal.returns-in-None
+returns-in-None c = search (rules, no_parent)

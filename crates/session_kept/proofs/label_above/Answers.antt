@@ -1,11 +1,7 @@
 -- `label_above` meets its contract. The loop's invariant: the labels from the offset on give the answer.
-use Prim.Native.Nat.{◌-◌}
-use mathlib.Core.Path.{◌≡◌}
-use lib.ListN.{length, drop}
 use borrow.Author.Rules.{rules}
-use Rattle.spec_name.specs.Names.{Name, wire, GoodName}
 use Rattle.read_name.proofs.Parents.{up_less}
-use Rattle.session_kept.proofs.LabelsAbove.{LabelsLeft, labels_start, at_top, at_inside, at_label, labels_turn}
+use Rattle.session_kept.proofs.LabelsAbove.{labels_start, at_top, at_inside, at_label, labels_turn}
 use Rattle.session_kept.proofs.label_above.Goals as goal
 
 pub loop-at-init : goal.loop-at-init

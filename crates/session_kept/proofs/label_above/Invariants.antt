@@ -2,10 +2,8 @@
 use Prim.Native.Nat.{◌-◌}
 use mathlib.Core.Path.{◌≡◌}
 use lib.ListN.{length, drop}
-use borrow.Author.Rules.{rules}
 use Rattle.spec_name.specs.Names.{Name, wire, GoodName}
-use Rattle.read_name.proofs.Parents.{up_less}
-use Rattle.session_kept.proofs.LabelsAbove.{LabelsLeft, labels_start, at_top, at_inside, at_label, labels_turn}
+use Rattle.session_kept.proofs.LabelsAbove.{LabelsLeft}
 use Rattle.session_kept.proofs.label_above.Given as goal
 
 abbrev pub invariant-loop-at : goal.invariant-loop-at

@@ -8,9 +8,9 @@ pub returns-then-s-gt-MAX_REQUEST_OCTETS : goal.returns-then-s-gt-MAX_REQUEST_OC
 unfolding max_request_octets
 returns-then-s-gt-MAX_REQUEST_OCTETS c = search (rules, too_long)
 
-pub returns-in_default : goal.returns-in_default
+pub returns-in_err-n : goal.returns-in_err-n
 unfolding max_request_octets
-returns-in_default c = search (rules, no_name)
+returns-in_err-n c = search (rules, no_name)
 
 pub returns-then-n-s : goal.returns-then-n-s
 unfolding max_request_octets

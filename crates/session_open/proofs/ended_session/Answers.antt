@@ -1,7 +1,8 @@
 -- `ended_session` meets its contract.
 use borrow.Author.Rules.{rules}
-use Rattle.session_open.proofs.OpenLaws.{all_zeros}
+use Rattle.spec_session.specs.Steps.{ended_session}
 use Rattle.session_open.proofs.ended_session.Goals as goal
 
 pub returns : goal.returns
-returns c = search (rules, all_zeros)
+unfolding ended_session
+returns c = search rules

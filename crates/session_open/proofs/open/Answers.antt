@@ -1,10 +1,12 @@
 -- `open` meets its contract.
 use borrow.Author.Rules.{rules}
-use Rattle.session_open.proofs.OpenLaws.{opens_not, opens}
+use Rattle.spec_session.specs.Steps.{opened}
 use Rattle.session_open.proofs.open.Goals as goal
 
-pub returns-in-Refused : goal.returns-in-Refused
-returns-in-Refused c = search (rules, opens_not)
+pub returns-in-Ok : goal.returns-in-Ok
+unfolding opened
+returns-in-Ok c = search rules
 
-pub returns : goal.returns
-returns c = search (rules, opens)
+pub returns-in-Err : goal.returns-in-Err
+unfolding opened
+returns-in-Err c = search rules

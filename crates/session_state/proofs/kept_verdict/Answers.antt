@@ -4,27 +4,27 @@ use Rattle.spec_limits.specs.Limits.{max_records}
 use Rattle.session_state.proofs.StateLaws.{is_0, is_20, is_21, is_22, is_23, is_beyond, is_none}
 use Rattle.session_state.proofs.kept_verdict.Goals as goal
 
-pub returns-then-number-eq0 : goal.returns-then-number-eq0
-returns-then-number-eq0 c = search (rules, is_0)
+pub returns-in-0 : goal.returns-in-0
+returns-in-0 c = search (rules, is_0)
 
-pub returns-then-number-eq23 : goal.returns-then-number-eq23
-returns-then-number-eq23 c = search (rules, is_23)
+pub returns-in-23 : goal.returns-in-23
+returns-in-23 c = search (rules, is_23)
 
-pub returns-then-rr-ge-MAX_RECORDS : goal.returns-then-rr-ge-MAX_RECORDS
+pub returns-in_default : goal.returns-in_default
 unfolding max_records
-returns-then-rr-ge-MAX_RECORDS c = search (rules, is_beyond)
+returns-in_default c = search (rules, is_beyond, c.in_default)
 
-pub returns-then-number-eq20 : goal.returns-then-number-eq20
+pub returns-in-20 : goal.returns-in-20
 unfolding max_records
-returns-then-number-eq20 c = search (rules, is_20)
+returns-in-20 c = search (rules, is_20)
 
-pub returns-then-number-eq21 : goal.returns-then-number-eq21
+pub returns-in-21 : goal.returns-in-21
 unfolding max_records
-returns-then-number-eq21 c = search (rules, is_21)
+returns-in-21 c = search (rules, is_21)
 
-pub returns-then-number-eq22 : goal.returns-then-number-eq22
+pub returns-in-22 : goal.returns-in-22
 unfolding max_records
-returns-then-number-eq22 c = search (rules, is_22)
+returns-in-22 c = search (rules, is_22)
 
-pub returns : goal.returns
-returns c = search (rules, is_none)
+pub returns-in_default-2 : goal.returns-in_default-2
+returns-in_default-2 c = search (rules, is_none, c.in_default, c.in_default-2)

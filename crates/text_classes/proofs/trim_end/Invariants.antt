@@ -1,12 +1,7 @@
 -- `text_classes::trim_end` meets its contract. The loop's invariant: trimming what is left gives the same as trimming s.
-use native.Mathlib.Nat.{sub-le}
-use mathlib.Core.Path.{◌≡◌, sym}
+use mathlib.Core.Path.{◌≡◌}
 use lib.ListN.{length}
-use lib.Seq.{length-take-le}
-use borrow.Author.Rules.{rules}
-use borrow.Author.Tests.{not-true, not-false}
 use Rattle.spec_octets.specs.Octets.{trim_end}
-use Rattle.text_classes.proofs.TrimWalk.{end_less, end_turn, end_stop, end_end}
 use Rattle.text_classes.proofs.trim_end.Given as goal
 
 abbrev pub invariant-loop-t : goal.invariant-loop-t

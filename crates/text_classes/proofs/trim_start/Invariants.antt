@@ -1,10 +1,7 @@
 -- `text_classes::trim_start` meets its contract. The loop's invariant: trimming what is left gives the same as trimming s.
 use mathlib.Core.Path.{◌≡◌}
 use lib.ListN.{length}
-use borrow.Author.Rules.{rules}
-use borrow.Author.Tests.{not-true, not-false}
 use Rattle.spec_octets.specs.Octets.{trim_start}
-use Rattle.text_classes.proofs.TrimWalk.{start_less, start_turn, start_stop, start_end}
 use Rattle.text_classes.proofs.trim_start.Given as goal
 
 abbrev pub invariant-loop-t : goal.invariant-loop-t

@@ -1,9 +1,5 @@
 -- `decimal_length` meets its contract. The loop's invariant: `count` and the digits of `left` together are one more than the digits of n.
-use Prim.Native.Nat.{◌+◌}
-use mathlib.Core.Path.{◌≡◌}
 use borrow.Author.Rules.{rules}
-use lib.ListN.{length}
-use Rattle.spec_octets.specs.WrittenDecimal.{decimal}
 use Rattle.text_decimal.proofs.DecimalPieces.{count_fits, count_turn, count_end}
 use Rattle.text_decimal.proofs.decimal_length.Goals as goal
 

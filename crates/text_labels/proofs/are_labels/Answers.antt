@@ -1,14 +1,9 @@
 -- `are_labels` meets its contract. The loop's invariant: all labels are valid exactly when the remaining ones are.
-use Prim.Native.Nat.{◌≤◌, ◌-◌}
-use Prim.Native.Char.{code}
-use mathlib.Core.Path.{◌≡◌, sym}
-use lib.ListN.{length, drop}
+use mathlib.Core.Path.{sym}
 use borrow.Author.Rules.{rules}
 use borrow.Author.Tests.{not-true, not-false}
-use Rattle.spec_octets.specs.Lists.{all}
-use Rattle.spec_octets.specs.Pieces.{split}
 use Rattle.text_labels.proofs.PieceWalk.{piece_from, piece_within, pieces_less, pieces_turn, pieces_end, pieces_stop}
-use Rattle.text_labels.specs.DottedLabels.{is_label_within, are_labels}
+use Rattle.text_labels.specs.DottedLabels.{are_labels}
 use Rattle.text_labels.proofs.are_labels.Goals as goal
 
 pub slice_bounds-is_label_within-count : goal.slice_bounds-is_label_within-count

@@ -1,9 +1,5 @@
 -- `piece_end` meets its contract. The loop's invariant: the piece ends where what is left of it ends.
-use Prim.Native.Nat.{◌-◌}
-use mathlib.Core.Path.{◌≡◌}
-use lib.ListN.{length}
-use borrow.Author.Rules.{rules}
-use Rattle.text_labels.specs.Places.{piece_end}
+use Rattle.std.proofs.Common.{rules}
 use Rattle.text_labels.proofs.PieceEnds.{piece_turn, piece_stop, piece_last}
 use Rattle.text_labels.proofs.piece_end.Goals as goal
 

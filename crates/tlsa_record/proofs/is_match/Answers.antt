@@ -1,20 +1,23 @@
 -- `is_match` meets its contract.
-use borrow.Author.Tests.{not-true, not-false}
 use borrow.Author.Rules.{rules}
-use Rattle.tlsa_record.proofs.DataTests.{not_usable, no_data, other_usage, by_certificate, by_key}
+use mathlib.Core.Path.{refl}
+use Rattle.tlsa_record.proofs.DataTests.{no_data, not_usable, other_usage, by_certificate, by_key}
 use Rattle.tlsa_record.proofs.is_match.Goals as goal
+use Rattle.tlsa_record.proofs.is_match.Goals.{then-a, else-a}
 
-pub returns-then-not-is_usable : goal.returns-then-not-is_usable
-returns-then-not-is_usable c = search (rules, not_usable, not-true)
+pub returns-after-a : goal.returns-after-a
+returns-after-a c =
+    let parts = c.association_part-part.ensures in
+    elim c.if-a.branch [
+      | then-a w ↦ by_certificate _ _ _ _ _ c.in-Some.ensures _ c.is_usable.ensures c.if-is_usable.true c.if-a-usage.true _ parts _ _ c.args.certificate refl w.if-a.true w.selected-is c.is_same.ensures
+      | else-a w ↦ by_key _ _ _ _ _ c.in-Some.ensures _ c.is_usable.ensures c.if-is_usable.true c.if-a-usage.true _ parts _ _ c.args.key refl w.if-a.false w.selected-is c.is_same.ensures
+    ]
 
 pub returns-in_default : goal.returns-in_default
-returns-in_default c = search (rules, no_data)
+returns-in_default c = search (rules, other_usage)
 
-pub returns-then-a-usage : goal.returns-then-a-usage
-returns-then-a-usage c = search (rules, other_usage, not-false)
+pub returns-in_default-2 : goal.returns-in_default-2
+returns-in_default-2 c = search (rules, not_usable)
 
-pub returns-then-a : goal.returns-then-a
-returns-then-a c = search (rules, by_certificate, not-false)
-
-pub returns : goal.returns
-returns c = search (rules, by_key, not-false)
+pub returns-in_default-3 : goal.returns-in_default-3
+returns-in_default-3 c = search (rules, no_data)

@@ -1,19 +1,13 @@
 -- `is_usable` meets its contract.
 use borrow.Author.Rules.{rules}
-use Rattle.tlsa_record.proofs.DataTests.{malformed, unknown_usage, unknown_selector, unknown_matching_type, all_known}
+use Rattle.tlsa_record.proofs.DataTests.{malformed, all_known, some_unknown}
 use Rattle.tlsa_record.proofs.is_usable.Goals as goal
 
-pub returns-in_default : goal.returns-in_default
-returns-in_default c = search (rules, malformed)
+pub returns-then-is_some-2 : goal.returns-then-is_some-2
+returns-then-is_some-2 c = search (rules, all_known)
 
-pub returns-in_default-from_octet : goal.returns-in_default-from_octet
-returns-in_default-from_octet c = search (rules, unknown_usage)
+pub returns-else-is_some-2 : goal.returns-else-is_some-2
+returns-else-is_some-2 c = search (rules, some_unknown)
 
-pub returns-in_default-from_octet-2 : goal.returns-in_default-from_octet-2
-returns-in_default-from_octet-2 c = search (rules, unknown_selector)
-
-pub returns-in_default-from_octet-3 : goal.returns-in_default-from_octet-3
-returns-in_default-from_octet-3 c = search (rules, unknown_matching_type)
-
-pub returns : goal.returns
-returns c = search (rules, all_known)
+pub returns-in-None : goal.returns-in-None
+returns-in-None c = search (rules, malformed)
