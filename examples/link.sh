@@ -10,9 +10,9 @@ usage() {
 usage: bash examples/link.sh [LIBS]
 
 Builds the C and Rust examples against libsplinepearl.a in the folder LIBS (target/staticlib), and checks
-what they print and their exit statuses. Measures the stack that each call takes, compiles the header as
-C++, and runs the tests of the Rust crate. Takes about 10 seconds. `bash scripts/archive.sh splinepearl`
-builds the library.
+what they print and their exit statuses. Looks up what the library needs from a C library, measures the
+stack that each call takes, compiles the header as C++, and runs the tests of the Rust crate. Takes about
+10 seconds. `bash scripts/archive.sh splinepearl` builds the library.
 
 Exit status: 0 all as expected; 1 something else was printed, or a test failed; 2 wrong use, or no
 library. A compiler that fails ends this with its own status.
@@ -60,6 +60,11 @@ expect_status() {
 
 # to_full COMMAND..: with a standard output on which every write fails
 to_full() { "$@" > /dev/full; }
+
+# What the library needs from a C library
+needed() { nm -u "$libs/libsplinepearl.a" | awk '$1 == "U" { print $2 }' | sort -u; }
+expect "memcpy
+memset [0]" needed
 
 # The cases, each a folder as the desk program reads it.
 whole=examples/whole-case

@@ -5,7 +5,8 @@
 // write do what they should (assumed).
 #![tactic(auto)]
 
-ghost use Rattle.desk.specs.Files.{Taken};
+ghost use Rattle.std.specs.Prelude.{◌≡◌, take};
+ghost use Rattle.desk.specs.Files.{Taken, octets_of};
 
 use spec_desk::LINE_OCTETS;
 use spec_limits::{MAX_ACCOUNT_OCTETS, MAX_BOOK_OCTETS, MAX_ISSUER_OCTETS, MAX_REQUEST_OCTETS};
@@ -47,26 +48,35 @@ fn read_file(rt: &impl Files<File = File>, path: &str, out: &mut [u8]) -> Option
     read_open(&mut file, out)
 }
 
+// The octets of a file that was read into this buffer: none if it is missing.
+#[tactic(auto, unfolding(crate::specs::Files::octets_of))]
+fn octets_of(file: Option<usize>, buffer: &[u8]) -> &[u8]
+    requires { Taken file buffer.now }
+    ensures { result.now ≡ take (octets_of file) buffer.now }
+{
+    &buffer[..file.unwrap_or(0)]
+}
+
 fn main(rt: HostRuntime) {
     let mut request = [0u8; REQUEST_ROOM];
     let mut issuer = [0u8; ISSUER_ROOM];
     let mut account = [0u8; ACCOUNT_ROOM];
     let mut method = [0u8; ACCOUNT_ROOM];
     let mut book = [0u8; BOOK_ROOM];
-    // A missing file is an empty text. Only a missing book is told.
-    let requested = read_file(&rt, "request.bin", &mut request).unwrap_or(0);
-    let named = read_file(&rt, "issuer.txt", &mut issuer).unwrap_or(0);
-    let held = read_file(&rt, "account.txt", &mut account).unwrap_or(0);
-    let validated = read_file(&rt, "method.txt", &mut method).unwrap_or(0);
+    let requested = read_file(&rt, "request.bin", &mut request);
+    let named = read_file(&rt, "issuer.txt", &mut issuer);
+    let held = read_file(&rt, "account.txt", &mut account);
+    let validated = read_file(&rt, "method.txt", &mut method);
     let booked = read_file(&rt, "book.bin", &mut book);
     let mut line = [0u8; LINE_OCTETS];
+    // A missing file is an empty text. Only a missing book is told.
     let n = desk_line::put_desk_line(
         booked.is_some(),
-        &request[..requested],
-        &issuer[..named],
-        &account[..held],
-        &method[..validated],
-        &book[..booked.unwrap_or(0)],
+        octets_of(requested, &request),
+        octets_of(named, &issuer),
+        octets_of(held, &account),
+        octets_of(validated, &method),
+        octets_of(booked, &book),
         &mut line,
     );
     // A failed write can't be reported to anybody.

@@ -3,9 +3,10 @@
 
 ghost use Rattle.std.specs.Prelude.{◌≡◌, ◌*◌, ◌≤◌, length, map, take};
 ghost use Rattle.spec_digest.specs.Padding.{block_words};
-ghost use Rattle.spec_digest.specs.Family.{compress, absorbed};
+ghost use Rattle.spec_digest.specs.Family.{absorbed};
 ghost use Rattle.spec_digest.specs.Members.{sha256, sha512};
 ghost use Rattle.digest_rounds.specs.States.{state};
+ghost use Rattle.digest_blocks.specs.Compressed.{compressed_by};
 
 use digest_rounds::State;
 use digest_words::Word;
@@ -21,11 +22,14 @@ fn load<W: Word>(block: &[u8], words: &mut [W])
     }
 }
 
-// The hash value after a block. `words` has a place for each word of the message schedule.
+// The hash value after a block; octets that are no block leave it as it is. `words` has a place for each word of the message schedule.
 fn compress_in<W: Word>(v: State<W>, block: &[u8], words: &mut [W]) -> State<W>
-    requires { (length block.now ≡ 16 * W.member.word_octets) × (length words.old ≡ length W.member.constants) × (16 ≤ length words.old) }
-    ensures { state W.number result ≡ compress W.member (state W.number v) (block_words W.member.word_octets block.now) }
+    requires { (length words.old ≡ length W.member.constants) × (16 ≤ length words.old) }
+    ensures { state W.number result ≡ compressed_by W.member (state W.number v) block.now }
 {
+    if block.len() != 16 * W::OCTETS {
+        return v;
+    }
     load(block, words);
     digest_schedule::extend(words);
     digest_rounds::add_states(v, digest_rounds::all_rounds(v, words))
@@ -33,16 +37,14 @@ fn compress_in<W: Word>(v: State<W>, block: &[u8], words: &mut [W]) -> State<W>
 
 // A word with the array for its message schedule. It stands in each impl: the size of an array of a type parameter is not proved to fit.
 pub trait BlockWord: Word {
-    // The hash value after a block.
+    // The hash value after a block; octets that are no block leave it as it is.
     fn compress_block(v: State<Self>, block: &[u8]) -> State<Self>
-        requires { length block.now ≡ 16 * Self.member.word_octets }
-        ensures { state Self.number result ≡ compress Self.member (state Self.number v) (block_words Self.member.word_octets block.now) };
+        ensures { state Self.number result ≡ compressed_by Self.member (state Self.number v) block.now };
 }
 
 impl BlockWord for u32 {
     fn compress_block(v: State<u32>, block: &[u8]) -> State<u32>
-        requires { length block.now ≡ 16 * sha256.word_octets }
-        ensures { state (λ x. x) result ≡ compress sha256 (state (λ x. x) v) (block_words sha256.word_octets block.now) }
+        ensures { state (λ x. x) result ≡ compressed_by sha256 (state (λ x. x) v) block.now }
     {
         let mut words = [0; 64];
         compress_in(v, block, &mut words)
@@ -51,8 +53,7 @@ impl BlockWord for u32 {
 
 impl BlockWord for u64 {
     fn compress_block(v: State<u64>, block: &[u8]) -> State<u64>
-        requires { length block.now ≡ 16 * sha512.word_octets }
-        ensures { state (λ x. x) result ≡ compress sha512 (state (λ x. x) v) (block_words sha512.word_octets block.now) }
+        ensures { state (λ x. x) result ≡ compressed_by sha512 (state (λ x. x) v) block.now }
     {
         let mut words = [0; 80];
         compress_in(v, block, &mut words)

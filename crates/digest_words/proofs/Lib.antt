@@ -1,1 +1,2 @@
 pub mod NumberLists
+pub mod JoinedLaws

@@ -1,10 +1,10 @@
 // The words of SHA-256 and of SHA-512: their functions, and the constants of the rounds.
 #![tactic(auto)]
 
-ghost use Rattle.std.specs.Prelude.{◌≡◌, ◌≤◌, ℕ, length, map};
-ghost use Rattle.spec_octets.specs.Reader.{value_from};
+ghost use Rattle.std.specs.Prelude.{◌≡◌, ◌≤◌, ℕ, map};
 ghost use Rattle.spec_digest.specs.Words.{choose, majority, plus};
 ghost use Rattle.spec_digest.specs.Family.{Member, width, big_sigma0, big_sigma1, small_sigma0, small_sigma1};
+ghost use Rattle.digest_words.specs.Joined.{joined_in};
 
 mod words256;
 mod words512;
@@ -22,10 +22,9 @@ pub trait Word: Copy + 'static {
 
     ghost OCTETS: { ℕ };
 
-    // The word of these octets, the high octet first.
+    // The word of these octets, the high octet first; 0 if they are not as many as a word has.
     fn joined(octets: &[u8]) -> Self
-        requires { length octets.now ≡ member.word_octets }
-        ensures { number result ≡ value_from 0 octets.now };
+        ensures { number result ≡ joined_in member octets.now };
 
     fn ch(self, y: Self, z: Self) -> Self
         ensures { number result ≡ choose (width member) (number self) (number y) (number z) };

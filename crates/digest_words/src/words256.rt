@@ -1,5 +1,5 @@
 // The words of SHA-256 (FIPS 180-4 sections 4.1.2 and 4.2.2).
-#![tactic(auto, unfolding(spec_digest::specs::Words::choose, spec_digest::specs::Words::majority, spec_digest::specs::Words::plus, spec_digest::specs::Words::complement, spec_digest::specs::Words::rotate_right, spec_digest::specs::Words::rotations, spec_digest::specs::Words::rotations_and_shift, spec_digest::specs::Family::big_sigma0, spec_digest::specs::Family::big_sigma1, spec_digest::specs::Family::small_sigma0, spec_digest::specs::Family::small_sigma1, spec_digest::specs::Members::sha256, spec_digest::specs::Members::constants256))]
+#![tactic(auto, unfolding(spec_digest::specs::Words::choose, spec_digest::specs::Words::majority, spec_digest::specs::Words::plus, spec_digest::specs::Words::complement, spec_digest::specs::Words::rotate_right, spec_digest::specs::Words::rotations, spec_digest::specs::Words::rotations_and_shift, spec_digest::specs::Family::big_sigma0, spec_digest::specs::Family::big_sigma1, spec_digest::specs::Family::small_sigma0, spec_digest::specs::Family::small_sigma1, spec_digest::specs::Members::sha256, spec_digest::specs::Members::constants256, crate::specs::Joined::joined_in))]
 
 ghost use Rattle.std.specs.Prelude.{refl};
 ghost use Rattle.std.proofs.Common.{lit≤};
@@ -28,7 +28,10 @@ impl Word for u32 {
     ghost OCTETS = { 4 };
 
     fn joined(octets: &[u8]) -> u32 {
-        u32::from_be_bytes([octets[0], octets[1], octets[2], octets[3]])
+        match octets {
+            [a, b, c, d] => u32::from_be_bytes([*a, *b, *c, *d]),
+            _ => 0,
+        }
     }
 
     fn ch(self, y: u32, z: u32) -> u32 {

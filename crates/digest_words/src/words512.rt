@@ -1,5 +1,5 @@
 // The words of SHA-512 (FIPS 180-4 sections 4.1.3 and 4.2.3).
-#![tactic(auto, unfolding(spec_digest::specs::Words::choose, spec_digest::specs::Words::majority, spec_digest::specs::Words::plus, spec_digest::specs::Words::complement, spec_digest::specs::Words::rotate_right, spec_digest::specs::Words::rotations, spec_digest::specs::Words::rotations_and_shift, spec_digest::specs::Family::big_sigma0, spec_digest::specs::Family::big_sigma1, spec_digest::specs::Family::small_sigma0, spec_digest::specs::Family::small_sigma1, spec_digest::specs::Members::sha512, spec_digest::specs::Members::constants512))]
+#![tactic(auto, unfolding(spec_digest::specs::Words::choose, spec_digest::specs::Words::majority, spec_digest::specs::Words::plus, spec_digest::specs::Words::complement, spec_digest::specs::Words::rotate_right, spec_digest::specs::Words::rotations, spec_digest::specs::Words::rotations_and_shift, spec_digest::specs::Family::big_sigma0, spec_digest::specs::Family::big_sigma1, spec_digest::specs::Family::small_sigma0, spec_digest::specs::Family::small_sigma1, spec_digest::specs::Members::sha512, spec_digest::specs::Members::constants512, crate::specs::Joined::joined_in))]
 
 ghost use Rattle.std.specs.Prelude.{refl};
 ghost use Rattle.std.proofs.Common.{lit≤};
@@ -100,9 +100,10 @@ impl Word for u64 {
     ghost OCTETS = { 8 };
 
     fn joined(octets: &[u8]) -> u64 {
-        u64::from_be_bytes([
-            octets[0], octets[1], octets[2], octets[3], octets[4], octets[5], octets[6], octets[7],
-        ])
+        match octets {
+            [a, b, c, d, e, f, g, h] => u64::from_be_bytes([*a, *b, *c, *d, *e, *f, *g, *h]),
+            _ => 0,
+        }
     }
 
     fn ch(self, y: u64, z: u64) -> u64 {

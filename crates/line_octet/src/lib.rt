@@ -74,10 +74,11 @@ pub fn read_written_octet(s: &[u8], at: usize, style: Style) -> Option<WrittenOc
     let x = *s.get(at)?;
     let next = at + 1;
     if x == b'\\' {
-        read_escape(s, next)
-    } else if stands_for_itself(x, style) {
-        Some(WrittenOctetAt { octet: x, next })
-    } else {
-        None
+        return read_escape(s, next);
     }
+    if !stands_for_itself(x, style) {
+        return None;
+    }
+    // A return for each answer: where their values meet in one expression, the compiler copies each octet of a line through memory.
+    Some(WrittenOctetAt { octet: x, next })
 }

@@ -23,15 +23,16 @@ fn limit_step(s: &[u8], seen: Seen, applicant: Applicant) -> Option<Seen>
     ensures { result ≡ limit_step (texts applicant.entry) seen (parameter_in s.now) }
 {
     let tag = read_parts::parameter_tag(s);
-    let value = read_parts::parameter_value(s);
     if text_compare::same_ignoring_case(tag, b"accounturi") {
-        let met = !seen.account && text_equal::is_same(applicant.account, value);
+        let met = !seen.account
+            && text_equal::is_same(applicant.account, read_parts::parameter_value(s));
         met.then_some(Seen {
             account: true,
             ..seen
         })
     } else if text_compare::same_ignoring_case(tag, b"validationmethods") {
-        let met = !seen.methods && read_methods::names_method(value, applicant.method);
+        let met = !seen.methods
+            && read_methods::names_method(read_parts::parameter_value(s), applicant.method);
         met.then_some(Seen {
             methods: true,
             ..seen

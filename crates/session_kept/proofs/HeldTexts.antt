@@ -21,13 +21,17 @@ no_room t e h = rw (e, lt-leb t.length 256 h)
 
 -- the part of the octets that counts
 module _ (t : Text) (e : ℕ) (f : e ≡ held_length t) where
-  pub held_inside : length t.octets ≡ 256 → e ≤ 256
+  pub held_inside : e ≤ length t.octets
   unfolding held_length
-  held_inside k = go (leb t.length (length t.octets)) refl f
+  held_inside = go (leb t.length (length t.octets)) refl f
     where
-      go : (b : Bool) → leb t.length (length t.octets) ≡ b → e ≡ cond b t.length 0 → e ≤ 256
+      go : (b : Bool) → leb t.length (length t.octets) ≡ b → e ≡ cond b t.length 0 → e ≤ length t.octets
       go true h g = omega (arith, leb-true t.length (length t.octets) h)
       go false h g = omega arith
+
+  -- the same, in the array of a kept text
+  pub held_in_array : length t.octets ≡ 256 → e ≤ 256
+  held_in_array k = omega (arith, held_inside, k)
 
   pub held_taken : take e t.octets ≡ held t
   unfolding held_length held

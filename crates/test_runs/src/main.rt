@@ -8,7 +8,7 @@
 // Proved: the program is memory-safe and terminates, and `answer` makes the call with the given number on its inputs in order.
 #![tactic(auto)]
 
-ghost use Rattle.std.specs.Prelude.{◌≡◌};
+ghost use Rattle.std.specs.Prelude.{◌≡◌, length, IfSome};
 ghost use Rattle.io.specs.Counts.{IsPrefixLen};
 ghost use Rattle.test_runs.specs.Answers.{answer_of, buffer_after};
 
@@ -57,7 +57,9 @@ fn read_number(file: &mut File) -> Option<usize> {
 
 // Reads a part into the buffer, and returns the front of the buffer that holds it. None if the file ends within the part, or the part is longer than the
 // buffer.
-fn read_part<'a>(file: &mut File, out: &'a mut [u8]) -> Option<&'a [u8]> {
+fn read_part<'a>(file: &mut File, out: &'a mut [u8]) -> Option<&'a [u8]>
+    ensures { IfSome result (λ part. IsPrefixLen (length part.now) out.old) }
+{
     let n = read_number(file)?;
     let part = out.get_mut(..n)?;
     if read_full(file, part) < n {

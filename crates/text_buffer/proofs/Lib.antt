@@ -1,3 +1,4 @@
 pub mod LentRest
 pub mod Filled
 mod Lowered
+pub mod PutLoops

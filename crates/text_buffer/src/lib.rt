@@ -14,7 +14,10 @@ pub fn put_octets(s: &[u8], out: &mut [u8]) -> usize
     if out.len() < s.len() {
         return 0;
     }
-    out[..s.len()].copy_from_slice(s);
+    // Octet by octet: `copy_from_slice` would make the library need `memmove` from a C library.
+    for i in 0..s.len() {
+        out[i] = s[i];
+    }
     s.len()
 }
 

@@ -1,5 +1,5 @@
 -- Two texts of one length compared pair by pair: u and v are what is left of a and b.
-use Rattle.std.proofs.Common.{◌≡◌, ℕ, Bool, true, false, ◌&&◌, ◌⊎◌, List, [], ◌∷◌, length, refl, sym, ◌∙◌, arith, inl, inr, eqb}
+use Rattle.std.proofs.Common.{◌≡◌, ℕ, Bool, true, ◌&&◌, ◌⊎◌, List, [], ◌∷◌, length, refl, sym, ◌∙◌, arith, inl, inr, eqb}
 use mathlib.Core.Bool.{and_assoc, and-true}
 use Rattle.spec_octets.specs.Octets.{lower, equal_ignoring_case}
 
@@ -21,18 +21,3 @@ module _ (a b u v : List ℕ) where
 
     pub once_end : length u ≡ length v → (length u ≡ 0) ⊎ (length v ≡ 0) → s ≡ equal_ignoring_case a b
     once_end long out = sym (left ∙ rw (← none_left u v long out, and-true))
-
-  -- Stopping at the first difference: r says whether the two next octets are the same.
-  module _ (left : equal_ignoring_case a b ≡ equal_ignoring_case u v) where
-    pub next_turn : (x y : ℕ) (u' v' : List ℕ) (r : Bool) → u ≡ x ∷ u' → v ≡ y ∷ v' → r ≡ eqb (lower x) (lower y) → r ≡ true →
-        equal_ignoring_case a b ≡ equal_ignoring_case u' v'
-    unfolding equal_ignoring_case
-    next_turn x y u' v' r ue ve told t = left ∙ rw (ue, ve, ← told, t)
-
-    pub next_stop : (x y : ℕ) (u' v' : List ℕ) (r : Bool) → u ≡ x ∷ u' → v ≡ y ∷ v' → r ≡ eqb (lower x) (lower y) → r ≡ false →
-        false ≡ equal_ignoring_case a b
-    unfolding equal_ignoring_case
-    next_stop x y u' v' r ue ve told t = sym (left ∙ rw (ue, ve, ← told, t))
-
-    pub next_end : length u ≡ length v → (length u ≡ 0) ⊎ (length v ≡ 0) → true ≡ equal_ignoring_case a b
-    next_end long out = none_left u v long out ∙ sym left

@@ -34,24 +34,28 @@ pub fn same_ignoring_case(a: &[u8], b: &[u8]) -> bool
 }
 
 // Compares texts of equal length octet by octet: the octet before the last, or the only one, then all from the first on. In a name in
-// wire form, which ends with a zero octet, the octet before the last is the last letter.
+// wire form, which ends with a zero octet, the octet before the last is the last letter. A loop by hand: as a test and a `for`, this function is
+// too long to be inlined in its callers.
 fn same_short(a: &[u8], b: &[u8]) -> bool
     requires { length a.now ≡ length b.now }
     ensures { result ≡ equal_ignoring_case a.now b.now }
 {
-    if a.is_empty() {
+    let n = a.len();
+    if n == 0 {
         return true;
     }
-    let at = a.len().saturating_sub(2);
-    if !same_octet(a[at], b[at]) {
-        return false;
-    }
-    for (x, y) in a.iter().zip(b) {
-        if !same_octet(*x, *y) {
+    let mut at = n.saturating_sub(2);
+    let mut next: usize = 0;
+    loop {
+        if !same_octet(a[at], b[at]) {
             return false;
         }
+        if next == n {
+            return true;
+        }
+        at = next;
+        next += 1;
     }
-    true
 }
 
 // Whether two octets are the same, letter case ignored. Most equal octets are of one case.
@@ -72,11 +76,14 @@ fn same_blocks(a: &[u8], b: &[u8]) -> bool
     if !same_at_once(&a[tail..n], &b[tail..n]) {
         return false;
     }
-    for from in (0..tail).step_by(BLOCK) {
+    // A loop by hand, for the same reason; `step_by` would count to 16 for each block, too.
+    let mut from: usize = 0;
+    while from < tail {
         let to = from + BLOCK;
         if !same_at_once(&a[from..to], &b[from..to]) {
             return false;
         }
+        from += BLOCK;
     }
     true
 }

@@ -9,8 +9,8 @@ returns-in_err-x c = search (rules, unit_cut_off)
 pub returns-then-x-eq92 : goal.returns-then-x-eq92
 returns-then-x-eq92 c = search (rules, escape_there)
 
-pub returns-else-stands_for_itself : goal.returns-else-stands_for_itself
-returns-else-stands_for_itself c = search (rules, wrong_octet)
+pub returns-then-not-stands_for_itself : goal.returns-then-not-stands_for_itself
+returns-then-not-stands_for_itself c = search (rules, wrong_octet)
 
-pub returns-then-stands_for_itself : goal.returns-then-stands_for_itself
-returns-then-stands_for_itself c = search (rules, octet_itself)
+pub returns : goal.returns
+returns c = search (rules, octet_itself)

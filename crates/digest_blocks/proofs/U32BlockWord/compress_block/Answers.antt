@@ -4,4 +4,4 @@ use Rattle.spec_digest.proofs.LoadLaws.{rounds_256}
 use Rattle.digest_blocks.proofs.U32BlockWord.compress_block.Goals as goal
 
 pub compress_in-requires-after_bounds : goal.compress_in-requires-after_bounds
-compress_in-requires-after_bounds c κs = (c.requires, rounds_256, lit≤ tt)
+compress_in-requires-after_bounds c κs = (rounds_256, lit≤ tt)
