@@ -18,8 +18,16 @@ use Rattle.book_chains.specs.Theorems.{BookLinked}
 pub within_limit : (limit n : ℕ) → n ≤ limit → n ≡ at_most limit n
 within_limit limit n h = rw (le-leb n limit h)
 
-pub limited : (limit n i : ℕ) → i ≡ min n limit → i ≡ at_most limit n
-limited limit n i e = by (leb n limit) refl
+pub limited : (limit n i : ℕ) → i ≡ at_most limit n → i ≤ limit
+limited limit n i e = by (leb n limit) refl e
+  where
+    by : (t : Bool) → leb n limit ≡ t → i ≡ cond t n limit → i ≤ limit
+    by true h e = omega (arith, leb-true n limit h)
+    by false h e = omega arith
+
+-- the code asks for the lesser of the two
+pub lesser : (limit n i : ℕ) → i ≡ min n limit → i ≡ at_most limit n
+lesser limit n i e = by (leb n limit) refl
   where
     by : (t : Bool) → leb n limit ≡ t → i ≡ cond t n limit
     by true h = omega (arith, leb-true n limit h)

@@ -22,12 +22,16 @@ pub fn is_label(l: &[u8]) -> bool
 pub fn piece_end(s: &[u8], at: usize, c: u8) -> usize
     ensures { result ≡ piece_end c s.now at }
 {
+    // With this test before it the loop keeps one counter; `at.max(s.len())` behind the loop made the compiler keep four.
+    if s.len() <= at {
+        return at;
+    }
     for e in at..s.len() {
         if s[e] == c {
             return e;
         }
     }
-    at.max(s.len())
+    s.len()
 }
 
 // Whether l is a label of at most `longest` octets.

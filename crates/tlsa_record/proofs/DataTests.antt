@@ -1,7 +1,7 @@
 -- Usable data, and data that matches, by the tests that the code makes one after the other.
 use denote.Bor.{Bor}
 use Rattle.std.specs.Option.{is_some}
-use Rattle.std.specs.Prelude.{None, Some}
+use Rattle.std.specs.Prelude.{Option, None, Some}
 use Prim.Native.Nat.{ℕ}
 use mathlib.Core.Path.{◌≡◌, refl, sym, ◌∙◌}
 use mathlib.Core.Bool.{Bool, true, false, cond, ◌&&◌, and-false}
@@ -10,7 +10,7 @@ use mathlib.Core.List.{List}
 use lib.Dec.{eqb}
 use borrow.Author.Tests.{eq-eqb, ne_eqb}
 use Rattle.spec_octets.specs.Octets.{same}
-use Rattle.spec_tlsa.specs.Association.{Association, is_usage, is_selector, is_matching_type}
+use Rattle.spec_tlsa.specs.Association.{Association, association, is_usage, is_selector, is_matching_type}
 use Rattle.spec_tlsa.specs.Matches.{Presented, is_usable, is_match}
 use Rattle.read_association.specs.declared.AssociationAt.{AssociationAt}
 use Rattle.read_association.specs.Places.{association_at, association_part}
@@ -51,6 +51,15 @@ module _ (d : List ℕ) (usage : ℕ) (certificate key : List ℕ) where
   unfolding is_match_data
   no_data f = rw (no_association d None f refl)
 
+  -- malformed or not
+  pub not_usable : (a : Bool) → a ≡ is_usable_data d → a ≡ false → false ≡ is_match_data c d
+  unfolding is_match_data is_usable_data is_match
+  not_usable a e n = go (association d) refl
+    where
+      go : (o : Option Association) → association d ≡ o → false ≡ is_match_data c d
+      go None g = rw g
+      go (Some b) g = let no : is_usable b ≡ false = rw g at (sym e ∙ n) in rw (g, no)
+
   module _ (p : AssociationAt) (f : Some p ≡ association_at d) where
     -- what is matched
     pub by_parts :
@@ -66,9 +75,6 @@ module _ (d : List ℕ) (usage : ℕ) (certificate key : List ℕ) where
 
     pub other_usage : (p.usage ≡ usage → ⊥) → false ≡ is_match_data c d
     other_usage n = sym (by_parts ∙ rw (ne_eqb p.usage usage n, and-false))
-
-    pub not_usable : (a : Bool) → a ≡ is_usable_data d → a ≡ false → false ≡ is_match_data c d
-    not_usable a e n = sym (by_parts ∙ rw (← e, n))
 
     module _ (a : Bool) (e : a ≡ is_usable_data d) (yes : a ≡ true) (is : p.usage ≡ usage) (part : List ℕ) (whole : part ≡ association_part d) (r : Bool) (b : Bor (List ℕ)) where
       pub by_certificate : (x : Bor (List ℕ)) → x.now ≡ certificate → p.selector ≡ 0 → b ≡ x → r ≡ same part b.now → r ≡ is_match_data c d

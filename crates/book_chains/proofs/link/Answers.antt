@@ -1,12 +1,12 @@
 -- `link` meets its contract. The loop's invariant: linking the records that are left gives the same chains.
 use borrow.Author.Rules.{rules}
 use Rattle.spec_limits.specs.Limits.{max_records}
-use Rattle.book_chains.proofs.Linking.{limited, nothing_linked, linked_on, links_told, heads_told, links_long, heads_long}
+use Rattle.book_chains.proofs.Linking.{lesser, nothing_linked, linked_on, links_told, heads_told, links_long, heads_long}
 use Rattle.book_chains.proofs.link.Goals as goal
 
 pub loop-i-init : goal.loop-i-init
 unfolding max_records
-loop-i-init c = search (rules, limited, nothing_linked)
+loop-i-init c = search (rules, lesser, nothing_linked)
 
 pub loop-i-preserved : goal.loop-i-preserved
 loop-i-preserved c =

@@ -10,4 +10,4 @@ pub slice_bounds-look-start : goal.slice_bounds-look-start
 slice_bounds-look-start c = search (rules, asked_inside)
 
 pub returns : goal.returns
-returns c = looked_there _ _ c.requires _ _ _ _ c.held_part-4.ensures c.held_part.ensures c.held_part-2.ensures c.held_part-3.ensures _ _ c.look.ensures
+returns c = search (rules, looked_there)
